@@ -1,0 +1,37 @@
+-- Tests that are true together, or of which one is. Assumes nothing.
+use mathlib.Core.Bool.{Bool, true, false, _&&_, _||_, true≢false}
+use mathlib.Core.Logic.{_⊎_, inl, inr}
+use mathlib.Core.Path.{_≡_, refl, sym, _∙_}
+
+pub both : {p q : Bool} → p ≡ true → q ≡ true → (p && q) ≡ true
+both {p} {q} e f = rw (e, f)
+
+pub first-true : (p q : Bool) → (p && q) ≡ true → p ≡ true
+first-true true q e = refl
+first-true false q e = e
+
+pub second-true : (p q : Bool) → (p && q) ≡ true → q ≡ true
+second-true true q e = e
+second-true false q e = absurd (true≢false (sym e))
+
+pub either : (p q : Bool) → (p || q) ≡ true → (p ≡ true) ⊎ (q ≡ true)
+either true q e = inl refl
+either false q e = inr e
+
+pub or-first : {p : Bool} (q : Bool) → p ≡ true → (p || q) ≡ true
+or-first q e = rw e
+
+pub or-second : (p : Bool) {q : Bool} → q ≡ true → (p || q) ≡ true
+or-second true e = refl
+or-second false e = e
+
+-- two tests that imply each other
+pub same-truth : (p q : Bool) → (p ≡ true → q ≡ true) → (q ≡ true → p ≡ true) → p ≡ q
+same-truth true q f g = sym (f refl)
+same-truth false true f g = g refl
+same-truth false false f g = refl
+
+-- a test that is not true
+pub not-so : (p : Bool) → (p ≡ true → ⊥) → p ≡ false
+not-so true h = absurd (h refl)
+not-so false h = refl

@@ -1,0 +1,74 @@
+-- The laws of `tabulate` and `every`, and what a loop over the index needs of them. Assumes nothing.
+use mathlib.Core.Bool.{Bool, true, false, _&&_, true≢false}
+use mathlib.Core.List.{List, [], _∷_, _++_}
+use mathlib.Core.Logic.{_⊎_, inl, inr, ⊎-elim}
+use mathlib.Core.Path.{_≡_, refl, sym, ap, _∙_}
+use Prim.Native.Nat.{ℕ, zero, suc, _+_, _≤_, _<_}
+use native.Mathlib.Nat.{eq-or-lt-of-le, le-of-suc-le-suc}
+use native.Mathlib.Numerals.{add-one}
+use native.Mathlib.Omega.{arith}
+use lib.Dec.{leb}
+use lib.ListN.{length, getD, set, take, length-append, List·getD-append, List·getD-eq-default}
+use lib.Seq.{getD-at, take-suc-set, take-all}
+use borrow.Author.Tests.{leb-true, leb-false}
+use Rattle.label.specs.Index.{every, tabulate}
+use Rattle.label.proofs.BoolLaws.{both, first-true, second-true, not-so}
+
+pub le-or-lt : (m n : ℕ) → (m ≤ n) ⊎ (n < m)
+le-or-lt m n = pick (leb m n) refl
+  where
+    pick : (p : Bool) → leb m n ≡ p → (m ≤ n) ⊎ (n < m)
+    pick true e = inl (leb-true m n e)
+    pick false e = inr (leb-false m n e)
+
+-- ---- tabulate
+
+module _ {A : Type 0} (f : ℕ → A) where
+  pub tabulate-length : (n : ℕ) → length (tabulate f n) ≡ n
+  unfolding tabulate
+  tabulate-length zero = refl
+  tabulate-length (suc n) = let ih = tabulate-length n in simp length-append (omega arith)
+
+  pub tabulate-at : (n i : ℕ) (d : A) → i < n → getD (tabulate f n) i d ≡ f i
+  unfolding tabulate
+  tabulate-at zero i d h = absurd (omega arith)
+  tabulate-at (suc n) i d h = go (eq-or-lt-of-le (le-of-suc-le-suc h)) (tabulate-at n i d)
+    where
+      go : (i ≡ n) ⊎ (i < n) → (i < n → getD (tabulate f n) i d ≡ f i) → getD (tabulate f n ++ (f n ∷ [])) i d ≡ f i
+      go (inl e) ih = getD-at (tabulate f n) (f n) [] d i (tabulate-length n ∙ sym e) ∙ ap f (sym e)
+      go (inr l) ih = let k = tabulate-length n in List·getD-append (tabulate f n) (f n ∷ []) d i (omega arith) ∙ ih l
+
+  -- a loop that fills r from the front
+  pub fill-step : (r : List A) (i : ℕ) (v : A) → i < length r → v ≡ f i → take i r ≡ tabulate f i → take (i + 1) (set r i v) ≡ tabulate f (i + 1)
+  unfolding tabulate
+  fill-step r i v h e inv = rw (add-one, take-suc-set r i v h, inv, e)
+
+  pub fill-done : (r : List A) (i n : ℕ) → i ≡ n → length r ≡ n → take i r ≡ tabulate f i → r ≡ tabulate f n
+  fill-done r i n e h inv = sym (take-all i r (omega arith)) ∙ inv ∙ ap (tabulate f) e
+
+-- past the end too, where f goes on with zeros
+pub tabulate-pad : (f : ℕ → ℕ) (n i : ℕ) → (n ≤ i → f i ≡ 0) → getD (tabulate f n) i 0 ≡ f i
+tabulate-pad f n i h =
+    ⊎-elim (λ l. let k = tabulate-length f n in List·getD-eq-default (tabulate f n) 0 (omega arith) ∙ sym (h l)) (λ l. tabulate-at f n i 0 l) (le-or-lt n i)
+
+-- ---- every
+
+module _ (f : ℕ → Bool) where
+  pub every-at : (n i : ℕ) → every f n ≡ true → i < n → f i ≡ true
+  unfolding every
+  every-at zero i e h = absurd (omega arith)
+  every-at (suc n) i e h =
+      ⊎-elim (λ u. ap f u ∙ second-true (every f n) (f n) e) (λ u. every-at n i (first-true (every f n) (f n) e) u) (eq-or-lt-of-le (le-of-suc-le-suc h))
+
+  pub every-all : (n : ℕ) → ((i : ℕ) → i < n → f i ≡ true) → every f n ≡ true
+  unfolding every
+  every-all zero h = refl
+  every-all (suc n) h = both (every-all n (λ i l. h i (omega arith))) (h n (omega arith))
+
+  -- a loop that has found f true at each index so far: it goes on, or stops where f is false
+  pub every-next : (i : ℕ) → every f i ≡ true → f i ≡ true → every f (i + 1) ≡ true
+  unfolding every
+  every-next i e h = rw add-one (both e h)
+
+  pub every-stop : (n i : ℕ) → i < n → f i ≡ false → every f n ≡ false
+  every-stop n i l h = not-so (every f n) (λ e. true≢false (sym (every-at n i e l) ∙ h))

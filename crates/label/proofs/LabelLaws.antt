@@ -1,0 +1,163 @@
+-- The laws of labels, with a set of any number of words. Assumes nothing.
+use mathlib.Core.Bool.{Bool, true, false, _&&_, and-assoc, and-comm}
+use mathlib.Core.List.{List}
+use mathlib.Core.Logic.{_↔_}
+use mathlib.Core.Path.{_≡_, refl, sym, ap, ap₂, _∙_, subst}
+use Prim.Native.Nat.{ℕ, _≤_, _<_, _^_, max, min}
+use native.Mathlib.Nat.{le-refl}
+use native.Mathlib.Omega.{arith}
+use lib.Bits.{and-lt, or-lt}
+use lib.Dec.{eqb, leb}
+use lib.ListN.{length}
+use borrow.Author.Tests.{eqb-true, eq-eqb, leb-true, le-leb}
+use Rattle.label.specs.Label.{Typed, dominatesOf, equalOf, labelOf, lowerBoundOf, upperBoundOf, validOf}
+use Rattle.label.specs.Words.{includesOf, intersectionOf, sameOf, unionOf, wordAt, words}
+use Rattle.label.specs.declared.Label.{Label}
+use Rattle.label.proofs.BoolLaws.{both, first-true, second-true, same-truth}
+use Rattle.label.proofs.WordLaws.{includes-antisym, includes-intersection, includes-refl, includes-trans, intersection-at, intersection-length, same-equal, same-refl, union-at, union-includes, union-length}
+
+-- ---- dominance, by its two parts
+
+pub record Dominates (a b : Label) : Type 0 where
+  pub hierarchy : b .hierarchy ≤ a .hierarchy
+  pub categories : includesOf (a .categories) (b .categories) ≡ true
+
+pub dominates-parts : (a b : Label) → dominatesOf a b ≡ true → Dominates a b
+unfolding dominatesOf
+dominates-parts a b e =
+    let p : Bool = leb (b .hierarchy) (a .hierarchy) in
+    let q : Bool = includesOf (a .categories) (b .categories) in
+    record { hierarchy = leb-true (b .hierarchy) (a .hierarchy) (first-true p q e); categories = second-true p q e }
+
+pub parts-dominate : (a b : Label) → Dominates a b → dominatesOf a b ≡ true
+unfolding dominatesOf
+parts-dominate a b d = both (le-leb (b .hierarchy) (a .hierarchy) (d .hierarchy)) (d .categories)
+
+-- ---- dominance is a partial order
+
+pub dominates-refl : (a : Label) → dominatesOf a a ≡ true
+dominates-refl a = parts-dominate a a (record { hierarchy = le-refl (a .hierarchy); categories = includes-refl (a .categories) })
+
+pub dominates-trans : (a b c : Label) → dominatesOf a b ≡ true → dominatesOf b c ≡ true → dominatesOf a c ≡ true
+dominates-trans a b c e f =
+    let p = dominates-parts a b e in
+    let q = dominates-parts b c f in
+    parts-dominate a c (record { hierarchy = omega arith; categories = includes-trans (a .categories) (b .categories) (c .categories) (p .categories) (q .categories) })
+
+-- of labels with as many words, as any two values of the code's type have
+pub dominates-antisym : (a b : Label) → length (a .categories) ≡ length (b .categories) → dominatesOf a b ≡ true → dominatesOf b a ≡ true → a ≡ b
+dominates-antisym a b l e f =
+    let p = dominates-parts a b e in
+    let q = dominates-parts b a f in
+    let h : a .hierarchy ≡ b .hierarchy = omega arith in
+    ap₂ labelOf h (includes-antisym (a .categories) (b .categories) l (p .categories) (q .categories))
+
+-- ---- equality
+
+pub equal-exact : (a b : Label) → length (a .categories) ≡ length (b .categories) → (equalOf a b ≡ true) ↔ (a ≡ b)
+unfolding equalOf
+equal-exact a b l = (λ e. ap₂ labelOf (eqb-true (a .hierarchy) (b .hierarchy) (first-true _ _ e)) (same-equal (a .categories) (b .categories) l (second-true (eqb (a .hierarchy) (b .hierarchy)) _ e)), back)
+  where
+    back : a ≡ b → equalOf a b ≡ true
+    back e = subst (λ (x : Label). equalOf a x ≡ true) e (both (eq-eqb (a .hierarchy) (a .hierarchy) refl) (same-refl (a .categories)))
+
+-- ---- the upper bound is the least that dominates both, the lower bound the greatest that both dominate
+
+pub dominates-upper : (a b c : Label) → dominatesOf c (upperBoundOf a b) ≡ (dominatesOf c a && dominatesOf c b)
+unfolding upperBoundOf
+dominates-upper a b c = same-truth (dominatesOf c (upperBoundOf a b)) (dominatesOf c a && dominatesOf c b) there back
+  where
+    set-law : includesOf (c .categories) (unionOf (a .categories) (b .categories)) ≡ (includesOf (c .categories) (a .categories) && includesOf (c .categories) (b .categories))
+    set-law = union-includes (a .categories) (b .categories) (c .categories)
+
+    there : dominatesOf c (upperBoundOf a b) ≡ true → (dominatesOf c a && dominatesOf c b) ≡ true
+    there e =
+        let p = dominates-parts c (upperBoundOf a b) e in
+        let s = sym set-law ∙ p .categories in
+        both (parts-dominate c a (record { hierarchy = omega arith; categories = first-true _ _ s }))
+        (parts-dominate c b (record { hierarchy = omega arith; categories = second-true (includesOf (c .categories) (a .categories)) _ s }))
+
+    back : (dominatesOf c a && dominatesOf c b) ≡ true → dominatesOf c (upperBoundOf a b) ≡ true
+    back e =
+        let p = dominates-parts c a (first-true (dominatesOf c a) (dominatesOf c b) e) in
+        let q = dominates-parts c b (second-true (dominatesOf c a) (dominatesOf c b) e) in
+        parts-dominate c (upperBoundOf a b) (record { hierarchy = omega arith; categories = set-law ∙ both (p .categories) (q .categories) })
+
+pub lower-dominates : (a b c : Label) → dominatesOf (lowerBoundOf a b) c ≡ (dominatesOf a c && dominatesOf b c)
+unfolding lowerBoundOf
+lower-dominates a b c = same-truth (dominatesOf (lowerBoundOf a b) c) (dominatesOf a c && dominatesOf b c) there back
+  where
+    set-law : includesOf (intersectionOf (a .categories) (b .categories)) (c .categories) ≡ (includesOf (a .categories) (c .categories) && includesOf (b .categories) (c .categories))
+    set-law = includes-intersection (a .categories) (b .categories) (c .categories)
+
+    there : dominatesOf (lowerBoundOf a b) c ≡ true → (dominatesOf a c && dominatesOf b c) ≡ true
+    there e =
+        let p = dominates-parts (lowerBoundOf a b) c e in
+        let s = sym set-law ∙ p .categories in
+        both (parts-dominate a c (record { hierarchy = omega arith; categories = first-true _ _ s }))
+        (parts-dominate b c (record { hierarchy = omega arith; categories = second-true (includesOf (a .categories) (c .categories)) _ s }))
+
+    back : (dominatesOf a c && dominatesOf b c) ≡ true → dominatesOf (lowerBoundOf a b) c ≡ true
+    back e =
+        let p = dominates-parts a c (first-true (dominatesOf a c) (dominatesOf b c) e) in
+        let q = dominates-parts b c (second-true (dominatesOf a c) (dominatesOf b c) e) in
+        parts-dominate (lowerBoundOf a b) c (record { hierarchy = omega arith; categories = set-law ∙ both (p .categories) (q .categories) })
+
+pub record LeastUpper (a b u : Label) : Type 0 where
+  pub left : dominatesOf u a ≡ true
+  pub right : dominatesOf u b ≡ true
+  pub least : (c : Label) → dominatesOf c a ≡ true → dominatesOf c b ≡ true → dominatesOf c u ≡ true
+
+pub upper-least : (a b : Label) → LeastUpper a b (upperBoundOf a b)
+upper-least a b =
+    let u : Label = upperBoundOf a b in
+    let e : (dominatesOf u a && dominatesOf u b) ≡ true = sym (dominates-upper a b u) ∙ dominates-refl u in
+    record { left = first-true _ _ e; right = second-true (dominatesOf u a) _ e; least = λ c p q. dominates-upper a b c ∙ both p q }
+
+pub record GreatestLower (a b l : Label) : Type 0 where
+  pub left : dominatesOf a l ≡ true
+  pub right : dominatesOf b l ≡ true
+  pub greatest : (c : Label) → dominatesOf a c ≡ true → dominatesOf b c ≡ true → dominatesOf l c ≡ true
+
+pub lower-greatest : (a b : Label) → GreatestLower a b (lowerBoundOf a b)
+lower-greatest a b =
+    let l : Label = lowerBoundOf a b in
+    let e : (dominatesOf a l && dominatesOf b l) ≡ true = sym (lower-dominates a b l) ∙ dominates-refl l in
+    record { left = first-true _ _ e; right = second-true (dominatesOf a l) _ e; greatest = λ c p q. lower-dominates a b c ∙ both p q }
+
+-- ---- the bounds of valid labels are valid, and of values of the code's type are such values
+
+pub valid-hierarchy : (a : Label) → validOf a ≡ true → a .hierarchy ≤ 199
+unfolding validOf
+valid-hierarchy a e = leb-true (a .hierarchy) 199 e
+
+pub hierarchy-valid : (a : Label) → a .hierarchy ≤ 199 → validOf a ≡ true
+unfolding validOf
+hierarchy-valid a h = le-leb (a .hierarchy) 199 h
+
+pub upper-valid : (a b : Label) → validOf a ≡ true → validOf b ≡ true → validOf (upperBoundOf a b) ≡ true
+unfolding upperBoundOf
+upper-valid a b e f =
+    let p = valid-hierarchy a e in
+    let q = valid-hierarchy b f in
+    hierarchy-valid (upperBoundOf a b) (omega arith)
+
+pub lower-valid : (a b : Label) → validOf a ≡ true → validOf b ≡ true → validOf (lowerBoundOf a b) ≡ true
+unfolding lowerBoundOf
+lower-valid a b e f =
+    let p = valid-hierarchy a e in
+    hierarchy-valid (lowerBoundOf a b) (omega arith)
+
+pub upper-typed : (a b : Label) → Typed a → Typed b → Typed (upperBoundOf a b)
+unfolding upperBoundOf
+upper-typed a b s t =
+    let la = s .length-is in
+    let lb = t .length-is in
+    let lu = union-length (a .categories) (b .categories) in
+    let ha = s .hierarchy in
+    let hb = t .hierarchy in
+    record {
+      hierarchy = omega arith;
+      length-is = omega arith;
+      word = λ i. rw union-at (or-lt 64 (wordAt (a .categories) i) (wordAt (b .categories) i) (s .word i) (t .word i));
+    }

@@ -1,0 +1,9 @@
+pub mod BoolLaws
+pub mod IndexLaws
+pub mod BitLaws
+pub mod WordLaws
+pub mod ListingLaws
+pub mod RegionLaws
+pub mod AnswerLaws
+pub mod LabelLaws
+pub mod LabelExamples

@@ -1,0 +1,34 @@
+-- Each valid hierarchy lies in exactly one region. Assumes nothing.
+use mathlib.Core.Bool.{Bool, true, false, cond}
+use mathlib.Core.Path.{_≡_, refl, sym, ap, _∙_}
+use Prim.Native.Nat.{ℕ, zero, suc, _≤_, _<_}
+use native.Mathlib.Omega.{arith}
+use lib.Dec.{leb, lit<}
+use borrow.Author.Tests.{leb-true, leb-false, le-leb, lt-leb}
+use Rattle.label.specs.Region.{firstOf, lastOf, regionOf, regions}
+
+pub record Within (r h : ℕ) : Type 0 where
+  pub known : r < regions
+  pub first : firstOf r ≤ h
+  pub last : h ≤ 199 → h ≤ lastOf r
+
+-- the region of a hierarchy holds it, where it is valid
+pub region-within : (h : ℕ) → Within (regionOf h) h
+unfolding regionOf
+region-within h = go (leb h 19) refl (leb h 179) refl
+  where
+    go : (p : Bool) → leb h 19 ≡ p → (q : Bool) → leb h 179 ≡ q → Within (cond p 0 (cond q 1 2)) h
+    go true e q f = let a = leb-true h 19 e in record { known = lit< tt; first = omega arith; last = λ v. omega arith }
+    go false e true f =
+        let a = leb-false h 19 e in
+        let b = leb-true h 179 f in
+        record { known = lit< tt; first = omega arith; last = λ v. omega arith }
+    go false e false f = let b = leb-false h 179 f in record { known = lit< tt; first = omega arith; last = λ v. omega arith }
+
+-- and it is the only one that does
+pub region-unique : (r h : ℕ) → r < regions → firstOf r ≤ h → h ≤ lastOf r → regionOf h ≡ r
+unfolding regionOf
+region-unique zero h k f l = simp (le-leb h 19 l)
+region-unique (suc zero) h k f l = simp (lt-leb h 19 f, le-leb h 179 l)
+region-unique (suc (suc zero)) h k f l = let g : 19 < h = omega arith in simp (lt-leb h 19 g, lt-leb h 179 f)
+region-unique (suc (suc (suc r))) h k f l = absurd (omega arith)

@@ -1,0 +1,155 @@
+-- The laws of category sets, over lists of words of any length. Assumes nothing.
+use mathlib.Core.Bool.{Bool, true, false, _&&_, _||_, true≢false}
+use mathlib.Core.List.{List}
+use mathlib.Core.Logic.{⊎-elim}
+use mathlib.Core.Path.{_≡_, refl, sym, ap, ap₂, _∙_}
+use Prim.Native.Nat.{ℕ, _+_, _*_, _/_, _%_, _^_, _≤_, _<_, max}
+use native.Mathlib.Omega.{arith}
+use lib.Arith.{digits-div, digits-mod}
+use lib.Bits.{bitAnd, bitOr, and-lt, or-lt}
+use lib.Dec.{eqb}
+use lib.ListN.{length, getD, List·getD-eq-default}
+use lib.Seq.{ext-getD}
+use borrow.Author.Tests.{eqb-true, eq-eqb}
+use Rattle.label.specs.Index.{every, tabulate}
+use Rattle.label.specs.Words.{bit, has, includesOf, intersectionOf, sameOf, unionOf, wordAt}
+use Rattle.label.proofs.BitLaws.{among-bits, bit-and, bit-high, bit-or, bits-among, bits-equal}
+use Rattle.label.proofs.BoolLaws.{both, either, first-true, or-first, or-second, same-truth, second-true}
+use Rattle.label.proofs.IndexLaws.{every-all, every-at, le-or-lt, tabulate-length, tabulate-pad}
+
+-- ---- by the word
+
+-- past the longer of two lists both go on with zeros
+module _ (a b : List ℕ) (i : ℕ) (past : max (length a) (length b) ≤ i) where
+  zero-left : wordAt a i ≡ 0
+  zero-left = List·getD-eq-default a 0 (omega arith)
+
+  zero-right : wordAt b i ≡ 0
+  zero-right = List·getD-eq-default b 0 (omega arith)
+
+pub union-at : (a b : List ℕ) (i : ℕ) → wordAt (unionOf a b) i ≡ bitOr (wordAt a i) (wordAt b i)
+unfolding unionOf
+union-at a b i =
+    tabulate-pad (λ k. bitOr (wordAt a k) (wordAt b k)) (max (length a) (length b)) i (λ p. ap₂ bitOr (zero-left a b i p) (zero-right a b i p))
+
+pub intersection-at : (a b : List ℕ) (i : ℕ) → wordAt (intersectionOf a b) i ≡ bitAnd (wordAt a i) (wordAt b i)
+unfolding intersectionOf
+intersection-at a b i =
+    tabulate-pad (λ k. bitAnd (wordAt a k) (wordAt b k)) (max (length a) (length b)) i (λ p. ap₂ bitAnd (zero-left a b i p) (zero-right a b i p))
+
+pub union-length : (a b : List ℕ) → length (unionOf a b) ≡ max (length a) (length b)
+unfolding unionOf
+union-length a b = tabulate-length (λ k. bitOr (wordAt a k) (wordAt b k)) (max (length a) (length b))
+
+pub intersection-length : (a b : List ℕ) → length (intersectionOf a b) ≡ max (length a) (length b)
+unfolding intersectionOf
+intersection-length a b = tabulate-length (λ k. bitAnd (wordAt a k) (wordAt b k)) (max (length a) (length b))
+
+-- ---- membership
+
+pub has-union : (a b : List ℕ) (c : ℕ) → has (unionOf a b) c ≡ (has a c || has b c)
+unfolding has
+has-union a b c = ap (λ (w : ℕ). bit w (c % 64)) (union-at a b (c / 64)) ∙ bit-or (wordAt a (c / 64)) (wordAt b (c / 64)) (c % 64)
+
+pub has-intersection : (a b : List ℕ) (c : ℕ) → has (intersectionOf a b) c ≡ (has a c && has b c)
+unfolding has
+has-intersection a b c = ap (λ (w : ℕ). bit w (c % 64)) (intersection-at a b (c / 64)) ∙ bit-and (wordAt a (c / 64)) (wordAt b (c / 64)) (c % 64)
+
+pub has-at : (a : List ℕ) (i j : ℕ) → j < 64 → has a (i * 64 + j) ≡ bit (wordAt a i) j
+unfolding has
+has-at a i j h = ap₂ (λ (m n : ℕ). bit (getD a m 0) n) (digits-div i h) (digits-mod i h)
+
+-- ---- inclusion, by the bits of each word
+
+pub includes-bits : (a b : List ℕ) → includesOf a b ≡ true → (i j : ℕ) → bit (wordAt b i) j ≡ true → bit (wordAt a i) j ≡ true
+unfolding includesOf
+includes-bits a b e i j h = ⊎-elim past within (le-or-lt (max (length a) (length b)) i)
+  where
+    past : max (length a) (length b) ≤ i → bit (wordAt a i) j ≡ true
+    past l = ap (λ (w : ℕ). bit w j) (zero-left a b i l ∙ sym (zero-right a b i l)) ∙ h
+
+    within : i < max (length a) (length b) → bit (wordAt a i) j ≡ true
+    within l =
+        bits-among (wordAt a i) (wordAt b i)
+        (eqb-true (bitAnd (wordAt a i) (wordAt b i)) (wordAt b i)
+        (every-at (λ k. eqb (bitAnd (wordAt a k) (wordAt b k)) (wordAt b k)) (max (length a) (length b)) i e l)) j h
+
+pub bits-include : (a b : List ℕ) → ((i j : ℕ) → bit (wordAt b i) j ≡ true → bit (wordAt a i) j ≡ true) → includesOf a b ≡ true
+unfolding includesOf
+bits-include a b h =
+    every-all (λ k. eqb (bitAnd (wordAt a k) (wordAt b k)) (wordAt b k)) (max (length a) (length b))
+    (λ i l. eq-eqb (bitAnd (wordAt a i) (wordAt b i)) (wordAt b i) (among-bits (wordAt a i) (wordAt b i) (h i)))
+
+-- ---- inclusion is of every category
+
+pub includes-every : (a b : List ℕ) → includesOf a b ≡ true → (c : ℕ) → has b c ≡ true → has a c ≡ true
+unfolding has
+includes-every a b e c h = includes-bits a b e (c / 64) (c % 64) h
+
+-- where b's words are of 64 bits, as every value of the code's type has them
+pub every-includes : (a b : List ℕ) → ((i : ℕ) → wordAt b i < 2 ^ 64) → ((c : ℕ) → has b c ≡ true → has a c ≡ true) → includesOf a b ≡ true
+every-includes a b w h = bits-include a b (λ i j e. ⊎-elim (above i j e) (within i j e) (le-or-lt 64 j))
+  where
+    above : (i j : ℕ) → bit (wordAt b i) j ≡ true → 64 ≤ j → bit (wordAt a i) j ≡ true
+    above i j e l = absurd (true≢false (sym e ∙ bit-high (wordAt b i) 64 j (w i) l))
+
+    within : (i j : ℕ) → bit (wordAt b i) j ≡ true → j < 64 → bit (wordAt a i) j ≡ true
+    within i j e l = sym (has-at a i j l) ∙ h (i * 64 + j) (has-at b i j l ∙ e)
+
+-- ---- inclusion is a partial order
+
+pub includes-refl : (a : List ℕ) → includesOf a a ≡ true
+includes-refl a = bits-include a a (λ i j e. e)
+
+pub includes-trans : (a b c : List ℕ) → includesOf a b ≡ true → includesOf b c ≡ true → includesOf a c ≡ true
+includes-trans a b c p q = bits-include a c (λ i j e. includes-bits a b p i j (includes-bits b c q i j e))
+
+pub includes-antisym : (a b : List ℕ) → length a ≡ length b → includesOf a b ≡ true → includesOf b a ≡ true → a ≡ b
+includes-antisym a b l p q =
+    ext-getD 0 a b l (λ i h. bits-equal (wordAt a i) (wordAt b i) (λ j. same-truth (bit (wordAt a i) j) (bit (wordAt b i) j) (includes-bits b a q i j) (includes-bits a b p i j)))
+
+-- ---- the union is the least set that includes both, the intersection the greatest that both include
+
+pub union-includes : (a b c : List ℕ) → includesOf c (unionOf a b) ≡ (includesOf c a && includesOf c b)
+union-includes a b c = same-truth (includesOf c (unionOf a b)) (includesOf c a && includesOf c b) there back
+  where
+    or-bits : (i j : ℕ) → bit (wordAt (unionOf a b) i) j ≡ (bit (wordAt a i) j || bit (wordAt b i) j)
+    or-bits i j = ap (λ (w : ℕ). bit w j) (union-at a b i) ∙ bit-or (wordAt a i) (wordAt b i) j
+
+    there : includesOf c (unionOf a b) ≡ true → (includesOf c a && includesOf c b) ≡ true
+    there e =
+        both (bits-include c a (λ i j h. includes-bits c (unionOf a b) e i j (or-bits i j ∙ or-first (bit (wordAt b i) j) h)))
+        (bits-include c b (λ i j h. includes-bits c (unionOf a b) e i j (or-bits i j ∙ or-second (bit (wordAt a i) j) h)))
+
+    back : (includesOf c a && includesOf c b) ≡ true → includesOf c (unionOf a b) ≡ true
+    back e =
+        bits-include c (unionOf a b) (λ i j h. ⊎-elim (includes-bits c a (first-true (includesOf c a) (includesOf c b) e) i j)
+        (includes-bits c b (second-true (includesOf c a) (includesOf c b) e) i j) (either (bit (wordAt a i) j) (bit (wordAt b i) j) (sym (or-bits i j) ∙ h)))
+
+pub includes-intersection : (a b c : List ℕ) → includesOf (intersectionOf a b) c ≡ (includesOf a c && includesOf b c)
+includes-intersection a b c = same-truth (includesOf (intersectionOf a b) c) (includesOf a c && includesOf b c) there back
+  where
+    and-bits : (i j : ℕ) → bit (wordAt (intersectionOf a b) i) j ≡ (bit (wordAt a i) j && bit (wordAt b i) j)
+    and-bits i j = ap (λ (w : ℕ). bit w j) (intersection-at a b i) ∙ bit-and (wordAt a i) (wordAt b i) j
+
+    there : includesOf (intersectionOf a b) c ≡ true → (includesOf a c && includesOf b c) ≡ true
+    there e =
+        both (bits-include a c (λ i j h. first-true (bit (wordAt a i) j) (bit (wordAt b i) j) (sym (and-bits i j) ∙ includes-bits (intersectionOf a b) c e i j h)))
+        (bits-include b c (λ i j h. second-true (bit (wordAt a i) j) (bit (wordAt b i) j) (sym (and-bits i j) ∙ includes-bits (intersectionOf a b) c e i j h)))
+
+    back : (includesOf a c && includesOf b c) ≡ true → includesOf (intersectionOf a b) c ≡ true
+    back e =
+        bits-include (intersectionOf a b) c (λ i j h. and-bits i j ∙ both (includes-bits a c (first-true (includesOf a c) (includesOf b c) e) i j h)
+        (includes-bits b c (second-true (includesOf a c) (includesOf b c) e) i j h))
+
+-- ---- equality
+
+pub same-equal : (a b : List ℕ) → length a ≡ length b → sameOf a b ≡ true → a ≡ b
+unfolding sameOf
+same-equal a b l e =
+    ext-getD 0 a b l
+    (λ i h. eqb-true (wordAt a i) (wordAt b i) (every-at (λ k. eqb (wordAt a k) (wordAt b k)) (max (length a) (length b)) i e (omega arith)))
+
+pub same-refl : (a : List ℕ) → sameOf a a ≡ true
+unfolding sameOf
+same-refl a = every-all (λ k. eqb (wordAt a k) (wordAt a k)) (max (length a) (length a)) (λ i l. eq-eqb (wordAt a i) (wordAt a i) refl)

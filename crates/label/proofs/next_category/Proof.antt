@@ -1,0 +1,38 @@
+use borrow.Author.Needs.{needs}
+use mathlib.Core.Path.{sym, ap, _∙_}
+use Rattle.label.specs.Answer.{granted}
+use Rattle.label.specs.Words.{foundOf}
+use Rattle.label.proofs.next_category.Statement.{statement}
+use Rattle.label.proofs.next_category.Tie as tie
+
+valid-requires : tie.Need-valid-requires
+valid-requires c κs = search needs
+
+next-requires : tie.Need-next-requires
+next-requires c κs = search needs
+
+enum-known-c : tie.Need-enum-known-c
+enum-known-c c = search needs
+
+enum-told : tie.Need-enum-told
+enum-told c = search needs
+
+returns : tie.Need-returns
+returns c =
+    let n = c .before .before .before in
+    let t = n .before .before in
+    rw (← t .before .valid .ensures, t .if1 .taken) (ap granted (ap foundOf (sym (c .before .c .given .1)) ∙ n .next .ensures))
+
+returns-2 : tie.Need-returns-2
+returns-2 c =
+    let n = c .before .before in
+    let t = n .before .before in
+    rw (← t .before .valid .ensures, t .if1 .taken) (ap granted (ap foundOf (sym (c .enum-told .given .1)) ∙ n .next .ensures))
+
+returns-3 : tie.Need-returns-3
+returns-3 c = rw (← c .before .valid .ensures, c .if1 .left)
+
+pub next-category-spec : {M : Type 1} → statement M
+next-category-spec =
+    tie.close
+    (tie.spec valid-requires next-requires enum-known-c enum-told returns returns-2 returns-3)

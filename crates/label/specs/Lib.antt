@@ -1,0 +1,6 @@
+pub mod Index
+pub mod Errno
+pub mod Answer
+pub mod Words
+pub mod Region
+pub mod Label

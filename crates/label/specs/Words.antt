@@ -1,0 +1,73 @@
+-- Document 01, "Labels and regions": a set of categories as a list of words of 64 bits, of any length. A list is taken as going on with
+-- words that are 0. Assumes nothing.
+use mathlib.Core.Bool.{Bool, true, false}
+use mathlib.Core.List.{List, [], _∷_, _++_}
+use mathlib.Core.Option.{Option, none, some}
+use Prim.Native.Nat.{ℕ, zero, suc, _*_, _-_, _/_, _%_, _^_, max}
+use lib.Bits.{bitAnd, bitOr}
+use lib.Dec.{eqb}
+use lib.ListN.{getD, length}
+use Rattle.label.specs.Index.{every, tabulate}
+use Rattle.label.specs.declared.words.Found.{Found}
+use Rattle.label.specs.declared.words.Found.the-variants.{At, Nothing}
+
+-- how many words a label's set has
+abbrev pub words : ℕ
+words = 4
+
+abbrev pub wordAt : List ℕ → ℕ → ℕ
+wordAt ws i = getD ws i 0
+
+-- whether bit k of x is set
+unfoldable pub bit : ℕ → ℕ → Bool
+bit x k = eqb (x / 2 ^ k % 2) 1
+
+-- whether category c is in the set: bit c mod 64 of word c / 64
+unfoldable pub has : List ℕ → ℕ → Bool
+has ws c = bit (wordAt ws (c / 64)) (c % 64)
+
+unfoldable pub unionOf : List ℕ → List ℕ → List ℕ
+unionOf a b = tabulate (λ i. bitOr (wordAt a i) (wordAt b i)) (max (length a) (length b))
+
+unfoldable pub intersectionOf : List ℕ → List ℕ → List ℕ
+intersectionOf a b = tabulate (λ i. bitAnd (wordAt a i) (wordAt b i)) (max (length a) (length b))
+
+-- whether each category of b is in a
+unfoldable pub includesOf : List ℕ → List ℕ → Bool
+includesOf a b = every (λ i. eqb (bitAnd (wordAt a i) (wordAt b i)) (wordAt b i)) (max (length a) (length b))
+
+-- whether a and b have the same words
+unfoldable pub sameOf : List ℕ → List ℕ → Bool
+sameOf a b = every (λ i. eqb (wordAt a i) (wordAt b i)) (max (length a) (length b))
+
+-- the listing l with c at its end, where c is to be listed
+abbrev pub listedIf : Bool → ℕ → List ℕ → List ℕ
+listedIf true c l = l ++ (c ∷ [])
+listedIf false c l = l
+
+-- the categories below c, in rising order
+unfoldable pub membersBelow : List ℕ → ℕ → List ℕ
+membersBelow ws zero = []
+membersBelow ws (suc c) = listedIf (has ws c) c (membersBelow ws c)
+
+-- the categories of a set, in rising order
+unfoldable pub membersOf : List ℕ → List ℕ
+membersOf ws = membersBelow ws (length ws * 64)
+
+abbrev pub firstOr : Bool → ℕ → Option ℕ → Option ℕ
+firstOr true c rest = some c
+firstOr false c rest = rest
+
+-- the first category among the n numbers from c on
+unfoldable pub firstFrom : List ℕ → ℕ → ℕ → Option ℕ
+firstFrom ws c zero = none
+firstFrom ws c (suc n) = firstOr (has ws c) c (firstFrom ws (suc c) n)
+
+-- the least category at or above c, if there is one
+unfoldable pub nextOf : List ℕ → ℕ → Option ℕ
+nextOf ws c = firstFrom ws c (length ws * 64 - c)
+
+-- what the enum Found says
+abbrev pub foundOf : Found → Option ℕ
+foundOf (At c) = some c
+foundOf Nothing = none

@@ -1,0 +1,18 @@
+// What calls answer where that is no label, range or tuple; and the outcome that stands beside one of these.
+use crate::errno::Errno;
+
+// A yes or no.
+pub enum Test {
+    Holds(bool),
+    Refused(Errno),
+}
+
+pub enum Number {
+    Value(u64),
+    Refused(Errno),
+}
+
+pub enum Outcome {
+    Granted,
+    Refused(Errno),
+}

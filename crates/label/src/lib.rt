@@ -1,0 +1,172 @@
+// Labels for mandatory access control: a hierarchy number and a set of categories. Each function tests the labels that it is handed and
+// refuses an invalid one with 22; only `valid` answers a bare yes or no.
+pub mod answer;
+pub mod components;
+pub mod errno;
+pub mod region;
+pub mod words;
+
+use crate::answer::Number;
+use crate::answer::Outcome;
+use crate::answer::Test;
+use crate::errno::Errno;
+use crate::words::Found;
+use crate::words::WORDS;
+ghost use mathlib.Core.Path.{_≡_};
+ghost use mathlib.Core.Bool.{_&&_};
+ghost use lib.ListN.{length};
+ghost use Rattle.label.specs.Answer.{Answered, granted, require, testOf, numberAnswerOf};
+ghost use Rattle.label.specs.Label.{dominatesOf, equalOf, lowerBoundOf, nextAnswerOf, upperBoundOf, validOf, zeroLabel, Typed};
+ghost use Rattle.label.specs.Region.{regionOf};
+ghost use Rattle.label.specs.Words.{membersOf, nextOf};
+
+// The largest hierarchy number of a valid label.
+pub const MAX_HIERARCHY: u8 = 199;
+
+pub struct Label {
+    pub hierarchy: u8,
+    pub categories: [u64; WORDS],
+}
+
+// A label that is answered stands beside its outcome; beside a refusal it is the label of zeros.
+pub struct LabelAnswer {
+    pub outcome: Outcome,
+    pub label: Label,
+}
+
+// The least category at or above a number.
+pub enum Next {
+    Category(u64),
+    Nothing,
+    Refused(Errno),
+}
+
+// The label of zeros: hierarchy 0, no categories.
+pub fn zero() -> Label
+    ensures { λ r. ⌜ r ≡ zeroLabel ⌝ }
+{
+    let none = [0u64; WORDS];
+    Label {
+        hierarchy: 0,
+        categories: none,
+    }
+}
+
+pub fn valid(a: Label) -> bool
+    ensures { λ r. ⌜ r ≡ validOf a ⌝ }
+{
+    a.hierarchy <= MAX_HIERARCHY
+}
+
+// Whether each of two labels is valid.
+fn both_valid(a: Label, b: Label) -> bool
+    ensures { λ r. ⌜ r ≡ (validOf a && validOf b) ⌝ }
+{
+    valid(a) & valid(b)
+}
+
+// Whether a dominates b.
+pub fn dominates(a: Label, b: Label) -> Test
+    ensures { λ r. ⌜ testOf r ≡ require (validOf a && validOf b) 22 (granted (dominatesOf a b)) ⌝ }
+{
+    if both_valid(a, b) {
+        let x = a.categories;
+        let y = b.categories;
+        return Test::Holds(components::dominates(a.hierarchy, x, b.hierarchy, y));
+    }
+    Test::Refused(Errno::Invalid)
+}
+
+// Whether a and b are equal.
+pub fn equal(a: Label, b: Label) -> Test
+    ensures { λ r. ⌜ testOf r ≡ require (validOf a && validOf b) 22 (granted (equalOf a b)) ⌝ }
+{
+    if both_valid(a, b) {
+        let x = a.categories;
+        let y = b.categories;
+        return Test::Holds(components::equal(a.hierarchy, x, b.hierarchy, y));
+    }
+    Test::Refused(Errno::Invalid)
+}
+
+// The least label that dominates a and b.
+pub fn upper_bound(a: Label, b: Label) -> LabelAnswer
+    ensures { λ r. ⌜ Answered (r .outcome) (r .label) zeroLabel (require (validOf a && validOf b) 22 (granted (upperBoundOf a b))) ⌝ }
+{
+    if both_valid(a, b) {
+        let x = a.categories;
+        let y = b.categories;
+        return LabelAnswer {
+            outcome: Outcome::Granted,
+            label: Label {
+                hierarchy: components::higher(a.hierarchy, b.hierarchy),
+                categories: words::union(x, y),
+            },
+        };
+    }
+    LabelAnswer {
+        outcome: Outcome::Refused(Errno::Invalid),
+        label: zero(),
+    }
+}
+
+// The greatest label that a and b dominate.
+pub fn lower_bound(a: Label, b: Label) -> LabelAnswer
+    ensures { λ r. ⌜ Answered (r .outcome) (r .label) zeroLabel (require (validOf a && validOf b) 22 (granted (lowerBoundOf a b))) ⌝ }
+{
+    if both_valid(a, b) {
+        let x = a.categories;
+        let y = b.categories;
+        return LabelAnswer {
+            outcome: Outcome::Granted,
+            label: Label {
+                hierarchy: components::lower(a.hierarchy, b.hierarchy),
+                categories: words::intersection(x, y),
+            },
+        };
+    }
+    LabelAnswer {
+        outcome: Outcome::Refused(Errno::Invalid),
+        label: zero(),
+    }
+}
+
+// How many categories a has.
+pub fn category_count(a: Label) -> Number
+    ensures { λ r. ⌜ numberAnswerOf r ≡ require (validOf a) 22 (granted (length (membersOf (a .categories)))) ⌝ }
+{
+    if valid(a) {
+        let x = a.categories;
+        return Number::Value(words::count(x));
+    }
+    Number::Refused(Errno::Invalid)
+}
+
+// The least category of a at or above from.
+pub fn next_category(a: Label, from: u64) -> Next
+    ensures { λ r. ⌜ nextAnswerOf r ≡ require (validOf a) 22 (granted (nextOf (a .categories) from)) ⌝ }
+{
+    if valid(a) {
+        let x = a.categories;
+        return match words::next(x, from) {
+            Found::At(c) => Next::Category(c),
+            Found::Nothing => Next::Nothing,
+        };
+    }
+    Next::Refused(Errno::Invalid)
+}
+
+// The region of a, by its number.
+pub fn region_of(a: Label) -> Number
+    ensures { λ r. ⌜ numberAnswerOf r ≡ require (validOf a) 22 (granted (regionOf (a .hierarchy))) ⌝ }
+{
+    if valid(a) {
+        return Number::Value(region::of_hierarchy(a.hierarchy) as u64);
+    }
+    Number::Refused(Errno::Invalid)
+}
+
+// Every label has what its type says: the law of `Typed`, for the laws that name it.
+fn typed(a: Label)
+    ensures { λ r. ⌜ Typed a ⌝ }
+{}

@@ -1,0 +1,37 @@
+// Regions: each is a run of hierarchy numbers, and is known by its number in document 01's order: 0 virus prevention, 1 user,
+// 2 administrative.
+ghost use mathlib.Core.Path.{_≡_};
+ghost use Rattle.label.specs.Region.{firstOf, lastOf, regionOf};
+
+pub const REGIONS: usize = 3;
+
+const FIRST: [u8; REGIONS] = [0, 20, 180];
+
+const LAST: [u8; REGIONS] = [19, 179, 199];
+
+// The least hierarchy number of a region; 0 where there is no such region.
+pub fn first(region: usize) -> u8
+    ensures { λ r. ⌜ r ≡ firstOf region ⌝ }
+{
+    if region < REGIONS { FIRST[region] } else { 0 }
+}
+
+// The greatest hierarchy number of a region; 0 where there is no such region.
+pub fn last(region: usize) -> u8
+    ensures { λ r. ⌜ r ≡ lastOf region ⌝ }
+{
+    if region < REGIONS { LAST[region] } else { 0 }
+}
+
+// The region of a valid hierarchy number. Others count as administrative here: whoever asks has tested the label.
+pub fn of_hierarchy(hierarchy: u8) -> usize
+    ensures { λ r. ⌜ r ≡ regionOf hierarchy ⌝ }
+{
+    if hierarchy <= LAST[0] {
+        return 0;
+    }
+    if hierarchy <= LAST[1] {
+        return 1;
+    }
+    2
+}
