@@ -65,10 +65,13 @@ module _ (f : ℕ → Bool) where
   every-all zero h = refl
   every-all (suc n) h = both (every-all n (λ i l. h i (omega arith))) (h n (omega arith))
 
-  -- a loop that has found f true at each index so far: it goes on, or stops where f is false
+  -- a loop that has found f true at each index so far: it goes on, stops where f is false, or ends
   pub every-next : (i : ℕ) → every f i ≡ true → f i ≡ true → every f (i + 1) ≡ true
   unfolding every
   every-next i e h = rw add-one (both e h)
 
   pub every-stop : (n i : ℕ) → i < n → f i ≡ false → every f n ≡ false
   every-stop n i l h = not-so (every f n) (λ e. true≢false (sym (every-at n i e l) ∙ h))
+
+  pub every-done : (n i : ℕ) → i ≡ n → every f i ≡ true → every f n ≡ true
+  every-done n i e h = rw e at h

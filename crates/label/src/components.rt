@@ -1,9 +1,10 @@
 // Total functions over a label's components, its hierarchy number and its category words: for labels that the caller has tested.
+use crate::Label;
 use crate::words;
 use crate::words::WORDS;
 ghost use mathlib.Core.Path.{_≡_};
 ghost use Prim.Native.Nat.{max, min};
-ghost use Rattle.label.specs.Label.{dominatesOf, equalOf, labelOf};
+ghost use Rattle.label.specs.Label.{dominatesOf, equalOf, labelOf, lowerBoundOf, upperBoundOf};
 
 // Whether the first label dominates the second.
 pub fn dominates(ah: u8, ac: [u64; WORDS], bh: u8, bc: [u64; WORDS]) -> bool
@@ -31,4 +32,24 @@ pub fn lower(x: u8, y: u8) -> u8
     ensures { λ r. ⌜ r ≡ min x y ⌝ }
 {
     if x < y { x } else { y }
+}
+
+// The upper bound of two labels: the larger hierarchy, and the union.
+pub fn upper_bound(ah: u8, ac: [u64; WORDS], bh: u8, bc: [u64; WORDS]) -> Label
+    ensures { λ r. ⌜ r ≡ upperBoundOf (labelOf ah ac) (labelOf bh bc) ⌝ }
+{
+    Label {
+        hierarchy: higher(ah, bh),
+        categories: words::union(ac, bc),
+    }
+}
+
+// The lower bound of two labels: the smaller hierarchy, and the intersection.
+pub fn lower_bound(ah: u8, ac: [u64; WORDS], bh: u8, bc: [u64; WORDS]) -> Label
+    ensures { λ r. ⌜ r ≡ lowerBoundOf (labelOf ah ac) (labelOf bh bc) ⌝ }
+{
+    Label {
+        hierarchy: lower(ah, bh),
+        categories: words::intersection(ac, bc),
+    }
 }

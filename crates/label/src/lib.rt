@@ -98,10 +98,7 @@ pub fn upper_bound(a: Label, b: Label) -> LabelAnswer
         let y = b.categories;
         return LabelAnswer {
             outcome: Outcome::Granted,
-            label: Label {
-                hierarchy: components::higher(a.hierarchy, b.hierarchy),
-                categories: words::union(x, y),
-            },
+            label: components::upper_bound(a.hierarchy, x, b.hierarchy, y),
         };
     }
     LabelAnswer {
@@ -119,10 +116,7 @@ pub fn lower_bound(a: Label, b: Label) -> LabelAnswer
         let y = b.categories;
         return LabelAnswer {
             outcome: Outcome::Granted,
-            label: Label {
-                hierarchy: components::lower(a.hierarchy, b.hierarchy),
-                categories: words::intersection(x, y),
-            },
+            label: components::lower_bound(a.hierarchy, x, b.hierarchy, y),
         };
     }
     LabelAnswer {
@@ -168,5 +162,5 @@ pub fn region_of(a: Label) -> Number
 
 // Every label has what its type says: the law of `Typed`, for the laws that name it.
 fn typed(a: Label)
-    ensures { λ r. ⌜ Typed a ⌝ }
+    ensures { λ _. ⌜ Typed a ⌝ }
 {}

@@ -9,7 +9,7 @@ use lib.ListN.{length}
 use borrow.Author.Tests.{eq-eqb, ne-eqb}
 use Rattle.label.specs.Index.{every}
 use Rattle.label.specs.Words.{includesOf, wordAt, words}
-use Rattle.label.proofs.IndexLaws.{every-next, every-stop}
+use Rattle.label.proofs.IndexLaws.{every-done, every-next, every-stop}
 use Rattle.label.proofs.words.includes.Statement.{statement}
 use Rattle.label.proofs.words.includes.Tie as tie
 
@@ -73,8 +73,7 @@ returns-2 c =
     let b = h .before .args .t2 in
     let la : length a ≡ words = search needs in
     let lb : length b ≡ words = search needs in
-    let e : h .loop .i ≡ max (length a) (length b) = omega arith in
-    sym (rw (← e) (h .loop .inv .1))
+    sym (every-done (λ k. eqb (bitAnd (wordAt a k) (wordAt b k)) (wordAt b k)) (max (length a) (length b)) (h .loop .i) (omega arith) (h .loop .inv .1))
 
 pub includes-spec : {M : Type 1} → statement M
 includes-spec =

@@ -8,7 +8,7 @@ use lib.ListN.{length}
 use borrow.Author.Tests.{eq-eqb, ne-eqb}
 use Rattle.label.specs.Index.{every}
 use Rattle.label.specs.Words.{sameOf, wordAt, words}
-use Rattle.label.proofs.IndexLaws.{every-next, every-stop}
+use Rattle.label.proofs.IndexLaws.{every-done, every-next, every-stop}
 use Rattle.label.proofs.words.same.Statement.{statement}
 use Rattle.label.proofs.words.same.Tie as tie
 
@@ -66,8 +66,7 @@ returns-2 c =
     let b = h .before .args .t2 in
     let la : length a ≡ words = search needs in
     let lb : length b ≡ words = search needs in
-    let e : h .loop .i ≡ max (length a) (length b) = omega arith in
-    sym (rw (← e) (h .loop .inv .1))
+    sym (every-done (λ k. eqb (wordAt a k) (wordAt b k)) (max (length a) (length b)) (h .loop .i) (omega arith) (h .loop .inv .1))
 
 pub same-spec : {M : Type 1} → statement M
 same-spec =

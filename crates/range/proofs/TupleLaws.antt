@@ -1,0 +1,329 @@
+-- The laws of tuples, by the region's number. Assumes nothing.
+use mathlib.Core.Bool.{Bool, true, false, cond, not, _&&_, _||_, and-false, true≢false}
+use mathlib.Core.List.{List}
+use mathlib.Core.Logic.{_↔_, ⊎-elim}
+use mathlib.Core.Path.{_≡_, refl, sym, ap, ap₂, _∙_, subst}
+use Prim.Native.Nat.{ℕ, zero, suc, _≤_, _<_, max, min}
+use native.Mathlib.Omega.{arith}
+use lib.Dec.{eqb, leb}
+use borrow.Author.Tests.{eqb-true, eq-eqb, leb-true, le-leb}
+use Rattle.label.specs.Index.{every, tabulate}
+use Rattle.label.specs.Label
+use Rattle.label.specs.Label.{Typed, dominatesOf, equalOf, labelOf, lowerBoundOf, upperBoundOf, zeroLabel}
+use Rattle.label.specs.Region.{firstOf, lastOf, regionOf, regions}
+use Rattle.label.specs.declared.Label.{Label}
+use Rattle.label.proofs.BoolLaws.{both, either, first-true, not-so, or-first, or-second, same-truth, second-true}
+use Rattle.label.proofs.IndexLaws.{every-all, every-at, tabulate-at}
+use Rattle.label.proofs.LabelLaws.{dominates-parts, dominates-trans, equal-exact, hierarchy-valid, parts-dominate, valid-hierarchy}
+use Rattle.label.proofs.RegionLaws.{region-unique, region-within}
+use Rattle.range.specs.Range
+use Rattle.range.specs.Range.{TypedRange, commonOf, rangeOf}
+use Rattle.range.specs.Tuple.{TypedTuple, absent, containsAt, containsOf, cutOf, emptyOf, meetAt, meetOf, present, rangeAt, splitOf, tupleOf, validAt, validOf, withinAt, withinOf}
+use Rattle.range.specs.declared.Range.{Range}
+use Rattle.range.specs.declared.tuple.RegionRange.{RegionRange}
+use Rattle.range.specs.declared.tuple.Tuple.{Tuple}
+use Rattle.range.proofs.RangeLaws.{common-label, contains-high, contains-low, contains-parts, meet-labels, meet-valid, parts-contain, parts-valid, valid-parts}
+
+-- ---- by the region
+
+-- the tuple that has f r for each region r
+range-of : (f : ℕ → RegionRange) (r : ℕ) → r < regions → rangeAt (tupleOf (tabulate f regions)) r ≡ f r
+range-of f r h = tabulate-at f regions r _ h
+
+-- a valid range with both ends in region r
+pub record Placed (r : ℕ) (x : Range) : Type 0 where
+  pub valid : Range.validOf x ≡ true
+  pub low : regionOf (x .low .hierarchy) ≡ r
+  pub high : regionOf (x .high .hierarchy) ≡ r
+
+pub valid-placed : (r : ℕ) (e : RegionRange) → e .present ≡ true → validAt r e ≡ true → Placed r (e .range)
+unfolding validAt
+valid-placed r e p h =
+    let a : Bool = Range.validOf (e .range) in
+    let b : Bool = eqb (regionOf (e .range .low .hierarchy)) r in
+    let d : Bool = eqb (regionOf (e .range .high .hierarchy)) r in
+    let t : (a && b && d) ≡ true = rw p at h in
+    record {
+      valid = first-true a b (first-true (a && b) d t);
+      low = eqb-true (regionOf (e .range .low .hierarchy)) r (second-true a b (first-true (a && b) d t));
+      high = eqb-true (regionOf (e .range .high .hierarchy)) r (second-true (a && b) d t);
+    }
+
+pub placed-valid : (r : ℕ) (x : Range) → Placed r x → validAt r (present x) ≡ true
+unfolding validAt
+placed-valid r x p =
+    both (both (p .valid) (eq-eqb (regionOf (x .low .hierarchy)) r (p .low))) (eq-eqb (regionOf (x .high .hierarchy)) r (p .high))
+
+pub absent-valid : (r : ℕ) → validAt r absent ≡ true
+unfolding validAt
+absent-valid r = both (equal-exact zeroLabel zeroLabel refl .1 refl) (equal-exact zeroLabel zeroLabel refl .1 refl)
+
+-- hierarchies between two of a region's are of that region
+between : (r h a b : ℕ) → regionOf a ≡ r → regionOf b ≡ r → b ≤ 199 → a ≤ h → h ≤ b → regionOf h ≡ r
+between r h a b ea eb v l u =
+    let wa = region-within a in
+    let wb = region-within b in
+    let fa : firstOf r ≤ a = rw (← ea) (wa .first) in
+    let lb : b ≤ lastOf r = rw (← eb) (wb .last v) in
+    let k : r < regions = rw (← ea) (wa .known) in
+    region-unique r h k (omega arith) (omega arith)
+
+-- ---- the meet of valid tuples is valid
+
+meet-placed : (r : ℕ) (x y : Range) → Placed r x → Placed r y → commonOf x y ≡ true → Placed r (Range.meetOf x y)
+unfolding Range.meetOf upperBoundOf lowerBoundOf
+meet-placed r x y p q e =
+    let v = meet-valid x y (p .valid) (q .valid) e in
+    let order : Range.meetOf x y .low .hierarchy ≤ Range.meetOf x y .high .hierarchy = dominates-parts (Range.meetOf x y .high) (Range.meetOf x y .low) (valid-parts (Range.meetOf x y) v .order) .hierarchy in
+    let top = valid-hierarchy (x .high) (valid-parts x (p .valid) .high) in
+    record {
+      valid = v;
+      low = between r _ (x .low .hierarchy) (x .high .hierarchy) (p .low) (p .high) top (omega arith) (omega arith);
+      high = between r _ (x .low .hierarchy) (x .high .hierarchy) (p .low) (p .high) top (omega arith) (omega arith);
+    }
+
+meet-at-valid : (r : ℕ) (e f : RegionRange) → validAt r e ≡ true → validAt r f ≡ true → validAt r (meetAt e f) ≡ true
+unfolding meetAt
+meet-at-valid r e f v w = go (e .present && f .present && commonOf (e .range) (f .range)) refl
+  where
+    go : (p : Bool) → (e .present && f .present && commonOf (e .range) (f .range)) ≡ p → validAt r (cond p (present (Range.meetOf (e .range) (f .range))) absent) ≡ true
+    go false h = absent-valid r
+    go true h =
+        let k = first-true (e .present && f .present) (commonOf (e .range) (f .range)) h in
+        placed-valid r (Range.meetOf (e .range) (f .range))
+        (meet-placed r (e .range) (f .range) (valid-placed r e (first-true (e .present) (f .present) k) v) (valid-placed r f (second-true (e .present) (f .present) k) w)
+        (second-true (e .present && f .present) (commonOf (e .range) (f .range)) h))
+
+pub tuple-meet-valid : (t u : Tuple) → validOf t ≡ true → validOf u ≡ true → validOf (meetOf t u) ≡ true
+unfolding validOf meetOf
+tuple-meet-valid t u v w = every-all (λ r. validAt r (rangeAt (meetOf t u) r)) regions (λ r h. at r h)
+  where
+    at : (r : ℕ) → r < regions → validAt r (rangeAt (meetOf t u) r) ≡ true
+    at r h =
+        ap (validAt r) (range-of (λ k. meetAt (rangeAt t k) (rangeAt u k)) r h)
+        ∙ meet-at-valid r (rangeAt t r) (rangeAt u r) (every-at (λ k. validAt k (rangeAt t k)) regions r v h) (every-at (λ k. validAt k (rangeAt u k)) regions r w h)
+
+-- ---- it contains exactly the common labels
+
+meet-at-labels : (e f : RegionRange) (l : Label) → containsAt (meetAt e f) l ≡ (containsAt e l && containsAt f l)
+unfolding meetAt containsAt
+meet-at-labels e f l = go (e .present) (f .present) (commonOf (e .range) (f .range)) refl
+  where
+    go : (p q k : Bool) → commonOf (e .range) (f .range) ≡ k
+        → containsAt (cond (p && q && k) (present (Range.meetOf (e .range) (f .range))) absent) l ≡ ((p && Range.containsOf (e .range) l) && (q && Range.containsOf (f .range) l))
+    go true true true h = meet-labels (e .range) (f .range) l
+    go true true false h =
+        sym (not-so (Range.containsOf (e .range) l && Range.containsOf (f .range) l) (λ c. true≢false (sym (common-label (e .range) (f .range) l c) ∙ h)))
+    go true false k h = sym (and-false (Range.containsOf (e .range) l))
+    go false q k h = refl
+
+pub tuple-meet-labels : (t u : Tuple) (l : Label) → containsOf (meetOf t u) l ≡ (containsOf t l && containsOf u l)
+unfolding containsOf meetOf
+tuple-meet-labels t u l =
+    let r : ℕ = regionOf (l .hierarchy) in
+    ap (λ (e : RegionRange). containsAt e l) (range-of (λ k. meetAt (rangeAt t k) (rangeAt u k)) r (region-within (l .hierarchy) .known))
+    ∙ meet-at-labels (rangeAt t r) (rangeAt u r) l
+
+-- ---- what a tuple contains, by the region
+
+pub record Contains (e : RegionRange) (l : Label) : Type 0 where
+  pub present : e .present ≡ true
+  pub range : Range.containsOf (e .range) l ≡ true
+
+contains-at-parts : (e : RegionRange) (l : Label) → containsAt e l ≡ true → Contains e l
+unfolding containsAt
+contains-at-parts e l h = record { present = first-true (e .present) _ h; range = second-true (e .present) (Range.containsOf (e .range) l) h }
+
+contained : (t : Tuple) (l : Label) → containsOf t l ≡ true → Contains (rangeAt t (regionOf (l .hierarchy))) l
+unfolding containsOf
+contained t l h = contains-at-parts (rangeAt t (regionOf (l .hierarchy))) l h
+
+-- of a label of region r
+contained-in : (t : Tuple) (l : Label) (r : ℕ) → regionOf (l .hierarchy) ≡ r → containsOf t l ≡ true → Contains (rangeAt t r) l
+contained-in t l r e h = subst (λ (k : ℕ). Contains (rangeAt t k) l) e (contained t l h)
+
+contains-in : (t : Tuple) (l : Label) (r : ℕ) → regionOf (l .hierarchy) ≡ r → Contains (rangeAt t r) l → containsOf t l ≡ true
+unfolding containsOf containsAt
+contains-in t l r e c = rw e (both (c .present) (c .range))
+
+-- ---- within exactly if each label of the one is in the other
+
+pub record Inside (e f : RegionRange) : Type 0 where
+  pub present : f .present ≡ true
+  pub high : dominatesOf (f .range .high) (e .range .high) ≡ true
+  pub low : dominatesOf (e .range .low) (f .range .low) ≡ true
+
+within-inside : (e f : RegionRange) → e .present ≡ true → withinAt e f ≡ true → Inside e f
+unfolding withinAt
+within-inside e f p h =
+    let a : Bool = f .present in
+    let b : Bool = dominatesOf (f .range .high) (e .range .high) in
+    let d : Bool = dominatesOf (e .range .low) (f .range .low) in
+    let t : (a && b && d) ≡ true = rw p at h in
+    record { present = first-true a b (first-true (a && b) d t); high = second-true a b (first-true (a && b) d t); low = second-true (a && b) d t }
+
+inside-within : (e f : RegionRange) → (e .present ≡ true → Inside e f) → withinAt e f ≡ true
+unfolding withinAt
+inside-within e f h = go (e .present) refl
+  where
+    go : (p : Bool) → e .present ≡ p
+        → (not p || (f .present && dominatesOf (f .range .high) (e .range .high) && dominatesOf (e .range .low) (f .range .low))) ≡ true
+    go false q = refl
+    go true q = let i = h q in both (both (i .present) (i .high)) (i .low)
+
+-- each label of t that is a value of the code's type is in u
+abbrev pub EachLabel : Tuple → Tuple → Type 0
+EachLabel t u = (l : Label) → Typed l → Label.validOf l ≡ true → containsOf t l ≡ true → containsOf u l ≡ true
+
+within-labels : (t u : Tuple) → withinOf t u ≡ true → (l : Label) → containsOf t l ≡ true → containsOf u l ≡ true
+unfolding withinOf
+within-labels t u w l h =
+    let r : ℕ = regionOf (l .hierarchy) in
+    let a = contained t l h in
+    let c = contains-parts (rangeAt t r .range) l (a .range) in
+    let i = within-inside (rangeAt t r) (rangeAt u r) (a .present) (every-at (λ k. withinAt (rangeAt t k) (rangeAt u k)) regions r w (region-within (l .hierarchy) .known)) in
+    contains-in u l r refl (record {
+      present = i .present;
+      range = parts-contain (rangeAt u r .range) l (record {
+        below = dominates-trans (rangeAt u r .range .high) (rangeAt t r .range .high) l (i .high) (c .below);
+        above = dominates-trans l (rangeAt t r .range .low) (rangeAt u r .range .low) (c .above) (i .low);
+      });
+    })
+
+labels-inside : (t u : Tuple) → TypedTuple t → validOf t ≡ true → EachLabel t u → (r : ℕ) → r < regions → rangeAt t r .present ≡ true → Inside (rangeAt t r) (rangeAt u r)
+unfolding validOf
+labels-inside t u s v h r k p =
+    let e : RegionRange = rangeAt t r in
+    let placed = valid-placed r e p (every-at (λ j. validAt j (rangeAt t j)) regions r v k) in
+    let parts = valid-parts (e .range) (placed .valid) in
+    let low = contained-in u (e .range .low) r (placed .low) (h (e .range .low) (s .range r k .low) (parts .low)
+    (contains-in t (e .range .low) r (placed .low) (record { present = p; range = contains-low (e .range) (placed .valid) }))) in
+    let high = contained-in u (e .range .high) r (placed .high) (h (e .range .high) (s .range r k .high) (parts .high)
+    (contains-in t (e .range .high) r (placed .high) (record { present = p; range = contains-high (e .range) (placed .valid) }))) in
+    record {
+      present = low .present;
+      high = contains-parts (rangeAt u r .range) (e .range .high) (high .range) .below;
+      low = contains-parts (rangeAt u r .range) (e .range .low) (low .range) .above;
+    }
+
+pub within-exact : (t u : Tuple) → TypedTuple t → validOf t ≡ true → (withinOf t u ≡ true) ↔ EachLabel t u
+unfolding withinOf
+within-exact t u s v =
+    (λ w l tl vl h. within-labels t u w l h, λ h. every-all (λ r. withinAt (rangeAt t r) (rangeAt u r)) regions (λ r k. inside-within (rangeAt t r) (rangeAt u r) (labels-inside t u s v h r k)))
+
+-- ---- empty exactly if there is no label
+
+pub empty-exact : (t : Tuple) → TypedTuple t → validOf t ≡ true → (emptyOf t ≡ true) ↔ ((l : Label) → Typed l → Label.validOf l ≡ true → containsOf t l ≡ true → ⊥)
+unfolding emptyOf validOf
+empty-exact t s v = (there, λ h. every-all (λ r. not (rangeAt t r .present)) regions (back h))
+  where
+    there : emptyOf t ≡ true → (l : Label) → Typed l → Label.validOf l ≡ true → containsOf t l ≡ true → ⊥
+    there w l tl vl h =
+        let n = every-at (λ r. not (rangeAt t r .present)) regions (regionOf (l .hierarchy)) w (region-within (l .hierarchy) .known) in
+        true≢false (sym n ∙ ap not (contained t l h .present))
+
+    back : ((l : Label) → Typed l → Label.validOf l ≡ true → containsOf t l ≡ true → ⊥) → (r : ℕ) → r < regions → not (rangeAt t r .present) ≡ true
+    back h r k = ap not (not-so (rangeAt t r .present) (λ p.
+        let placed = valid-placed r (rangeAt t r) p (every-at (λ j. validAt j (rangeAt t j)) regions r v k) in
+        h (rangeAt t r .range .low) (s .range r k .low) (valid-parts (rangeAt t r .range) (placed .valid) .low)
+        (contains-in t (rangeAt t r .range .low) r (placed .low) (record { present = p; range = contains-low (rangeAt t r .range) (placed .valid) }))))
+
+-- ---- the tuple of a range
+
+-- whether x has hierarchies in region r
+abbrev reaches : Range → ℕ → Bool
+reaches x r = leb (firstOf r) (x .high .hierarchy) && leb (x .low .hierarchy) (lastOf r)
+
+abbrev partOf : Range → ℕ → Range
+partOf x r = rangeOf (labelOf (max (x .low .hierarchy) (firstOf r)) (x .low .categories)) (labelOf (min (x .high .hierarchy) (lastOf r)) (x .high .categories))
+
+region-order : (r : ℕ) → r < regions → (firstOf r ≤ lastOf r) × (lastOf r ≤ 199)
+region-order zero h = (omega arith, omega arith)
+region-order (suc zero) h = (omega arith, omega arith)
+region-order (suc (suc zero)) h = (omega arith, omega arith)
+region-order (suc (suc (suc r))) h = absurd (omega arith)
+
+part-placed : (x : Range) (r : ℕ) → r < regions → Range.validOf x ≡ true → reaches x r ≡ true → Placed r (partOf x r)
+part-placed x r k v h =
+    let a = leb-true (firstOf r) (x .high .hierarchy) (first-true (leb (firstOf r) (x .high .hierarchy)) _ h) in
+    let b = leb-true (x .low .hierarchy) (lastOf r) (second-true (leb (firstOf r) (x .high .hierarchy)) _ h) in
+    let o = region-order r k in
+    let parts = valid-parts x v in
+    let d = dominates-parts (x .high) (x .low) (parts .order) in
+    let dh = d .hierarchy in
+    record {
+      valid = parts-valid (partOf x r) (record {
+        low = hierarchy-valid (partOf x r .low) (omega arith);
+        high = hierarchy-valid (partOf x r .high) (omega arith);
+        order = parts-dominate (partOf x r .high) (partOf x r .low) (record { hierarchy = omega arith; categories = d .categories });
+      });
+      low = region-unique r _ k (omega arith) (omega arith);
+      high = region-unique r _ k (omega arith) (omega arith);
+    }
+
+cut-valid : (x : Range) (r : ℕ) → r < regions → Range.validOf x ≡ true → validAt r (cutOf x r) ≡ true
+unfolding cutOf
+cut-valid x r k v = go (reaches x r) refl
+  where
+    go : (p : Bool) → reaches x r ≡ p → validAt r (cond p (present (partOf x r)) absent) ≡ true
+    go true h = placed-valid r (partOf x r) (part-placed x r k v h)
+    go false h = absent-valid r
+
+pub split-valid : (x : Range) → Range.validOf x ≡ true → validOf (splitOf x) ≡ true
+unfolding validOf splitOf
+split-valid x v =
+    every-all (λ r. validAt r (rangeAt (splitOf x) r)) regions (λ r k. ap (validAt r) (range-of (cutOf x) r k) ∙ cut-valid x r k v)
+
+-- a label of region r is in x exactly if it is in x's part there
+cut-labels : (x : Range) (l : Label) (r : ℕ) → firstOf r ≤ l .hierarchy → (Range.containsOf x l ≡ true → l .hierarchy ≤ lastOf r) → containsAt (cutOf x r) l ≡ Range.containsOf x l
+unfolding cutOf containsAt
+cut-labels x l r f k = go (reaches x r) refl
+  where
+    go : (p : Bool) → reaches x r ≡ p → containsAt (cond p (present (partOf x r)) absent) l ≡ Range.containsOf x l
+    go true h = same-truth (Range.containsOf (partOf x r) l) (Range.containsOf x l) there back
+      where
+        there : Range.containsOf (partOf x r) l ≡ true → Range.containsOf x l ≡ true
+        there c =
+            let s = contains-parts (partOf x r) l c in
+            let a = dominates-parts (partOf x r .high) l (s .below) in
+            let b = dominates-parts l (partOf x r .low) (s .above) in
+            let ah = a .hierarchy in
+            let bh = b .hierarchy in
+            parts-contain x l (record {
+              below = parts-dominate (x .high) l (record { hierarchy = omega arith; categories = a .categories });
+              above = parts-dominate l (x .low) (record { hierarchy = omega arith; categories = b .categories });
+            })
+
+        back : Range.containsOf x l ≡ true → Range.containsOf (partOf x r) l ≡ true
+        back c =
+            let last = k c in
+            let s = contains-parts x l c in
+            let a = dominates-parts (x .high) l (s .below) in
+            let b = dominates-parts l (x .low) (s .above) in
+            let ah = a .hierarchy in
+            let bh = b .hierarchy in
+            parts-contain (partOf x r) l (record {
+              below = parts-dominate (partOf x r .high) l (record { hierarchy = omega arith; categories = a .categories });
+              above = parts-dominate l (partOf x r .low) (record { hierarchy = omega arith; categories = b .categories });
+            })
+    go false h =
+        sym (not-so (Range.containsOf x l) (λ c.
+        let last = k c in
+        let s = contains-parts x l c in
+        let a = dominates-parts (x .high) l (s .below) .hierarchy in
+        let b = dominates-parts l (x .low) (s .above) .hierarchy in
+        true≢false (sym (both (le-leb (firstOf r) (x .high .hierarchy) (omega arith)) (le-leb (x .low .hierarchy) (lastOf r) (omega arith))) ∙ h)))
+
+-- a label in a valid range is valid
+contained-hierarchy : (x : Range) (l : Label) → Range.validOf x ≡ true → Range.containsOf x l ≡ true → l .hierarchy ≤ 199
+contained-hierarchy x l v c =
+    let top = valid-hierarchy (x .high) (valid-parts x v .high) in
+    let a = dominates-parts (x .high) l (contains-parts x l c .below) .hierarchy in
+    omega arith
+
+pub split-labels : (x : Range) (l : Label) → Range.validOf x ≡ true → containsOf (splitOf x) l ≡ Range.containsOf x l
+unfolding splitOf containsOf
+split-labels x l v =
+    let r : ℕ = regionOf (l .hierarchy) in
+    let w = region-within (l .hierarchy) in
+    ap (λ (e : RegionRange). containsAt e l) (range-of (cutOf x) r (w .known)) ∙ cut-labels x l r (w .first) (λ c. w .last (contained-hierarchy x l v c))

@@ -1,0 +1,68 @@
+use borrow.Author.Needs.{needs}
+use mathlib.Core.Path.{_≡_, refl, ap}
+use Prim.Native.Nat.{_≤_, _-_}
+use native.Mathlib.Omega.{arith}
+use lib.ListN.{length, take}
+use Rattle.label.specs.Index.{tabulate}
+use Rattle.label.specs.Region.{regions}
+use Rattle.label.proofs.IndexLaws.{fill-done, fill-step}
+use Rattle.range.specs.Tuple.{cutOf, splitOf, tupleOf}
+use Rattle.range.proofs.tuple.cut_regions.Statement.{statement}
+use Rattle.range.proofs.tuple.cut_regions.Tie as tie
+
+abbrev Inv-loop : tie.InvT-loop
+Inv-loop x ranges₀ r₀ ranges r = (r ≤ regions) × (length ranges ≡ regions) × (take r ranges ≡ tabulate (cutOf x) r)
+
+abbrev μ-loop : tie.MeasureT-loop
+μ-loop x ranges₀ r₀ ranges r = regions - r
+
+no-range-requires : tie.Need-no-range-requires Inv-loop μ-loop
+no-range-requires c κs = search needs
+
+loop-holds : tie.Need-loop-holds Inv-loop μ-loop
+unfolding tabulate
+loop-holds c = (search needs, refl, refl)
+
+cut-requires : tie.Need-cut-requires Inv-loop μ-loop
+cut-requires c κs = search needs
+
+mul-ranges : tie.Need-mul-ranges Inv-loop μ-loop
+mul-ranges c = search needs
+
+array-set-from-ranges : tie.Need-array-set-from-ranges Inv-loop μ-loop
+array-set-from-ranges c = search needs
+
+add-r : tie.Need-add-r Inv-loop μ-loop
+add-r c = search needs
+
+loop-less : tie.Need-loop-less Inv-loop μ-loop
+loop-less c = search needs
+
+loop-again : tie.Need-loop-again Inv-loop μ-loop
+loop-again c =
+    let h = c .before .before in
+    let x = h .before .before .args .x in
+    (search needs, search needs, fill-step (cutOf x) (h .loop .ranges) (h .loop .r) _ (search needs) (c .cut .ensures) (h .loop .inv .2))
+
+returns : tie.Need-returns Inv-loop μ-loop
+unfolding splitOf
+returns c =
+    let h = c .before in
+    let x = h .before .before .args .x in
+    ap tupleOf (fill-done (cutOf x) (h .loop .ranges) (h .loop .r) regions (omega arith) (search needs) (h .loop .inv .2))
+
+pub cut-regions-spec : {M : Type 1} → statement M
+cut-regions-spec =
+    tie.close
+    (tie.spec
+    Inv-loop
+    μ-loop
+    no-range-requires
+    loop-holds
+    cut-requires
+    mul-ranges
+    array-set-from-ranges
+    add-r
+    loop-less
+    loop-again
+    returns)

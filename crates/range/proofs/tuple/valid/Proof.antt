@@ -1,0 +1,73 @@
+use borrow.Author.Needs.{needs}
+use mathlib.Core.Bool.{true}
+use mathlib.Core.Path.{_≡_, refl, sym, _∙_}
+use Prim.Native.Nat.{_≤_, _-_}
+use native.Mathlib.Omega.{arith}
+use borrow.Author.Tests.{not-false, not-true}
+use Rattle.label.specs.Index.{every}
+use Rattle.label.specs.Region.{regions}
+use Rattle.label.proofs.IndexLaws.{every-done, every-next, every-stop}
+use Rattle.range.specs.Tuple.{validOf, rangeAt, validAt}
+use Rattle.range.proofs.tuple.valid.Statement.{statement}
+use Rattle.range.proofs.tuple.valid.Tie as tie
+
+abbrev Inv-loop : tie.InvT-loop
+Inv-loop t r₀ r = (r ≤ regions) × (every (λ k. validAt k (rangeAt t k)) r ≡ true)
+
+abbrev μ-loop : tie.MeasureT-loop
+μ-loop t r₀ r = regions - r
+
+loop-holds : tie.Need-loop-holds Inv-loop μ-loop
+unfolding every
+loop-holds c = (search needs, refl)
+
+mul-valid-at : tie.Need-mul-valid-at Inv-loop μ-loop
+mul-valid-at c = search needs
+
+element-copy-out-valid-at : tie.Need-element-copy-out-valid-at Inv-loop μ-loop
+element-copy-out-valid-at c = search needs
+
+valid-at-requires : tie.Need-valid-at-requires Inv-loop μ-loop
+valid-at-requires c κs = search needs
+
+returns : tie.Need-returns Inv-loop μ-loop
+unfolding validOf
+returns c =
+    let h = c .before .before .before .before in
+    let t = h .before .args .t1 in
+    sym (every-stop (λ k. validAt k (rangeAt t k)) regions (h .loop .r) (omega arith) (sym (c .before .valid-at .ensures) ∙ not-true _ (c .if1 .taken)))
+
+add-r : tie.Need-add-r Inv-loop μ-loop
+add-r c = search needs
+
+loop-less : tie.Need-loop-less Inv-loop μ-loop
+loop-less c = search needs
+
+loop-again : tie.Need-loop-again Inv-loop μ-loop
+loop-again c =
+    let h = c .before .before .before .before in
+    let t = h .before .args .t1 in
+    (search needs, every-next (λ k. validAt k (rangeAt t k)) (h .loop .r) (h .loop .inv .1) (sym (c .before .valid-at .ensures) ∙ not-false _ (c .if1 .left)))
+
+returns-2 : tie.Need-returns-2 Inv-loop μ-loop
+unfolding validOf
+returns-2 c =
+    let h = c .before in
+    let t = h .before .args .t1 in
+    sym (every-done (λ k. validAt k (rangeAt t k)) regions (h .loop .r) (omega arith) (h .loop .inv .1))
+
+pub valid-spec : {M : Type 1} → statement M
+valid-spec =
+    tie.close
+    (tie.spec
+    Inv-loop
+    μ-loop
+    loop-holds
+    mul-valid-at
+    element-copy-out-valid-at
+    valid-at-requires
+    returns
+    add-r
+    loop-less
+    loop-again
+    returns-2)

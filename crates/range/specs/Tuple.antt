@@ -1,0 +1,93 @@
+-- Document 01, "Ranges and tuples": tuples, by the region's number. Assumes nothing.
+use mathlib.Core.Bool.{Bool, true, false, cond, not, _&&_, _||_}
+use mathlib.Core.List.{List, []}
+use mathlib.Core.Path.{_≡_}
+use Prim.Native.Nat.{ℕ, _<_, max, min}
+use lib.Dec.{eqb, leb}
+use lib.ListN.{getD, length, replicate}
+use Rattle.label.specs.Index.{every, tabulate}
+use Rattle.label.specs.Label
+use Rattle.label.specs.Region.{firstOf, lastOf, regionOf, regions}
+use Rattle.label.specs.declared.Label.{Label}
+use Rattle.range.specs.Range
+use Rattle.range.specs.declared.Range.{Range}
+use Rattle.range.specs.declared.tuple.RegionRange.{RegionRange}
+use Rattle.range.specs.declared.tuple.Tuple.{Tuple}
+
+abbrev pub tupleOf : List RegionRange → Tuple
+tupleOf ranges = record { ranges = ranges }
+
+abbrev pub present : Range → RegionRange
+present x = record { present = true; range = x }
+
+-- no range: zeros are held there
+abbrev pub absent : RegionRange
+absent = record { present = false; range = Range.zeroRange }
+
+abbrev pub emptyTuple : Tuple
+emptyTuple = tupleOf (replicate regions absent)
+
+-- what stands past the end of an array of these: no region has it
+abbrev noRegion : RegionRange
+noRegion = record { present = false; range = Range.rangeOf (Label.labelOf 0 []) (Label.labelOf 0 []) }
+
+-- the range of region r
+abbrev pub rangeAt : Tuple → ℕ → RegionRange
+rangeAt t r = getD (t .ranges) r noRegion
+
+-- one valid range with both ends in region r, or no range and zeros
+unfoldable pub validAt : ℕ → RegionRange → Bool
+validAt r e =
+    cond (e .present)
+    (Range.validOf (e .range) && eqb (regionOf (e .range .low .hierarchy)) r && eqb (regionOf (e .range .high .hierarchy)) r)
+    (Label.equalOf (e .range .low) Label.zeroLabel && Label.equalOf (e .range .high) Label.zeroLabel)
+
+unfoldable pub validOf : Tuple → Bool
+validOf t = every (λ r. validAt r (rangeAt t r)) regions
+
+unfoldable pub containsAt : RegionRange → Label → Bool
+containsAt e l = e .present && Range.containsOf (e .range) l
+
+-- the range of l's region is there and contains l
+unfoldable pub containsOf : Tuple → Label → Bool
+containsOf t l = containsAt (rangeAt t (regionOf (l .hierarchy))) l
+
+-- whether there is no range
+unfoldable pub emptyOf : Tuple → Bool
+emptyOf t = every (λ r. not (rangeAt t r .present)) regions
+
+-- the meet of two ranges where both are there and some label is in both
+unfoldable pub meetAt : RegionRange → RegionRange → RegionRange
+meetAt e f =
+    cond (e .present && f .present && Range.commonOf (e .range) (f .range)) (present (Range.meetOf (e .range) (f .range))) absent
+
+-- the meet goes region by region
+unfoldable pub meetOf : Tuple → Tuple → Tuple
+meetOf t u = tupleOf (tabulate (λ r. meetAt (rangeAt t r) (rangeAt u r)) regions)
+
+unfoldable pub withinAt : RegionRange → RegionRange → Bool
+withinAt e f =
+    not (e .present)
+    || (f .present && Label.dominatesOf (f .range .high) (e .range .high) && Label.dominatesOf (e .range .low) (f .range .low))
+
+-- each label of t is in u (that it says this is the law `within-exact`)
+unfoldable pub withinOf : Tuple → Tuple → Bool
+withinOf t u = every (λ r. withinAt (rangeAt t r) (rangeAt u r)) regions
+
+-- the part of x in region r: its hierarchies cut at the region's borders, both ends' categories kept
+unfoldable pub cutOf : Range → ℕ → RegionRange
+cutOf x r =
+    cond (leb (firstOf r) (x .high .hierarchy) && leb (x .low .hierarchy) (lastOf r))
+    (present
+    (Range.rangeOf (Label.labelOf (max (x .low .hierarchy) (firstOf r)) (x .low .categories))
+    (Label.labelOf (min (x .high .hierarchy) (lastOf r)) (x .high .categories))))
+    absent
+
+-- the tuple of a range
+unfoldable pub splitOf : Range → Tuple
+splitOf x = tupleOf (tabulate (cutOf x) regions)
+
+-- what every value of the code's type Tuple has (`range::tuple::typed` proves it)
+pub record TypedTuple (t : Tuple) : Type 0 where
+  pub length-is : length (t .ranges) ≡ regions
+  pub range : (r : ℕ) → r < regions → Range.TypedRange (rangeAt t r .range)
