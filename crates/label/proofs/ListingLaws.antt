@@ -185,7 +185,7 @@ first-least ws c (suc n) k e = go (has ws c) refl e (first-least ws (suc c) n k)
         let r = ih f in
         record { above = omega arith; there = r .there; none-before = λ j a b. ⊎-elim (λ u. ap (has ws) (sym u) ∙ h) (λ u. r .none-before j u b) (eq-or-lt-of-le a) }
 
-pub next-least : (ws : List ℕ) (c k : ℕ) → nextOf ws c ≡ some k → Least ws c k
+next-least : (ws : List ℕ) (c k : ℕ) → nextOf ws c ≡ some k → Least ws c k
 unfolding nextOf
 next-least ws c k e = first-least ws c _ k e
 
@@ -205,6 +205,18 @@ next-none ws c = (λ e k a. ⊎-elim (has-beyond ws k) (λ l. first-none ws c _ 
     go : ((k : ℕ) → c ≤ k → has ws k ≡ false) → (o : Option ℕ) → nextOf ws c ≡ o → nextOf ws c ≡ none
     go h none e = e
     go h (some k) e = let r = next-least ws c k e in absurd (true≢false (sym (r .there) ∙ h k (r .above)))
+
+-- the least is what the search answers
+pub next-exact : (ws : List ℕ) (c k : ℕ) → (nextOf ws c ≡ some k) ↔ Least ws c k
+next-exact ws c k = (next-least ws c k, λ l. go l (nextOf ws c) refl)
+  where
+    go : Least ws c k → (o : Option ℕ) → nextOf ws c ≡ o → nextOf ws c ≡ some k
+    go l none e = absurd (true≢false (sym (l .there) ∙ next-none ws c .0 e k (l .above)))
+    go l (some m) e = e ∙ ap some (only (next-least ws c m e))
+      where
+        only : Least ws c m → m ≡ k
+        only r = ⊎-elim (λ u. ⊎-elim (λ v. v) (λ v. absurd (true≢false (sym (r .there) ∙ l .none-before m (r .above) v))) (eq-or-lt-of-le u))
+            (λ u. absurd (true≢false (sym (l .there) ∙ r .none-before k (l .above) u))) (le-or-lt m k)
 
 -- ---- the listing is strictly rising and holds exactly the members
 

@@ -1,11 +1,14 @@
 -- Each valid hierarchy lies in exactly one region. Assumes nothing.
-use mathlib.Core.Bool.{Bool, true, false, cond}
-use mathlib.Core.Path.{_≡_, refl, sym, ap, _∙_}
+use mathlib.Core.Bool.{Bool, true, false, cond, _&&_}
+use mathlib.Core.Path.{_≡_, refl}
 use Prim.Native.Nat.{ℕ, zero, suc, _≤_, _<_}
 use native.Mathlib.Omega.{arith}
 use lib.Dec.{leb, lit<}
 use borrow.Author.Tests.{leb-true, leb-false, le-leb, lt-leb}
+use Rattle.label.specs.Index.{every}
 use Rattle.label.specs.Region.{firstOf, lastOf, regionOf, regions}
+use Rattle.label.proofs.BoolLaws.{first-true, second-true}
+use Rattle.label.proofs.IndexLaws.{every-at}
 
 pub record Within (r h : ℕ) : Type 0 where
   pub known : r < regions
@@ -32,3 +35,13 @@ region-unique zero h k f l = simp (le-leb h 19 l)
 region-unique (suc zero) h k f l = simp (lt-leb h 19 f, le-leb h 179 l)
 region-unique (suc (suc zero)) h k f l = let g : 19 < h = omega arith in simp (lt-leb h 19 g, lt-leb h 179 f)
 region-unique (suc (suc (suc r))) h k f l = absurd (omega arith)
+
+-- a region's borders are in order, and valid: a test over the whole table, and the rule at each region
+borders : every (λ r. leb (firstOf r) (lastOf r) && leb (lastOf r) 199) regions ≡ true
+unfolding every
+borders = refl
+
+pub region-order : (r : ℕ) → r < regions → (firstOf r ≤ lastOf r) × (lastOf r ≤ 199)
+region-order r h =
+    let e = every-at (λ k. leb (firstOf k) (lastOf k) && leb (lastOf k) 199) regions r borders h in
+    (leb-true (firstOf r) (lastOf r) (first-true _ _ e), leb-true (lastOf r) 199 (second-true (leb (firstOf r) (lastOf r)) _ e))

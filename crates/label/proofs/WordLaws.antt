@@ -1,7 +1,7 @@
 -- The laws of category sets, over lists of words of any length. Assumes nothing.
 use mathlib.Core.Bool.{Bool, true, false, _&&_, _||_, true≢false}
 use mathlib.Core.List.{List}
-use mathlib.Core.Logic.{⊎-elim}
+use mathlib.Core.Logic.{_↔_, ⊎-elim}
 use mathlib.Core.Path.{_≡_, refl, sym, ap, ap₂, _∙_}
 use Prim.Native.Nat.{ℕ, _+_, _*_, _/_, _%_, _^_, _≤_, _<_, max}
 use native.Mathlib.Omega.{arith}
@@ -80,21 +80,18 @@ bits-include a b h =
     every-all (λ k. eqb (bitAnd (wordAt a k) (wordAt b k)) (wordAt b k)) (max (length a) (length b))
     (λ i l. eq-eqb (bitAnd (wordAt a i) (wordAt b i)) (wordAt b i) (among-bits (wordAt a i) (wordAt b i) (h i)))
 
--- ---- inclusion is of every category
+-- ---- inclusion is exactly that every category is included
 
-pub includes-every : (a b : List ℕ) → includesOf a b ≡ true → (c : ℕ) → has b c ≡ true → has a c ≡ true
+-- where b's words are of 64 bits, as those of every value of the code's type are
+pub includes-exact : (a b : List ℕ) → ((i : ℕ) → wordAt b i < 2 ^ 64) → (includesOf a b ≡ true) ↔ ((c : ℕ) → has b c ≡ true → has a c ≡ true)
 unfolding has
-includes-every a b e c h = includes-bits a b e (c / 64) (c % 64) h
-
--- where b's words are of 64 bits, as every value of the code's type has them
-pub every-includes : (a b : List ℕ) → ((i : ℕ) → wordAt b i < 2 ^ 64) → ((c : ℕ) → has b c ≡ true → has a c ≡ true) → includesOf a b ≡ true
-every-includes a b w h = bits-include a b (λ i j e. ⊎-elim (above i j e) (within i j e) (le-or-lt 64 j))
+includes-exact a b w = (λ e c h. includes-bits a b e (c / 64) (c % 64) h, λ h. bits-include a b (λ i j e. ⊎-elim (above i j e) (within h i j e) (le-or-lt 64 j)))
   where
     above : (i j : ℕ) → bit (wordAt b i) j ≡ true → 64 ≤ j → bit (wordAt a i) j ≡ true
     above i j e l = absurd (true≢false (sym e ∙ bit-high (wordAt b i) 64 j (w i) l))
 
-    within : (i j : ℕ) → bit (wordAt b i) j ≡ true → j < 64 → bit (wordAt a i) j ≡ true
-    within i j e l = sym (has-at a i j l) ∙ h (i * 64 + j) (has-at b i j l ∙ e)
+    within : ((c : ℕ) → has b c ≡ true → has a c ≡ true) → (i j : ℕ) → bit (wordAt b i) j ≡ true → j < 64 → bit (wordAt a i) j ≡ true
+    within h i j e l = sym (has-at a i j l) ∙ h (i * 64 + j) (has-at b i j l ∙ e)
 
 -- ---- inclusion is a partial order
 

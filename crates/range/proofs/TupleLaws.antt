@@ -15,7 +15,7 @@ use Rattle.label.specs.declared.Label.{Label}
 use Rattle.label.proofs.BoolLaws.{both, either, first-true, not-so, or-first, or-second, same-truth, second-true}
 use Rattle.label.proofs.IndexLaws.{every-all, every-at, tabulate-at}
 use Rattle.label.proofs.LabelLaws.{dominates-parts, dominates-trans, equal-exact, hierarchy-valid, parts-dominate, valid-hierarchy}
-use Rattle.label.proofs.RegionLaws.{region-unique, region-within}
+use Rattle.label.proofs.RegionLaws.{region-order, region-unique, region-within}
 use Rattle.range.specs.Range
 use Rattle.range.specs.Range.{TypedRange, commonOf, rangeOf}
 use Rattle.range.specs.Tuple.{TypedTuple, absent, containsAt, containsOf, cutOf, emptyOf, meetAt, meetOf, present, rangeAt, splitOf, tupleOf, validAt, validOf, withinAt, withinOf}
@@ -236,12 +236,6 @@ reaches x r = leb (firstOf r) (x .high .hierarchy) && leb (x .low .hierarchy) (l
 
 abbrev partOf : Range → ℕ → Range
 partOf x r = rangeOf (labelOf (max (x .low .hierarchy) (firstOf r)) (x .low .categories)) (labelOf (min (x .high .hierarchy) (lastOf r)) (x .high .categories))
-
-region-order : (r : ℕ) → r < regions → (firstOf r ≤ lastOf r) × (lastOf r ≤ 199)
-region-order zero h = (omega arith, omega arith)
-region-order (suc zero) h = (omega arith, omega arith)
-region-order (suc (suc zero)) h = (omega arith, omega arith)
-region-order (suc (suc (suc r))) h = absurd (omega arith)
 
 part-placed : (x : Range) (r : ℕ) → r < regions → Range.validOf x ≡ true → reaches x r ≡ true → Placed r (partOf x r)
 part-placed x r k v h =

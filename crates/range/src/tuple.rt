@@ -264,7 +264,7 @@ pub fn split(x: Range) -> TupleAnswer
     }
 }
 
-// Every tuple has what its type says: so has each of its ranges.
+// Every tuple has what its type says: the range of a region has it,
 fn typed_at(t: Tuple, r: usize)
     requires { ⌜ r < regions ⌝ }
     ensures { λ _. ⌜ ranges.TypedRange (rangeAt t r .range) ⌝ }
@@ -273,10 +273,13 @@ fn typed_at(t: Tuple, r: usize)
     crate::typed(e.range);
 }
 
+// and so has the whole.
 fn typed(t: Tuple)
     ensures { λ _. ⌜ TypedTuple t ⌝ }
 {
-    typed_at(t, 0);
-    typed_at(t, 1);
-    typed_at(t, 2);
+    let mut r = 0;
+    while r < REGIONS {
+        typed_at(t, r);
+        r += 1;
+    }
 }
