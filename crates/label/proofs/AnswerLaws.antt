@@ -1,7 +1,7 @@
 -- Checks that are passed and that are not, and outcomes beside a value. Assumes nothing.
 use mathlib.Core.Bool.{Bool, true, false}
-use mathlib.Core.Option.{Option, none}
-use mathlib.Core.Path.{_≡_, refl, sym, ap, _∙_}
+use mathlib.Core.Option.{none}
+use mathlib.Core.Path.{_≡_, sym, ap, _∙_}
 use Prim.Native.Nat.{ℕ}
 use Rattle.label.specs.Answer.{Answer, Answered, granted, refused, refusedBy, require}
 use Rattle.label.specs.declared.errno.Errno.{Errno}

@@ -1,8 +1,8 @@
 -- The bits of `&` and `|`, and that a number is known by its bits: with these a law of `&` and `|` is a law of `&&` and `||`.
 -- Assumes nothing.
-use mathlib.Core.Bool.{Bool, true, false, _&&_, _||_, true≢false}
+use mathlib.Core.Bool.{true, false, _&&_, _||_, true≢false}
 use mathlib.Core.Path.{_≡_, refl, sym, ap, _∙_}
-use Prim.Native.Nat.{ℕ, zero, suc, _+_, _*_, _/_, _%_, _^_, _≤_, _<_, suc-le-suc}
+use Prim.Native.Nat.{ℕ, zero, suc, _+_, _/_, _%_, _^_, _≤_, _<_}
 use native.Mathlib.Nat.{zero-lt-suc, lt-of-lt-of-le, div-div-eq-div-mul, div-lt-iff-lt-mul, div-one, div-eq-of-lt, mod-lt, pow-suc, pow-succ'}
 use native.Mathlib.Omega.{arith}
 use lib.Arith.{lt-one}

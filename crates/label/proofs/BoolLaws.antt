@@ -1,7 +1,7 @@
 -- Tests that are true together, or of which one is. Assumes nothing.
-use mathlib.Core.Bool.{Bool, true, false, _&&_, _||_, true≢false}
+use mathlib.Core.Bool.{Bool, true, false, _&&_, _||_, and-false, true≢false}
 use mathlib.Core.Logic.{_⊎_, inl, inr}
-use mathlib.Core.Path.{_≡_, refl, sym, _∙_}
+use mathlib.Core.Path.{_≡_, refl, sym}
 
 pub both : {p q : Bool} → p ≡ true → q ≡ true → (p && q) ≡ true
 both {p} {q} e f = rw (e, f)
@@ -35,3 +35,8 @@ same-truth false false f g = refl
 pub not-so : (p : Bool) → (p ≡ true → ⊥) → p ≡ false
 not-so true h = absurd (h refl)
 not-so false h = refl
+
+pub swap-and : (p q r s : Bool) → ((p && q) && (r && s)) ≡ ((p && r) && (q && s))
+swap-and true q true s = refl
+swap-and true q false s = and-false q
+swap-and false q r s = refl

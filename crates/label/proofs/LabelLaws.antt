@@ -1,20 +1,19 @@
 -- The laws of labels, with a set of any number of words. Assumes nothing.
-use mathlib.Core.Bool.{Bool, true, false, _&&_, and-assoc, and-comm}
-use mathlib.Core.List.{List}
+use mathlib.Core.Bool.{Bool, true, _&&_}
 use mathlib.Core.Logic.{_↔_}
-use mathlib.Core.Path.{_≡_, refl, sym, ap, ap₂, _∙_, subst}
-use Prim.Native.Nat.{ℕ, _≤_, _<_, _^_, max, min}
+use mathlib.Core.Path.{_≡_, refl, sym, ap₂, _∙_, subst}
+use Prim.Native.Nat.{ℕ, _≤_, max, min}
 use native.Mathlib.Nat.{le-refl}
 use native.Mathlib.Omega.{arith}
-use lib.Bits.{and-lt, or-lt}
+use lib.Bits.{or-lt}
 use lib.Dec.{eqb, leb}
 use lib.ListN.{length}
 use borrow.Author.Tests.{eqb-true, eq-eqb, leb-true, le-leb}
 use Rattle.label.specs.Label.{Typed, dominatesOf, equalOf, labelOf, lowerBoundOf, upperBoundOf, validOf}
-use Rattle.label.specs.Words.{includesOf, intersectionOf, sameOf, unionOf, wordAt, words}
+use Rattle.label.specs.Words.{includesOf, wordAt}
 use Rattle.label.specs.declared.Label.{Label}
-use Rattle.label.proofs.BoolLaws.{both, first-true, second-true, same-truth}
-use Rattle.label.proofs.WordLaws.{includes-antisym, includes-intersection, includes-refl, includes-trans, intersection-at, intersection-length, same-equal, same-refl, union-at, union-includes, union-length}
+use Rattle.label.proofs.BoolLaws.{both, first-true, same-truth, second-true, swap-and}
+use Rattle.label.proofs.WordLaws.{includes-antisym, includes-intersection, includes-refl, includes-trans, same-equal, same-refl, union-at, union-includes, union-length}
 
 -- ---- dominance, by its two parts
 
@@ -61,47 +60,53 @@ equal-exact a b l = (λ e. ap₂ labelOf (eqb-true (a .hierarchy) (b .hierarchy)
     back : a ≡ b → equalOf a b ≡ true
     back e = subst (λ (x : Label). equalOf a x ≡ true) e (both (eq-eqb (a .hierarchy) (a .hierarchy) refl) (same-refl (a .categories)))
 
+-- ---- the bounds' hierarchies
+
+pub upper-hierarchy : (a b : Label) → upperBoundOf a b .hierarchy ≡ max (a .hierarchy) (b .hierarchy)
+unfolding upperBoundOf
+upper-hierarchy a b = refl
+
+pub lower-hierarchy : (a b : Label) → lowerBoundOf a b .hierarchy ≡ min (a .hierarchy) (b .hierarchy)
+unfolding lowerBoundOf
+lower-hierarchy a b = refl
+
 -- ---- the upper bound is the least that dominates both, the lower bound the greatest that both dominate
 
-pub dominates-upper : (a b c : Label) → dominatesOf c (upperBoundOf a b) ≡ (dominatesOf c a && dominatesOf c b)
-unfolding upperBoundOf
-dominates-upper a b c = same-truth (dominatesOf c (upperBoundOf a b)) (dominatesOf c a && dominatesOf c b) there back
+max-leb : (a b c : ℕ) → leb (max a b) c ≡ (leb a c && leb b c)
+max-leb a b c = same-truth (leb (max a b) c) (leb a c && leb b c) there back
   where
-    set-law : includesOf (c .categories) (unionOf (a .categories) (b .categories)) ≡ (includesOf (c .categories) (a .categories) && includesOf (c .categories) (b .categories))
-    set-law = union-includes (a .categories) (b .categories) (c .categories)
+    there : leb (max a b) c ≡ true → (leb a c && leb b c) ≡ true
+    there e = let h = leb-true (max a b) c e in both (le-leb a c (omega arith)) (le-leb b c (omega arith))
 
-    there : dominatesOf c (upperBoundOf a b) ≡ true → (dominatesOf c a && dominatesOf c b) ≡ true
-    there e =
-        let p = dominates-parts c (upperBoundOf a b) e in
-        let s = sym set-law ∙ p .categories in
-        both (parts-dominate c a (record { hierarchy = omega arith; categories = first-true _ _ s }))
-        (parts-dominate c b (record { hierarchy = omega arith; categories = second-true (includesOf (c .categories) (a .categories)) _ s }))
-
-    back : (dominatesOf c a && dominatesOf c b) ≡ true → dominatesOf c (upperBoundOf a b) ≡ true
+    back : (leb a c && leb b c) ≡ true → leb (max a b) c ≡ true
     back e =
-        let p = dominates-parts c a (first-true (dominatesOf c a) (dominatesOf c b) e) in
-        let q = dominates-parts c b (second-true (dominatesOf c a) (dominatesOf c b) e) in
-        parts-dominate c (upperBoundOf a b) (record { hierarchy = omega arith; categories = set-law ∙ both (p .categories) (q .categories) })
+        let h = leb-true a c (first-true (leb a c) (leb b c) e) in
+        let k = leb-true b c (second-true (leb a c) (leb b c) e) in
+        le-leb (max a b) c (omega arith)
+
+leb-min : (a b c : ℕ) → leb c (min a b) ≡ (leb c a && leb c b)
+leb-min a b c = same-truth (leb c (min a b)) (leb c a && leb c b) there back
+  where
+    there : leb c (min a b) ≡ true → (leb c a && leb c b) ≡ true
+    there e = let h = leb-true c (min a b) e in both (le-leb c a (omega arith)) (le-leb c b (omega arith))
+
+    back : (leb c a && leb c b) ≡ true → leb c (min a b) ≡ true
+    back e =
+        let h = leb-true c a (first-true (leb c a) (leb c b) e) in
+        let k = leb-true c b (second-true (leb c a) (leb c b) e) in
+        le-leb c (min a b) (omega arith)
+
+pub dominates-upper : (a b c : Label) → dominatesOf c (upperBoundOf a b) ≡ (dominatesOf c a && dominatesOf c b)
+unfolding dominatesOf upperBoundOf
+dominates-upper a b c =
+    ap₂ _&&_ (max-leb (a .hierarchy) (b .hierarchy) (c .hierarchy)) (union-includes (a .categories) (b .categories) (c .categories))
+    ∙ swap-and (leb (a .hierarchy) (c .hierarchy)) (leb (b .hierarchy) (c .hierarchy)) (includesOf (c .categories) (a .categories)) (includesOf (c .categories) (b .categories))
 
 pub lower-dominates : (a b c : Label) → dominatesOf (lowerBoundOf a b) c ≡ (dominatesOf a c && dominatesOf b c)
-unfolding lowerBoundOf
-lower-dominates a b c = same-truth (dominatesOf (lowerBoundOf a b) c) (dominatesOf a c && dominatesOf b c) there back
-  where
-    set-law : includesOf (intersectionOf (a .categories) (b .categories)) (c .categories) ≡ (includesOf (a .categories) (c .categories) && includesOf (b .categories) (c .categories))
-    set-law = includes-intersection (a .categories) (b .categories) (c .categories)
-
-    there : dominatesOf (lowerBoundOf a b) c ≡ true → (dominatesOf a c && dominatesOf b c) ≡ true
-    there e =
-        let p = dominates-parts (lowerBoundOf a b) c e in
-        let s = sym set-law ∙ p .categories in
-        both (parts-dominate a c (record { hierarchy = omega arith; categories = first-true _ _ s }))
-        (parts-dominate b c (record { hierarchy = omega arith; categories = second-true (includesOf (a .categories) (c .categories)) _ s }))
-
-    back : (dominatesOf a c && dominatesOf b c) ≡ true → dominatesOf (lowerBoundOf a b) c ≡ true
-    back e =
-        let p = dominates-parts a c (first-true (dominatesOf a c) (dominatesOf b c) e) in
-        let q = dominates-parts b c (second-true (dominatesOf a c) (dominatesOf b c) e) in
-        parts-dominate (lowerBoundOf a b) c (record { hierarchy = omega arith; categories = set-law ∙ both (p .categories) (q .categories) })
+unfolding dominatesOf lowerBoundOf
+lower-dominates a b c =
+    ap₂ _&&_ (leb-min (a .hierarchy) (b .hierarchy) (c .hierarchy)) (includes-intersection (a .categories) (b .categories) (c .categories))
+    ∙ swap-and (leb (c .hierarchy) (a .hierarchy)) (leb (c .hierarchy) (b .hierarchy)) (includesOf (a .categories) (c .categories)) (includesOf (b .categories) (c .categories))
 
 pub record LeastUpper (a b u : Label) : Type 0 where
   pub left : dominatesOf u a ≡ true
@@ -136,17 +141,15 @@ unfolding validOf
 hierarchy-valid a h = le-leb (a .hierarchy) 199 h
 
 pub upper-valid : (a b : Label) → validOf a ≡ true → validOf b ≡ true → validOf (upperBoundOf a b) ≡ true
-unfolding upperBoundOf
 upper-valid a b e f =
     let p = valid-hierarchy a e in
     let q = valid-hierarchy b f in
-    hierarchy-valid (upperBoundOf a b) (omega arith)
+    hierarchy-valid (upperBoundOf a b) (omega (arith, upper-hierarchy a b))
 
 pub lower-valid : (a b : Label) → validOf a ≡ true → validOf b ≡ true → validOf (lowerBoundOf a b) ≡ true
-unfolding lowerBoundOf
 lower-valid a b e f =
     let p = valid-hierarchy a e in
-    hierarchy-valid (lowerBoundOf a b) (omega arith)
+    hierarchy-valid (lowerBoundOf a b) (omega (arith, lower-hierarchy a b))
 
 pub upper-typed : (a b : Label) → Typed a → Typed b → Typed (upperBoundOf a b)
 unfolding upperBoundOf

@@ -4,7 +4,7 @@ use mathlib.Core.Bool.{Bool, true, false, true≢false}
 use mathlib.Core.List.{List, [], _∷_, _++_, List·Memᴰ, List·Memᴰ·head, List·Memᴰ·not-nil, List·Memᴰ·eq-of-singleton, List·Memᴰ·append-cases, Memᴰ·append-left, Memᴰ·append-right}
 use mathlib.Core.Logic.{⊎-elim, _⊎_, inl, inr, _↔_}
 use mathlib.Core.Option.{Option, none, some}
-use mathlib.Core.Path.{_≡_, refl, sym, ap, ap₂, _∙_, subst}
+use mathlib.Core.Path.{_≡_, refl, sym, ap, ap₂, _∙_}
 use Prim.Native.Nat.{ℕ, zero, suc, _+_, _-_, _*_, _/_, _%_, _^_, _≤_, _<_, suc-le-suc}
 use native.Mathlib.Nat.{zero-lt-suc, le-refl, lt-of-not-le, lt-of-le-of-lt, eq-or-lt-of-le, le-of-suc-le-suc, add-zero, zero-add, add-suc, suc-add, add-assoc, add-comm, mod-lt, mod-one, mod-eq-of-lt, div-lt-iff-lt-mul, pow-suc}
 use native.Mathlib.Numerals.{one-add}
@@ -16,7 +16,6 @@ use lib.Pow.{pow-pos, mod-pow-add, shr-shr, shr-le}
 use lib.Seq.{getD-at}
 use Rattle.label.specs.Words.{bit, firstFrom, firstOr, has, listedIf, membersBelow, membersOf, nextOf, wordAt}
 use Rattle.label.proofs.BitLaws.{bit-high, bit-suc, bit-zero}
-use Rattle.label.proofs.BoolLaws.{not-so}
 use Rattle.label.proofs.IndexLaws.{le-or-lt}
 use Rattle.label.proofs.WordLaws.{has-at}
 

@@ -1,18 +1,16 @@
 -- The laws of category sets, over lists of words of any length. Assumes nothing.
-use mathlib.Core.Bool.{Bool, true, false, _&&_, _||_, true≢false}
+use mathlib.Core.Bool.{true, _&&_, _||_, true≢false}
 use mathlib.Core.List.{List}
 use mathlib.Core.Logic.{_↔_, ⊎-elim}
 use mathlib.Core.Path.{_≡_, refl, sym, ap, ap₂, _∙_}
 use Prim.Native.Nat.{ℕ, _+_, _*_, _/_, _%_, _^_, _≤_, _<_, max}
 use native.Mathlib.Omega.{arith}
 use lib.Arith.{digits-div, digits-mod}
-use lib.Bits.{bitAnd, bitOr, and-lt, or-lt}
-use lib.Dec.{eqb}
+use lib.Bits.{bitAnd, bitOr}
 use lib.ListN.{length, getD, List·getD-eq-default}
 use lib.Seq.{ext-getD}
 use borrow.Author.Tests.{eqb-true, eq-eqb}
-use Rattle.label.specs.Index.{every, tabulate}
-use Rattle.label.specs.Words.{bit, has, includesOf, intersectionOf, sameOf, unionOf, wordAt}
+use Rattle.label.specs.Words.{andAt, bit, has, includesAt, includesOf, intersectionOf, orAt, sameAt, sameOf, unionOf, wordAt}
 use Rattle.label.proofs.BitLaws.{among-bits, bit-and, bit-high, bit-or, bits-among, bits-equal}
 use Rattle.label.proofs.BoolLaws.{both, either, first-true, or-first, or-second, same-truth, second-true}
 use Rattle.label.proofs.IndexLaws.{every-all, every-at, le-or-lt, tabulate-length, tabulate-pad}
@@ -27,23 +25,19 @@ module _ (a b : List ℕ) (i : ℕ) (past : max (length a) (length b) ≤ i) whe
   zero-right : wordAt b i ≡ 0
   zero-right = List·getD-eq-default b 0 (omega arith)
 
-pub union-at : (a b : List ℕ) (i : ℕ) → wordAt (unionOf a b) i ≡ bitOr (wordAt a i) (wordAt b i)
+pub union-at : (a b : List ℕ) (i : ℕ) → wordAt (unionOf a b) i ≡ orAt a b i
 unfolding unionOf
 union-at a b i =
-    tabulate-pad (λ k. bitOr (wordAt a k) (wordAt b k)) (max (length a) (length b)) i (λ p. ap₂ bitOr (zero-left a b i p) (zero-right a b i p))
+    tabulate-pad (orAt a b) (max (length a) (length b)) i (λ p. ap₂ bitOr (zero-left a b i p) (zero-right a b i p))
 
-pub intersection-at : (a b : List ℕ) (i : ℕ) → wordAt (intersectionOf a b) i ≡ bitAnd (wordAt a i) (wordAt b i)
+pub intersection-at : (a b : List ℕ) (i : ℕ) → wordAt (intersectionOf a b) i ≡ andAt a b i
 unfolding intersectionOf
 intersection-at a b i =
-    tabulate-pad (λ k. bitAnd (wordAt a k) (wordAt b k)) (max (length a) (length b)) i (λ p. ap₂ bitAnd (zero-left a b i p) (zero-right a b i p))
+    tabulate-pad (andAt a b) (max (length a) (length b)) i (λ p. ap₂ bitAnd (zero-left a b i p) (zero-right a b i p))
 
 pub union-length : (a b : List ℕ) → length (unionOf a b) ≡ max (length a) (length b)
 unfolding unionOf
-union-length a b = tabulate-length (λ k. bitOr (wordAt a k) (wordAt b k)) (max (length a) (length b))
-
-pub intersection-length : (a b : List ℕ) → length (intersectionOf a b) ≡ max (length a) (length b)
-unfolding intersectionOf
-intersection-length a b = tabulate-length (λ k. bitAnd (wordAt a k) (wordAt b k)) (max (length a) (length b))
+union-length a b = tabulate-length (orAt a b) (max (length a) (length b))
 
 -- ---- membership
 
@@ -71,14 +65,14 @@ includes-bits a b e i j h = ⊎-elim past within (le-or-lt (max (length a) (leng
     within : i < max (length a) (length b) → bit (wordAt a i) j ≡ true
     within l =
         bits-among (wordAt a i) (wordAt b i)
-        (eqb-true (bitAnd (wordAt a i) (wordAt b i)) (wordAt b i)
-        (every-at (λ k. eqb (bitAnd (wordAt a k) (wordAt b k)) (wordAt b k)) (max (length a) (length b)) i e l)) j h
+        (eqb-true (andAt a b i) (wordAt b i)
+        (every-at (includesAt a b) (max (length a) (length b)) i e l)) j h
 
 pub bits-include : (a b : List ℕ) → ((i j : ℕ) → bit (wordAt b i) j ≡ true → bit (wordAt a i) j ≡ true) → includesOf a b ≡ true
 unfolding includesOf
 bits-include a b h =
-    every-all (λ k. eqb (bitAnd (wordAt a k) (wordAt b k)) (wordAt b k)) (max (length a) (length b))
-    (λ i l. eq-eqb (bitAnd (wordAt a i) (wordAt b i)) (wordAt b i) (among-bits (wordAt a i) (wordAt b i) (h i)))
+    every-all (includesAt a b) (max (length a) (length b))
+    (λ i l. eq-eqb (andAt a b i) (wordAt b i) (among-bits (wordAt a i) (wordAt b i) (h i)))
 
 -- ---- inclusion is exactly that every category is included
 
@@ -145,8 +139,8 @@ pub same-equal : (a b : List ℕ) → length a ≡ length b → sameOf a b ≡ t
 unfolding sameOf
 same-equal a b l e =
     ext-getD 0 a b l
-    (λ i h. eqb-true (wordAt a i) (wordAt b i) (every-at (λ k. eqb (wordAt a k) (wordAt b k)) (max (length a) (length b)) i e (omega arith)))
+    (λ i h. eqb-true (wordAt a i) (wordAt b i) (every-at (sameAt a b) (max (length a) (length b)) i e (omega arith)))
 
 pub same-refl : (a : List ℕ) → sameOf a a ≡ true
 unfolding sameOf
-same-refl a = every-all (λ k. eqb (wordAt a k) (wordAt a k)) (max (length a) (length a)) (λ i l. eq-eqb (wordAt a i) (wordAt a i) refl)
+same-refl a = every-all (sameAt a a) (max (length a) (length a)) (λ i l. eq-eqb (wordAt a i) (wordAt a i) refl)

@@ -26,19 +26,32 @@ bit x k = eqb (x / 2 ^ k % 2) 1
 unfoldable pub has : List ℕ → ℕ → Bool
 has ws c = bit (wordAt ws (c / 64)) (c % 64)
 
+abbrev pub orAt : List ℕ → List ℕ → ℕ → ℕ
+orAt a b i = bitOr (wordAt a i) (wordAt b i)
+
 unfoldable pub unionOf : List ℕ → List ℕ → List ℕ
-unionOf a b = tabulate (λ i. bitOr (wordAt a i) (wordAt b i)) (max (length a) (length b))
+unionOf a b = tabulate (orAt a b) (max (length a) (length b))
+
+abbrev pub andAt : List ℕ → List ℕ → ℕ → ℕ
+andAt a b i = bitAnd (wordAt a i) (wordAt b i)
 
 unfoldable pub intersectionOf : List ℕ → List ℕ → List ℕ
-intersectionOf a b = tabulate (λ i. bitAnd (wordAt a i) (wordAt b i)) (max (length a) (length b))
+intersectionOf a b = tabulate (andAt a b) (max (length a) (length b))
+
+-- whether each bit of b's word i is set in a's
+abbrev pub includesAt : List ℕ → List ℕ → ℕ → Bool
+includesAt a b i = eqb (andAt a b i) (wordAt b i)
 
 -- whether each category of b is in a
 unfoldable pub includesOf : List ℕ → List ℕ → Bool
-includesOf a b = every (λ i. eqb (bitAnd (wordAt a i) (wordAt b i)) (wordAt b i)) (max (length a) (length b))
+includesOf a b = every (includesAt a b) (max (length a) (length b))
+
+abbrev pub sameAt : List ℕ → List ℕ → ℕ → Bool
+sameAt a b i = eqb (wordAt a i) (wordAt b i)
 
 -- whether a and b have the same words
 unfoldable pub sameOf : List ℕ → List ℕ → Bool
-sameOf a b = every (λ i. eqb (wordAt a i) (wordAt b i)) (max (length a) (length b))
+sameOf a b = every (sameAt a b) (max (length a) (length b))
 
 -- the listing l with c at its end, where c is to be listed
 abbrev pub listedIf : Bool → ℕ → List ℕ → List ℕ

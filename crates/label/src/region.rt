@@ -1,9 +1,14 @@
-// Regions: each is a run of hierarchy numbers, and is known by its number in document 01's order: 0 virus prevention, 1 user,
-// 2 administrative.
+// Regions: each is a run of hierarchy numbers, and is known by its number in document 01's order.
 ghost use mathlib.Core.Path.{_≡_};
 ghost use Rattle.label.specs.Region.{firstOf, lastOf, regionOf};
 
 pub const REGIONS: usize = 3;
+
+pub const VIRUS_PREVENTION: usize = 0;
+
+pub const USER: usize = 1;
+
+pub const ADMINISTRATIVE: usize = 2;
 
 const FIRST: [u8; REGIONS] = [0, 20, 180];
 
@@ -27,11 +32,11 @@ pub fn last(region: usize) -> u8
 pub fn of_hierarchy(hierarchy: u8) -> usize
     ensures { λ r. ⌜ r ≡ regionOf hierarchy ⌝ }
 {
-    if hierarchy <= LAST[0] {
-        return 0;
+    if hierarchy <= LAST[VIRUS_PREVENTION] {
+        return VIRUS_PREVENTION;
     }
-    if hierarchy <= LAST[1] {
-        return 1;
+    if hierarchy <= LAST[USER] {
+        return USER;
     }
-    2
+    ADMINISTRATIVE
 }

@@ -1,16 +1,16 @@
 -- The laws of ranges. Assumes nothing.
-use mathlib.Core.Bool.{Bool, true, false, _&&_, and-comm, true≢false}
+use mathlib.Core.Bool.{Bool, true, false, _&&_, true≢false}
 use mathlib.Core.Logic.{_↔_}
 use mathlib.Core.Option.{none}
-use mathlib.Core.Path.{_≡_, refl, sym, ap, ap₂, _∙_, subst}
+use mathlib.Core.Path.{_≡_, refl, sym, ap₂, _∙_, subst}
 use Prim.Native.Nat.{ℕ}
 use native.Mathlib.Omega.{arith}
-use Rattle.label.specs.Answer.{Answer, granted, refused, require}
+use Rattle.label.specs.Answer.{granted, refused, require}
 use Rattle.label.specs.Label
 use Rattle.label.specs.Label.{Typed, dominatesOf}
 use Rattle.label.specs.declared.Label.{Label}
 use Rattle.label.proofs.AnswerLaws.{passed, stopped}
-use Rattle.label.proofs.BoolLaws.{both, first-true, not-so, second-true}
+use Rattle.label.proofs.BoolLaws.{both, first-true, second-true, swap-and}
 use Rattle.label.proofs.LabelLaws.{dominates-refl, dominates-trans, dominates-upper, lower-dominates, lower-valid, upper-typed, upper-valid}
 use Rattle.range.specs.Range.{TypedRange, commonOf, containsOf, meetAnswerOf, meetOf, validOf}
 use Rattle.range.specs.declared.Range.{Range}
@@ -55,11 +55,6 @@ pub contains-high : (x : Range) → validOf x ≡ true → containsOf x (x .high
 contains-high x e = parts-contain x (x .high) (record { below = dominates-refl (x .high); above = valid-parts x e .order })
 
 -- ---- the meet holds exactly the common labels
-
-swap-and : (a b c d : Bool) → ((a && b) && (c && d)) ≡ ((a && c) && (b && d))
-swap-and true b true d = refl
-swap-and true b false d = and-comm b false
-swap-and false b c d = refl
 
 pub meet-labels : (x y : Range) (l : Label) → containsOf (meetOf x y) l ≡ (containsOf x l && containsOf y l)
 unfolding containsOf meetOf

@@ -1,23 +1,22 @@
 -- The laws of tuples, by the region's number. Assumes nothing.
 use mathlib.Core.Bool.{Bool, true, false, cond, not, _&&_, _||_, and-false, true≢false}
-use mathlib.Core.List.{List}
-use mathlib.Core.Logic.{_↔_, ⊎-elim}
-use mathlib.Core.Path.{_≡_, refl, sym, ap, ap₂, _∙_, subst}
-use Prim.Native.Nat.{ℕ, zero, suc, _≤_, _<_, max, min}
+use mathlib.Core.Logic.{_↔_}
+use mathlib.Core.Path.{_≡_, refl, sym, ap, _∙_, subst}
+use Prim.Native.Nat.{ℕ, _≤_, _<_, max, min}
 use native.Mathlib.Omega.{arith}
 use lib.Dec.{eqb, leb}
 use borrow.Author.Tests.{eqb-true, eq-eqb, leb-true, le-leb}
-use Rattle.label.specs.Index.{every, tabulate}
+use Rattle.label.specs.Index.{tabulate}
 use Rattle.label.specs.Label
-use Rattle.label.specs.Label.{Typed, dominatesOf, equalOf, labelOf, lowerBoundOf, upperBoundOf, zeroLabel}
+use Rattle.label.specs.Label.{Typed, dominatesOf, labelOf, zeroLabel}
 use Rattle.label.specs.Region.{firstOf, lastOf, regionOf, regions}
 use Rattle.label.specs.declared.Label.{Label}
-use Rattle.label.proofs.BoolLaws.{both, either, first-true, not-so, or-first, or-second, same-truth, second-true}
+use Rattle.label.proofs.BoolLaws.{both, first-true, not-so, same-truth, second-true}
 use Rattle.label.proofs.IndexLaws.{every-all, every-at, tabulate-at}
-use Rattle.label.proofs.LabelLaws.{dominates-parts, dominates-trans, equal-exact, hierarchy-valid, parts-dominate, valid-hierarchy}
+use Rattle.label.proofs.LabelLaws.{dominates-parts, dominates-trans, equal-exact, hierarchy-valid, lower-hierarchy, parts-dominate, upper-hierarchy, valid-hierarchy}
 use Rattle.label.proofs.RegionLaws.{region-order, region-unique, region-within}
 use Rattle.range.specs.Range
-use Rattle.range.specs.Range.{TypedRange, commonOf, rangeOf}
+use Rattle.range.specs.Range.{commonOf, rangeOf}
 use Rattle.range.specs.Tuple.{TypedTuple, absent, containsAt, containsOf, cutOf, emptyOf, meetAt, meetOf, present, rangeAt, splitOf, tupleOf, validAt, validOf, withinAt, withinOf}
 use Rattle.range.specs.declared.Range.{Range}
 use Rattle.range.specs.declared.tuple.RegionRange.{RegionRange}
@@ -71,15 +70,18 @@ between r h a b ea eb v l u =
 -- ---- the meet of valid tuples is valid
 
 meet-placed : (r : ℕ) (x y : Range) → Placed r x → Placed r y → commonOf x y ≡ true → Placed r (Range.meetOf x y)
-unfolding Range.meetOf upperBoundOf lowerBoundOf
+unfolding Range.meetOf
 meet-placed r x y p q e =
+    let m : Range = Range.meetOf x y in
     let v = meet-valid x y (p .valid) (q .valid) e in
-    let order : Range.meetOf x y .low .hierarchy ≤ Range.meetOf x y .high .hierarchy = dominates-parts (Range.meetOf x y .high) (Range.meetOf x y .low) (valid-parts (Range.meetOf x y) v .order) .hierarchy in
+    let order = dominates-parts (m .high) (m .low) (valid-parts m v .order) .hierarchy in
+    let low = upper-hierarchy (x .low) (y .low) in
+    let high = lower-hierarchy (x .high) (y .high) in
     let top = valid-hierarchy (x .high) (valid-parts x (p .valid) .high) in
     record {
       valid = v;
-      low = between r _ (x .low .hierarchy) (x .high .hierarchy) (p .low) (p .high) top (omega arith) (omega arith);
-      high = between r _ (x .low .hierarchy) (x .high .hierarchy) (p .low) (p .high) top (omega arith) (omega arith);
+      low = between r (m .low .hierarchy) (x .low .hierarchy) (x .high .hierarchy) (p .low) (p .high) top (omega arith) (omega arith);
+      high = between r (m .high .hierarchy) (x .low .hierarchy) (x .high .hierarchy) (p .low) (p .high) top (omega arith) (omega arith);
     }
 
 meet-at-valid : (r : ℕ) (e f : RegionRange) → validAt r e ≡ true → validAt r f ≡ true → validAt r (meetAt e f) ≡ true

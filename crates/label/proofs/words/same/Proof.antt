@@ -3,17 +3,16 @@ use mathlib.Core.Bool.{true}
 use mathlib.Core.Path.{_≡_, refl, sym}
 use Prim.Native.Nat.{_≤_, _-_, max}
 use native.Mathlib.Omega.{arith}
-use lib.Dec.{eqb}
 use lib.ListN.{length}
 use borrow.Author.Tests.{eq-eqb, ne-eqb}
 use Rattle.label.specs.Index.{every}
-use Rattle.label.specs.Words.{sameOf, wordAt, words}
+use Rattle.label.specs.Words.{sameAt, sameOf, wordAt, words}
 use Rattle.label.proofs.IndexLaws.{every-done, every-next, every-stop}
 use Rattle.label.proofs.words.same.Statement.{statement}
 use Rattle.label.proofs.words.same.Tie as tie
 
 abbrev Inv-loop : tie.InvT-loop
-Inv-loop a b i₀ i = (i ≤ words) × (every (λ k. eqb (wordAt a k) (wordAt b k)) i ≡ true)
+Inv-loop a b i₀ i = (i ≤ words) × (every (sameAt a b) i ≡ true)
 
 abbrev μ-loop : tie.MeasureT-loop
 μ-loop a b i₀ i = words - i
@@ -42,7 +41,7 @@ returns c =
     let b = h .before .args .t2 in
     let i = h .loop .i in
     let la : length a ≡ words = search needs in
-    sym (every-stop (λ k. eqb (wordAt a k) (wordAt b k)) (max (length a) (length b)) i (omega arith) (ne-eqb (wordAt a i) (wordAt b i) (c .if1 .taken)))
+    sym (every-stop (sameAt a b) (max (length a) (length b)) i (omega arith) (ne-eqb (wordAt a i) (wordAt b i) (c .if1 .taken)))
 
 add-i : tie.Need-add-i Inv-loop μ-loop
 add-i c = search needs
@@ -56,7 +55,7 @@ loop-again c =
     let a = h .before .args .t1 in
     let b = h .before .args .t2 in
     let i = h .loop .i in
-    (search needs, every-next (λ k. eqb (wordAt a k) (wordAt b k)) i (h .loop .inv .1) (eq-eqb (wordAt a i) (wordAt b i) (c .if1 .left)))
+    (search needs, every-next (sameAt a b) i (h .loop .inv .1) (eq-eqb (wordAt a i) (wordAt b i) (c .if1 .left)))
 
 returns-2 : tie.Need-returns-2 Inv-loop μ-loop
 unfolding sameOf
@@ -66,7 +65,7 @@ returns-2 c =
     let b = h .before .args .t2 in
     let la : length a ≡ words = search needs in
     let lb : length b ≡ words = search needs in
-    sym (every-done (λ k. eqb (wordAt a k) (wordAt b k)) (max (length a) (length b)) (h .loop .i) (omega arith) (h .loop .inv .1))
+    sym (every-done (sameAt a b) (max (length a) (length b)) (h .loop .i) (omega arith) (h .loop .inv .1))
 
 pub same-spec : {M : Type 1} → statement M
 same-spec =
