@@ -34,7 +34,7 @@ unfolding dominatesOf includesOf every
 incomparable-down = refl
 
 incomparable-equal : equalOf (exampleOf 20 (2 ∷ [])) (exampleOf 30 []) ≡ false
-unfolding equalOf sameOf every
+unfolding equalOf sameOf includesOf every
 incomparable-equal = refl
 
 -- the bounds of (20,{1}) and (30,{2}) are (30,{1,2}) and (20,{})

@@ -2,7 +2,7 @@
 use mathlib.Core.Bool.{true, _&&_, _||_, true≢false}
 use mathlib.Core.List.{List}
 use mathlib.Core.Logic.{_↔_, ⊎-elim}
-use mathlib.Core.Path.{_≡_, refl, sym, ap, ap₂, _∙_}
+use mathlib.Core.Path.{_≡_, sym, ap, ap₂, _∙_}
 use Prim.Native.Nat.{ℕ, _+_, _*_, _/_, _%_, _^_, _≤_, _<_, max}
 use native.Mathlib.Omega.{arith}
 use lib.Arith.{digits-div, digits-mod}
@@ -10,7 +10,7 @@ use lib.Bits.{bitAnd, bitOr}
 use lib.ListN.{length, getD, List·getD-eq-default}
 use lib.Seq.{ext-getD}
 use borrow.Author.Tests.{eqb-true, eq-eqb}
-use Rattle.label.specs.Words.{andAt, bit, has, includesAt, includesOf, intersectionOf, orAt, sameAt, sameOf, unionOf, wordAt}
+use Rattle.label.specs.Words.{andAt, bit, has, includesAt, includesOf, intersectionOf, orAt, sameOf, unionOf, wordAt}
 use Rattle.label.proofs.BitLaws.{among-bits, bit-and, bit-high, bit-or, bits-among, bits-equal}
 use Rattle.label.proofs.BoolLaws.{both, either, first-true, or-first, or-second, same-truth, second-true}
 use Rattle.label.proofs.IndexLaws.{every-all, every-at, le-or-lt, tabulate-length, tabulate-pad}
@@ -137,10 +137,8 @@ includes-intersection a b c = same-truth (includesOf (intersectionOf a b) c) (in
 
 pub same-equal : (a b : List ℕ) → length a ≡ length b → sameOf a b ≡ true → a ≡ b
 unfolding sameOf
-same-equal a b l e =
-    ext-getD 0 a b l
-    (λ i h. eqb-true (wordAt a i) (wordAt b i) (every-at (sameAt a b) (max (length a) (length b)) i e (omega arith)))
+same-equal a b l e = includes-antisym a b l (first-true (includesOf a b) (includesOf b a) e) (second-true (includesOf a b) (includesOf b a) e)
 
 pub same-refl : (a : List ℕ) → sameOf a a ≡ true
 unfolding sameOf
-same-refl a = every-all (sameAt a a) (max (length a) (length a)) (λ i l. eq-eqb (wordAt a i) (wordAt a i) refl)
+same-refl a = both (includes-refl a) (includes-refl a)

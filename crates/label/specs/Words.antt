@@ -1,6 +1,6 @@
 -- Document 01, "Labels and regions": a set of categories as a list of words of 64 bits, of any length. A list is taken as going on with
 -- words that are 0. Assumes nothing.
-use mathlib.Core.Bool.{Bool, true, false}
+use mathlib.Core.Bool.{Bool, true, false, _&&_}
 use mathlib.Core.List.{List, [], _∷_, _++_}
 use mathlib.Core.Option.{Option, none, some}
 use Prim.Native.Nat.{ℕ, zero, suc, _*_, _-_, _/_, _%_, _^_, max}
@@ -46,12 +46,9 @@ includesAt a b i = eqb (andAt a b i) (wordAt b i)
 unfoldable pub includesOf : List ℕ → List ℕ → Bool
 includesOf a b = every (includesAt a b) (max (length a) (length b))
 
-abbrev pub sameAt : List ℕ → List ℕ → ℕ → Bool
-sameAt a b i = eqb (wordAt a i) (wordAt b i)
-
--- whether a and b have the same words
+-- whether a and b have the same categories: each includes the other
 unfoldable pub sameOf : List ℕ → List ℕ → Bool
-sameOf a b = every (sameAt a b) (max (length a) (length b))
+sameOf a b = includesOf a b && includesOf b a
 
 -- the listing l with c at its end, where c is to be listed
 abbrev pub listedIf : Bool → ℕ → List ℕ → List ℕ

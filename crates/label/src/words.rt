@@ -56,14 +56,7 @@ pub fn includes(a: [u64; WORDS], b: [u64; WORDS]) -> bool
 pub fn same(a: [u64; WORDS], b: [u64; WORDS]) -> bool
     ensures { λ r. ⌜ r ≡ sameOf a b ⌝ }
 {
-    let mut i = 0;
-    while i < WORDS {
-        if a[i] != b[i] {
-            return false;
-        }
-        i += 1;
-    }
-    true
+    includes(a, b) & includes(b, a)
 }
 
 // How many categories a has.

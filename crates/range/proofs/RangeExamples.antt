@@ -34,7 +34,7 @@ splitting = refl
 
 -- an empty tuple is valid
 empty-valid : tuples.validOf emptyTuple ≡ true
-unfolding tuples.validOf validAt equalOf sameOf every
+unfolding tuples.validOf validAt equalOf sameOf includesOf every
 empty-valid = refl
 
 empty-empty : emptyOf emptyTuple ≡ true
@@ -46,7 +46,7 @@ abbrev heldTuple : Tuple
 heldTuple = tupleOf (record { present = false; range = rangeOf (exampleOf 0 (5 ∷ [])) (exampleOf 0 []) } ∷ absent ∷ absent ∷ [])
 
 held-invalid : tuples.validOf heldTuple ≡ false
-unfolding tuples.validOf validAt equalOf sameOf every
+unfolding tuples.validOf validAt equalOf sameOf includesOf every
 held-invalid = refl
 
 -- both ends in that region: a user range may not stand for virus prevention

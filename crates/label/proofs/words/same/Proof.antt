@@ -1,85 +1,17 @@
 use borrow.Author.Needs.{needs}
-use mathlib.Core.Bool.{true}
-use mathlib.Core.Path.{_≡_, refl, sym}
-use Prim.Native.Nat.{_≤_, _-_, max}
-use native.Mathlib.Omega.{arith}
-use lib.ListN.{length}
-use borrow.Author.Tests.{eq-eqb, ne-eqb}
-use Rattle.label.specs.Index.{every}
-use Rattle.label.specs.Words.{sameAt, sameOf, wordAt, words}
-use Rattle.label.proofs.IndexLaws.{every-done, every-next, every-stop}
+use Rattle.label.specs.Words.{sameOf}
 use Rattle.label.proofs.words.same.Statement.{statement}
 use Rattle.label.proofs.words.same.Tie as tie
 
-abbrev Inv-loop : tie.InvT-loop
-Inv-loop a b i₀ i = (i ≤ words) × (every (sameAt a b) i ≡ true)
+includes-requires : tie.Need-includes-requires
+includes-requires c κs = search needs
 
-abbrev μ-loop : tie.MeasureT-loop
-μ-loop a b i₀ i = words - i
+includes-requires-2 : tie.Need-includes-requires-2
+includes-requires-2 c κs = search needs
 
-loop-holds : tie.Need-loop-holds Inv-loop μ-loop
-unfolding every
-loop-holds c = (search needs, refl)
-
-mul-if1 : tie.Need-mul-if1 Inv-loop μ-loop
-mul-if1 c = search needs
-
-array-read-if1 : tie.Need-array-read-if1 Inv-loop μ-loop
-array-read-if1 c = search needs
-
-mul-if1-2 : tie.Need-mul-if1-2 Inv-loop μ-loop
-mul-if1-2 c = search needs
-
-array-read-if1-2 : tie.Need-array-read-if1-2 Inv-loop μ-loop
-array-read-if1-2 c = search needs
-
-returns : tie.Need-returns Inv-loop μ-loop
+returns : tie.Need-returns
 unfolding sameOf
-returns c =
-    let h = c .before .before in
-    let a = h .before .args .t1 in
-    let b = h .before .args .t2 in
-    let i = h .loop .i in
-    let la : length a ≡ words = search needs in
-    sym (every-stop (sameAt a b) (max (length a) (length b)) i (omega arith) (ne-eqb (wordAt a i) (wordAt b i) (c .if1 .taken)))
-
-add-i : tie.Need-add-i Inv-loop μ-loop
-add-i c = search needs
-
-loop-less : tie.Need-loop-less Inv-loop μ-loop
-loop-less c = search needs
-
-loop-again : tie.Need-loop-again Inv-loop μ-loop
-loop-again c =
-    let h = c .before .before in
-    let a = h .before .args .t1 in
-    let b = h .before .args .t2 in
-    let i = h .loop .i in
-    (search needs, every-next (sameAt a b) i (h .loop .inv .1) (eq-eqb (wordAt a i) (wordAt b i) (c .if1 .left)))
-
-returns-2 : tie.Need-returns-2 Inv-loop μ-loop
-unfolding sameOf
-returns-2 c =
-    let h = c .before in
-    let a = h .before .args .t1 in
-    let b = h .before .args .t2 in
-    let la : length a ≡ words = search needs in
-    let lb : length b ≡ words = search needs in
-    sym (every-done (sameAt a b) (max (length a) (length b)) (h .loop .i) (omega arith) (h .loop .inv .1))
+returns c = cc
 
 pub same-spec : {M : Type 1} → statement M
-same-spec =
-    tie.close
-    (tie.spec
-    Inv-loop
-    μ-loop
-    loop-holds
-    mul-if1
-    array-read-if1
-    mul-if1-2
-    array-read-if1-2
-    returns
-    add-i
-    loop-less
-    loop-again
-    returns-2)
+same-spec = tie.close (tie.spec includes-requires includes-requires-2 returns)
