@@ -14,6 +14,9 @@ pub second-true : (p q : Bool) → (p && q) ≡ true → q ≡ true
 second-true true q e = e
 second-true false q e = absurd (true≢false (sym e))
 
+pub three-true : (p q r : Bool) → (p && q && r) ≡ true → (p ≡ true) × (q ≡ true) × (r ≡ true)
+three-true p q r e = let h = first-true (p && q) r e in (first-true p q h, second-true p q h, second-true (p && q) r e)
+
 pub either : (p q : Bool) → (p || q) ≡ true → (p ≡ true) ⊎ (q ≡ true)
 either true q e = inl refl
 either false q e = inr e

@@ -10,7 +10,7 @@ use Rattle.label.specs.Label
 use Rattle.label.specs.Label.{Typed, dominatesOf}
 use Rattle.label.specs.declared.Label.{Label}
 use Rattle.label.proofs.AnswerLaws.{passed, stopped}
-use Rattle.label.proofs.BoolLaws.{both, first-true, second-true, swap-and}
+use Rattle.label.proofs.BoolLaws.{both, first-true, second-true, swap-and, three-true}
 use Rattle.label.proofs.LabelLaws.{dominates-refl, dominates-trans, dominates-upper, lower-dominates, lower-valid, upper-typed, upper-valid}
 use Rattle.range.specs.Range.{TypedRange, commonOf, containsOf, meetAnswerOf, meetOf, validOf}
 use Rattle.range.specs.declared.Range.{Range}
@@ -25,11 +25,8 @@ pub record Valid (x : Range) : Type 0 where
 pub valid-parts : (x : Range) → validOf x ≡ true → Valid x
 unfolding validOf
 valid-parts x e =
-    let a : Bool = Label.validOf (x .low) in
-    let b : Bool = Label.validOf (x .high) in
-    let c : Bool = dominatesOf (x .high) (x .low) in
-    let ends = first-true (a && b) c e in
-    record { low = first-true a b ends; high = second-true a b ends; order = second-true (a && b) c e }
+    let t = three-true (Label.validOf (x .low)) (Label.validOf (x .high)) (dominatesOf (x .high) (x .low)) e in
+    record { low = t .0; high = t .1; order = t .2 }
 
 pub parts-valid : (x : Range) → Valid x → validOf x ≡ true
 unfolding validOf

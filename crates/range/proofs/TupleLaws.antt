@@ -11,7 +11,7 @@ use Rattle.label.specs.Label
 use Rattle.label.specs.Label.{Typed, dominatesOf, labelOf, zeroLabel}
 use Rattle.label.specs.Region.{firstOf, lastOf, regionOf, regions}
 use Rattle.label.specs.declared.Label.{Label}
-use Rattle.label.proofs.BoolLaws.{both, first-true, not-so, same-truth, second-true}
+use Rattle.label.proofs.BoolLaws.{both, first-true, not-so, same-truth, second-true, three-true}
 use Rattle.label.proofs.IndexLaws.{every-all, every-at, tabulate-at}
 use Rattle.label.proofs.LabelLaws.{dominates-parts, dominates-trans, equal-exact, hierarchy-valid, lower-hierarchy, parts-dominate, upper-hierarchy, valid-hierarchy}
 use Rattle.label.proofs.RegionLaws.{region-order, region-unique, region-within}
@@ -38,15 +38,10 @@ pub record Placed (r : ℕ) (x : Range) : Type 0 where
 pub valid-placed : (r : ℕ) (e : RegionRange) → e .present ≡ true → validAt r e ≡ true → Placed r (e .range)
 unfolding validAt
 valid-placed r e p h =
-    let a : Bool = Range.validOf (e .range) in
-    let b : Bool = eqb (regionOf (e .range .low .hierarchy)) r in
-    let d : Bool = eqb (regionOf (e .range .high .hierarchy)) r in
-    let t : (a && b && d) ≡ true = rw p at h in
-    record {
-      valid = first-true a b (first-true (a && b) d t);
-      low = eqb-true (regionOf (e .range .low .hierarchy)) r (second-true a b (first-true (a && b) d t));
-      high = eqb-true (regionOf (e .range .high .hierarchy)) r (second-true (a && b) d t);
-    }
+    let low : ℕ = regionOf (e .range .low .hierarchy) in
+    let high : ℕ = regionOf (e .range .high .hierarchy) in
+    let t = three-true (Range.validOf (e .range)) (eqb low r) (eqb high r) (rw p at h) in
+    record { valid = t .0; low = eqb-true low r (t .1); high = eqb-true high r (t .2) }
 
 pub placed-valid : (r : ℕ) (x : Range) → Placed r x → validAt r (present x) ≡ true
 unfolding validAt
@@ -158,11 +153,8 @@ pub record Inside (e f : RegionRange) : Type 0 where
 within-inside : (e f : RegionRange) → e .present ≡ true → withinAt e f ≡ true → Inside e f
 unfolding withinAt
 within-inside e f p h =
-    let a : Bool = f .present in
-    let b : Bool = dominatesOf (f .range .high) (e .range .high) in
-    let d : Bool = dominatesOf (e .range .low) (f .range .low) in
-    let t : (a && b && d) ≡ true = rw p at h in
-    record { present = first-true a b (first-true (a && b) d t); high = second-true a b (first-true (a && b) d t); low = second-true (a && b) d t }
+    let t = three-true (f .present) (dominatesOf (f .range .high) (e .range .high)) (dominatesOf (e .range .low) (f .range .low)) (rw p at h) in
+    record { present = t .0; high = t .1; low = t .2 }
 
 inside-within : (e f : RegionRange) → (e .present ≡ true → Inside e f) → withinAt e f ≡ true
 unfolding withinAt

@@ -24,7 +24,7 @@ containsOf x l = Label.dominatesOf (x .high) l && Label.dominatesOf l (x .low)
 unfoldable pub meetOf : Range → Range → Range
 meetOf x y = rangeOf (Label.upperBoundOf (x .low) (y .low)) (Label.lowerBoundOf (x .high) (y .high))
 
--- whether some label is in both (that it says this is the law `common-label`)
+-- whether some label is in both (that it says so is the law `meet-refused`)
 unfoldable pub commonOf : Range → Range → Bool
 commonOf x y = Label.dominatesOf (meetOf x y .high) (meetOf x y .low)
 

@@ -70,7 +70,7 @@ withinAt e f =
     not (e .present)
     || (f .present && Label.dominatesOf (f .range .high) (e .range .high) && Label.dominatesOf (e .range .low) (f .range .low))
 
--- each label of t is in u (that it says this is the law `within-exact`)
+-- each label of t is in u (that it says so is the law `within-exact`)
 unfoldable pub withinOf : Tuple → Tuple → Bool
 withinOf t u = every (λ r. withinAt (rangeAt t r) (rangeAt u r)) regions
 
