@@ -1,6 +1,6 @@
 -- The bits of `&` and `|`, and that a number is known by its bits: with these a law of `&` and `|` is a law of `&&` and `||`.
 -- Assumes nothing.
-use mathlib.Core.Bool.{true, false, _&&_, _||_, true≢false}
+use mathlib.Core.Bool.{Bool, true, false, _&&_, _||_, true≢false}
 use mathlib.Core.Path.{_≡_, refl, sym, ap, _∙_}
 use Prim.Native.Nat.{ℕ, zero, suc, _+_, _/_, _%_, _^_, _≤_, _<_}
 use native.Mathlib.Nat.{zero-lt-suc, lt-of-lt-of-le, div-div-eq-div-mul, div-lt-iff-lt-mul, div-one, div-eq-of-lt, mod-lt, pow-suc, pow-succ'}
@@ -12,33 +12,40 @@ use lib.Pow.{pow-mono}
 use Rattle.label.specs.Words.{bit}
 use Rattle.label.proofs.BoolLaws.{first-true, same-truth, both, second-true}
 
--- ---- the bits of `|` and of `&`
+-- ---- the bits of an operation that goes bit by bit, and so of `|` and of `&`
 
-or-table : (r s : ℕ) → r < 2 → s < 2 → eqb (bitOr r s) 1 ≡ (eqb r 1 || eqb s 1)
-or-table zero s hr hs = refl
-or-table (suc zero) zero hr hs = refl
-or-table (suc zero) (suc zero) hr hs = refl
-or-table (suc zero) (suc (suc s)) hr hs = absurd (omega arith)
-or-table (suc (suc r)) s hr hs = absurd (omega arith)
+module _ (op : ℕ → ℕ → ℕ) (on : Bool → Bool → Bool)
+    (shr : (x y k : ℕ) → op x y / 2 ^ k ≡ op (x / 2 ^ k) (y / 2 ^ k)) (low : (x y k : ℕ) → op x y % 2 ^ k ≡ op (x % 2 ^ k) (y % 2 ^ k))
+    (table : (r s : ℕ) → r < 2 → s < 2 → eqb (op r s) 1 ≡ on (eqb r 1) (eqb s 1)) where
+  bit-op : (x y k : ℕ) → bit (op x y) k ≡ on (bit x k) (bit y k)
+  unfolding bit
+  bit-op x y k =
+      ap (λ (z : ℕ). eqb (z % 2) 1) (shr x y k) ∙ ap (λ (z : ℕ). eqb z 1) (low (x / 2 ^ k) (y / 2 ^ k) 1)
+      ∙ table _ _ (mod-lt (x / 2 ^ k) (zero-lt-suc 1)) (mod-lt (y / 2 ^ k) (zero-lt-suc 1))
 
-and-table : (r s : ℕ) → r < 2 → s < 2 → eqb (bitAnd r s) 1 ≡ (eqb r 1 && eqb s 1)
-and-table zero s hr hs = refl
-and-table (suc zero) zero hr hs = refl
-and-table (suc zero) (suc zero) hr hs = refl
-and-table (suc zero) (suc (suc s)) hr hs = absurd (omega arith)
-and-table (suc (suc r)) s hr hs = absurd (omega arith)
+-- what holds of 0 and 1 holds of each number below 2
+below-two : (P : ℕ → Type 0) → P 0 → P 1 → (r : ℕ) → r < 2 → P r
+below-two P a b zero h = a
+below-two P a b (suc zero) h = b
+below-two P a b (suc (suc r)) h = absurd (omega arith)
 
 pub bit-or : (x y k : ℕ) → bit (bitOr x y) k ≡ (bit x k || bit y k)
-unfolding bit
-bit-or x y k =
-    ap (λ (z : ℕ). eqb (z % 2) 1) (or-shr x y k) ∙ ap (λ (z : ℕ). eqb z 1) (or-mod (x / 2 ^ k) (y / 2 ^ k) 1)
-    ∙ or-table _ _ (mod-lt (x / 2 ^ k) (zero-lt-suc 1)) (mod-lt (y / 2 ^ k) (zero-lt-suc 1))
+bit-or = bit-op bitOr _||_ or-shr or-mod table
+  where
+    Row : ℕ → ℕ → Type 0
+    Row r s = eqb (bitOr r s) 1 ≡ (eqb r 1 || eqb s 1)
+
+    table : (r s : ℕ) → r < 2 → s < 2 → Row r s
+    table r s hr hs = below-two (λ k. Row k s) (below-two (Row 0) refl refl s hs) (below-two (Row 1) refl refl s hs) r hr
 
 pub bit-and : (x y k : ℕ) → bit (bitAnd x y) k ≡ (bit x k && bit y k)
-unfolding bit
-bit-and x y k =
-    ap (λ (z : ℕ). eqb (z % 2) 1) (and-shr x y k) ∙ ap (λ (z : ℕ). eqb z 1) (and-mod (x / 2 ^ k) (y / 2 ^ k) 1)
-    ∙ and-table _ _ (mod-lt (x / 2 ^ k) (zero-lt-suc 1)) (mod-lt (y / 2 ^ k) (zero-lt-suc 1))
+bit-and = bit-op bitAnd _&&_ and-shr and-mod table
+  where
+    Row : ℕ → ℕ → Type 0
+    Row r s = eqb (bitAnd r s) 1 ≡ (eqb r 1 && eqb s 1)
+
+    table : (r s : ℕ) → r < 2 → s < 2 → Row r s
+    table r s hr hs = below-two (λ k. Row k s) (below-two (Row 0) refl refl s hs) (below-two (Row 1) refl refl s hs) r hr
 
 -- ---- a number is known by its bits
 

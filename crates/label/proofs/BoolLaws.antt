@@ -34,6 +34,10 @@ same-truth true q f g = sym (f refl)
 same-truth false true f g = g refl
 same-truth false false f g = refl
 
+-- a test that is true exactly where two others are
+pub exactly-both : (p q r : Bool) → (p ≡ true → q ≡ true) → (p ≡ true → r ≡ true) → (q ≡ true → r ≡ true → p ≡ true) → p ≡ (q && r)
+exactly-both p q r f g h = same-truth p (q && r) (λ e. both (f e) (g e)) (λ e. h (first-true q r e) (second-true q r e))
+
 -- a test that is not true
 pub not-so : (p : Bool) → (p ≡ true → ⊥) → p ≡ false
 not-so true h = absurd (h refl)

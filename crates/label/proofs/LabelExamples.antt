@@ -7,7 +7,7 @@ use Prim.Native.Nat.{ℕ, _+_, _^_}
 use Rattle.label.specs.Index.{every, tabulate}
 use Rattle.label.specs.Label.{dominatesOf, equalOf, labelOf, lowerBoundOf, upperBoundOf, validOf}
 use Rattle.label.specs.Region.{regionOf}
-use Rattle.label.specs.Words.{bit, firstFrom, has, includesOf, intersectionOf, membersBelow, membersOf, nextOf, sameOf, unionOf}
+use Rattle.label.specs.Words.{bit, combine, firstFrom, has, includesOf, intersectionOf, membersBelow, membersOf, nextOf, sameOf, unionOf}
 use Rattle.label.specs.declared.Label.{Label}
 
 -- the word of a set of categories below 64, each given once
@@ -39,11 +39,11 @@ incomparable-equal = refl
 
 -- the bounds of (20,{1}) and (30,{2}) are (30,{1,2}) and (20,{})
 upper : upperBoundOf (exampleOf 20 (1 ∷ [])) (exampleOf 30 (2 ∷ [])) ≡ exampleOf 30 (1 ∷ 2 ∷ [])
-unfolding upperBoundOf unionOf tabulate
+unfolding upperBoundOf unionOf combine tabulate
 upper = refl
 
 lower : lowerBoundOf (exampleOf 20 (1 ∷ [])) (exampleOf 30 (2 ∷ [])) ≡ exampleOf 20 []
-unfolding lowerBoundOf intersectionOf tabulate
+unfolding lowerBoundOf intersectionOf combine tabulate
 lower = refl
 
 -- hierarchy 199 is valid, 200 is not

@@ -12,7 +12,7 @@ use borrow.Author.Tests.{eqb-true, eq-eqb, leb-true, le-leb}
 use Rattle.label.specs.Label.{Typed, dominatesOf, equalOf, labelOf, lowerBoundOf, upperBoundOf, validOf}
 use Rattle.label.specs.Words.{includesOf, wordAt}
 use Rattle.label.specs.declared.Label.{Label}
-use Rattle.label.proofs.BoolLaws.{both, first-true, same-truth, second-true, swap-and}
+use Rattle.label.proofs.BoolLaws.{both, exactly-both, first-true, second-true, swap-and}
 use Rattle.label.proofs.WordLaws.{includes-antisym, includes-intersection, includes-refl, includes-trans, same-equal, same-refl, union-at, union-includes, union-length}
 
 -- ---- dominance, by its two parts
@@ -73,28 +73,14 @@ lower-hierarchy a b = refl
 -- ---- the upper bound is the least that dominates both, the lower bound the greatest that both dominate
 
 max-leb : (a b c : ℕ) → leb (max a b) c ≡ (leb a c && leb b c)
-max-leb a b c = same-truth (leb (max a b) c) (leb a c && leb b c) there back
-  where
-    there : leb (max a b) c ≡ true → (leb a c && leb b c) ≡ true
-    there e = let h = leb-true (max a b) c e in both (le-leb a c (omega arith)) (le-leb b c (omega arith))
-
-    back : (leb a c && leb b c) ≡ true → leb (max a b) c ≡ true
-    back e =
-        let h = leb-true a c (first-true (leb a c) (leb b c) e) in
-        let k = leb-true b c (second-true (leb a c) (leb b c) e) in
-        le-leb (max a b) c (omega arith)
+max-leb a b c =
+    exactly-both (leb (max a b) c) (leb a c) (leb b c) (λ e. le-leb a c (omega (arith, leb-true (max a b) c e)))
+    (λ e. le-leb b c (omega (arith, leb-true (max a b) c e))) (λ e f. le-leb (max a b) c (omega (arith, leb-true a c e, leb-true b c f)))
 
 leb-min : (a b c : ℕ) → leb c (min a b) ≡ (leb c a && leb c b)
-leb-min a b c = same-truth (leb c (min a b)) (leb c a && leb c b) there back
-  where
-    there : leb c (min a b) ≡ true → (leb c a && leb c b) ≡ true
-    there e = let h = leb-true c (min a b) e in both (le-leb c a (omega arith)) (le-leb c b (omega arith))
-
-    back : (leb c a && leb c b) ≡ true → leb c (min a b) ≡ true
-    back e =
-        let h = leb-true c a (first-true (leb c a) (leb c b) e) in
-        let k = leb-true c b (second-true (leb c a) (leb c b) e) in
-        le-leb c (min a b) (omega arith)
+leb-min a b c =
+    exactly-both (leb c (min a b)) (leb c a) (leb c b) (λ e. le-leb c a (omega (arith, leb-true c (min a b) e)))
+    (λ e. le-leb c b (omega (arith, leb-true c (min a b) e))) (λ e f. le-leb c (min a b) (omega (arith, leb-true c a e, leb-true c b f)))
 
 pub dominates-upper : (a b c : Label) → dominatesOf c (upperBoundOf a b) ≡ (dominatesOf c a && dominatesOf c b)
 unfolding dominatesOf upperBoundOf

@@ -2,18 +2,19 @@
 use mathlib.Core.Bool.{true, _&&_, _||_, true≢false}
 use mathlib.Core.List.{List}
 use mathlib.Core.Logic.{_↔_, ⊎-elim}
-use mathlib.Core.Path.{_≡_, sym, ap, ap₂, _∙_}
+use mathlib.Core.Path.{_≡_, refl, sym, ap, ap₂, _∙_}
 use Prim.Native.Nat.{ℕ, _+_, _*_, _/_, _%_, _^_, _≤_, _<_, max}
 use native.Mathlib.Omega.{arith}
 use lib.Arith.{digits-div, digits-mod}
 use lib.Bits.{bitAnd, bitOr}
-use lib.ListN.{length, getD, List·getD-eq-default}
+use lib.ListN.{length, getD, set, take, List·getD-eq-default}
 use lib.Seq.{ext-getD}
 use borrow.Author.Tests.{eqb-true, eq-eqb}
-use Rattle.label.specs.Words.{andAt, bit, has, includesAt, includesOf, intersectionOf, orAt, sameOf, unionOf, wordAt}
+use Rattle.label.specs.Index.{tabulate}
+use Rattle.label.specs.Words.{bit, combine, combinedAt, has, includesAt, includesOf, intersectionOf, sameOf, unionOf, wordAt}
 use Rattle.label.proofs.BitLaws.{among-bits, bit-and, bit-high, bit-or, bits-among, bits-equal}
-use Rattle.label.proofs.BoolLaws.{both, either, first-true, or-first, or-second, same-truth, second-true}
-use Rattle.label.proofs.IndexLaws.{every-all, every-at, le-or-lt, tabulate-length, tabulate-pad}
+use Rattle.label.proofs.BoolLaws.{both, either, exactly-both, first-true, or-first, or-second, same-truth, second-true}
+use Rattle.label.proofs.IndexLaws.{every-all, every-at, fill-done, fill-step, le-or-lt, tabulate-length, tabulate-pad}
 
 -- ---- by the word
 
@@ -25,19 +26,30 @@ module _ (a b : List ℕ) (i : ℕ) (past : max (length a) (length b) ≤ i) whe
   zero-right : wordAt b i ≡ 0
   zero-right = List·getD-eq-default b 0 (omega arith)
 
-pub union-at : (a b : List ℕ) (i : ℕ) → wordAt (unionOf a b) i ≡ orAt a b i
-unfolding unionOf
-union-at a b i =
-    tabulate-pad (orAt a b) (max (length a) (length b)) i (λ p. ap₂ bitOr (zero-left a b i p) (zero-right a b i p))
+combine-at : (op : ℕ → ℕ → ℕ) → op 0 0 ≡ 0 → (a b : List ℕ) (i : ℕ) → wordAt (combine op a b) i ≡ op (wordAt a i) (wordAt b i)
+unfolding combine
+combine-at op z a b i = tabulate-pad (combinedAt op a b) (max (length a) (length b)) i (λ p. ap₂ op (zero-left a b i p) (zero-right a b i p) ∙ z)
 
-pub intersection-at : (a b : List ℕ) (i : ℕ) → wordAt (intersectionOf a b) i ≡ andAt a b i
+pub union-at : (a b : List ℕ) (i : ℕ) → wordAt (unionOf a b) i ≡ bitOr (wordAt a i) (wordAt b i)
+unfolding unionOf
+union-at = combine-at bitOr refl
+
+pub intersection-at : (a b : List ℕ) (i : ℕ) → wordAt (intersectionOf a b) i ≡ bitAnd (wordAt a i) (wordAt b i)
 unfolding intersectionOf
-intersection-at a b i =
-    tabulate-pad (andAt a b) (max (length a) (length b)) i (λ p. ap₂ bitAnd (zero-left a b i p) (zero-right a b i p))
+intersection-at = combine-at bitAnd refl
 
 pub union-length : (a b : List ℕ) → length (unionOf a b) ≡ max (length a) (length b)
-unfolding unionOf
-union-length a b = tabulate-length (orAt a b) (max (length a) (length b))
+unfolding unionOf combine
+union-length a b = tabulate-length (combinedAt bitOr a b) (max (length a) (length b))
+
+-- a loop that combines two arrays of n words into r
+module _ (op : ℕ → ℕ → ℕ) (a b r : List ℕ) (i n : ℕ) (filled : take i r ≡ tabulate (combinedAt op a b) i) where
+  pub combine-step : i < length r → take (i + 1) (set r i (op (wordAt a i) (wordAt b i))) ≡ tabulate (combinedAt op a b) (i + 1)
+  combine-step h = fill-step (combinedAt op a b) r i (op (wordAt a i) (wordAt b i)) h refl filled
+
+  pub combine-done : i ≡ n → length r ≡ n → length a ≡ n → length b ≡ n → r ≡ combine op a b
+  unfolding combine
+  combine-done e hr ha hb = fill-done (combinedAt op a b) r i (max (length a) (length b)) (omega arith) (omega arith) filled
 
 -- ---- membership
 
@@ -65,14 +77,14 @@ includes-bits a b e i j h = ⊎-elim past within (le-or-lt (max (length a) (leng
     within : i < max (length a) (length b) → bit (wordAt a i) j ≡ true
     within l =
         bits-among (wordAt a i) (wordAt b i)
-        (eqb-true (andAt a b i) (wordAt b i)
+        (eqb-true (bitAnd (wordAt a i) (wordAt b i)) (wordAt b i)
         (every-at (includesAt a b) (max (length a) (length b)) i e l)) j h
 
 pub bits-include : (a b : List ℕ) → ((i j : ℕ) → bit (wordAt b i) j ≡ true → bit (wordAt a i) j ≡ true) → includesOf a b ≡ true
 unfolding includesOf
 bits-include a b h =
     every-all (includesAt a b) (max (length a) (length b))
-    (λ i l. eq-eqb (andAt a b i) (wordAt b i) (among-bits (wordAt a i) (wordAt b i) (h i)))
+    (λ i l. eq-eqb (bitAnd (wordAt a i) (wordAt b i)) (wordAt b i) (among-bits (wordAt a i) (wordAt b i) (h i)))
 
 -- ---- inclusion is exactly that every category is included
 
@@ -102,36 +114,24 @@ includes-antisym a b l p q =
 -- ---- the union is the least set that includes both, the intersection the greatest that both include
 
 pub union-includes : (a b c : List ℕ) → includesOf c (unionOf a b) ≡ (includesOf c a && includesOf c b)
-union-includes a b c = same-truth (includesOf c (unionOf a b)) (includesOf c a && includesOf c b) there back
+union-includes a b c =
+    exactly-both (includesOf c (unionOf a b)) (includesOf c a) (includesOf c b)
+    (λ e. bits-include c a (λ i j h. includes-bits c (unionOf a b) e i j (or-bits i j ∙ or-first (bit (wordAt b i) j) h)))
+    (λ e. bits-include c b (λ i j h. includes-bits c (unionOf a b) e i j (or-bits i j ∙ or-second (bit (wordAt a i) j) h)))
+    (λ p q. bits-include c (unionOf a b) (λ i j h. ⊎-elim (includes-bits c a p i j) (includes-bits c b q i j) (either (bit (wordAt a i) j) (bit (wordAt b i) j) (sym (or-bits i j) ∙ h))))
   where
     or-bits : (i j : ℕ) → bit (wordAt (unionOf a b) i) j ≡ (bit (wordAt a i) j || bit (wordAt b i) j)
     or-bits i j = ap (λ (w : ℕ). bit w j) (union-at a b i) ∙ bit-or (wordAt a i) (wordAt b i) j
 
-    there : includesOf c (unionOf a b) ≡ true → (includesOf c a && includesOf c b) ≡ true
-    there e =
-        both (bits-include c a (λ i j h. includes-bits c (unionOf a b) e i j (or-bits i j ∙ or-first (bit (wordAt b i) j) h)))
-        (bits-include c b (λ i j h. includes-bits c (unionOf a b) e i j (or-bits i j ∙ or-second (bit (wordAt a i) j) h)))
-
-    back : (includesOf c a && includesOf c b) ≡ true → includesOf c (unionOf a b) ≡ true
-    back e =
-        bits-include c (unionOf a b) (λ i j h. ⊎-elim (includes-bits c a (first-true (includesOf c a) (includesOf c b) e) i j)
-        (includes-bits c b (second-true (includesOf c a) (includesOf c b) e) i j) (either (bit (wordAt a i) j) (bit (wordAt b i) j) (sym (or-bits i j) ∙ h)))
-
 pub includes-intersection : (a b c : List ℕ) → includesOf (intersectionOf a b) c ≡ (includesOf a c && includesOf b c)
-includes-intersection a b c = same-truth (includesOf (intersectionOf a b) c) (includesOf a c && includesOf b c) there back
+includes-intersection a b c =
+    exactly-both (includesOf (intersectionOf a b) c) (includesOf a c) (includesOf b c)
+    (λ e. bits-include a c (λ i j h. first-true (bit (wordAt a i) j) (bit (wordAt b i) j) (sym (and-bits i j) ∙ includes-bits (intersectionOf a b) c e i j h)))
+    (λ e. bits-include b c (λ i j h. second-true (bit (wordAt a i) j) (bit (wordAt b i) j) (sym (and-bits i j) ∙ includes-bits (intersectionOf a b) c e i j h)))
+    (λ p q. bits-include (intersectionOf a b) c (λ i j h. and-bits i j ∙ both (includes-bits a c p i j h) (includes-bits b c q i j h)))
   where
     and-bits : (i j : ℕ) → bit (wordAt (intersectionOf a b) i) j ≡ (bit (wordAt a i) j && bit (wordAt b i) j)
     and-bits i j = ap (λ (w : ℕ). bit w j) (intersection-at a b i) ∙ bit-and (wordAt a i) (wordAt b i) j
-
-    there : includesOf (intersectionOf a b) c ≡ true → (includesOf a c && includesOf b c) ≡ true
-    there e =
-        both (bits-include a c (λ i j h. first-true (bit (wordAt a i) j) (bit (wordAt b i) j) (sym (and-bits i j) ∙ includes-bits (intersectionOf a b) c e i j h)))
-        (bits-include b c (λ i j h. second-true (bit (wordAt a i) j) (bit (wordAt b i) j) (sym (and-bits i j) ∙ includes-bits (intersectionOf a b) c e i j h)))
-
-    back : (includesOf a c && includesOf b c) ≡ true → includesOf (intersectionOf a b) c ≡ true
-    back e =
-        bits-include (intersectionOf a b) c (λ i j h. and-bits i j ∙ both (includes-bits a c (first-true (includesOf a c) (includesOf b c) e) i j h)
-        (includes-bits b c (second-true (includesOf a c) (includesOf b c) e) i j h))
 
 -- ---- equality
 

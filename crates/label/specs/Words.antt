@@ -26,21 +26,22 @@ bit x k = eqb (x / 2 ^ k % 2) 1
 unfoldable pub has : List ℕ → ℕ → Bool
 has ws c = bit (wordAt ws (c / 64)) (c % 64)
 
-abbrev pub orAt : List ℕ → List ℕ → ℕ → ℕ
-orAt a b i = bitOr (wordAt a i) (wordAt b i)
+-- two sets put together word by word
+abbrev pub combinedAt : (ℕ → ℕ → ℕ) → List ℕ → List ℕ → ℕ → ℕ
+combinedAt op a b i = op (wordAt a i) (wordAt b i)
+
+unfoldable pub combine : (ℕ → ℕ → ℕ) → List ℕ → List ℕ → List ℕ
+combine op a b = tabulate (combinedAt op a b) (max (length a) (length b))
 
 unfoldable pub unionOf : List ℕ → List ℕ → List ℕ
-unionOf a b = tabulate (orAt a b) (max (length a) (length b))
-
-abbrev pub andAt : List ℕ → List ℕ → ℕ → ℕ
-andAt a b i = bitAnd (wordAt a i) (wordAt b i)
+unionOf a b = combine bitOr a b
 
 unfoldable pub intersectionOf : List ℕ → List ℕ → List ℕ
-intersectionOf a b = tabulate (andAt a b) (max (length a) (length b))
+intersectionOf a b = combine bitAnd a b
 
 -- whether each bit of b's word i is set in a's
 abbrev pub includesAt : List ℕ → List ℕ → ℕ → Bool
-includesAt a b i = eqb (andAt a b i) (wordAt b i)
+includesAt a b i = eqb (combinedAt bitAnd a b i) (wordAt b i)
 
 -- whether each category of b is in a
 unfoldable pub includesOf : List ℕ → List ℕ → Bool

@@ -1,5 +1,6 @@
 // Regions: each is a run of hierarchy numbers, and is known by its number in document 01's order.
 ghost use mathlib.Core.Path.{_≡_};
+ghost use lib.ListN.{getD};
 ghost use Rattle.label.specs.Region.{firstOf, lastOf, regionOf};
 
 pub const REGIONS: usize = 3;
@@ -14,18 +15,25 @@ const FIRST: [u8; REGIONS] = [0, 20, 180];
 
 const LAST: [u8; REGIONS] = [19, 179, 199];
 
+// What a table has for a region; 0 where there is no such region.
+fn entry(table: [u8; REGIONS], region: usize) -> u8
+    ensures { λ r. ⌜ r ≡ getD table region 0 ⌝ }
+{
+    if region < REGIONS { table[region] } else { 0 }
+}
+
 // The least hierarchy number of a region; 0 where there is no such region.
 pub fn first(region: usize) -> u8
     ensures { λ r. ⌜ r ≡ firstOf region ⌝ }
 {
-    if region < REGIONS { FIRST[region] } else { 0 }
+    entry(FIRST, region)
 }
 
 // The greatest hierarchy number of a region; 0 where there is no such region.
 pub fn last(region: usize) -> u8
     ensures { λ r. ⌜ r ≡ lastOf region ⌝ }
 {
-    if region < REGIONS { LAST[region] } else { 0 }
+    entry(LAST, region)
 }
 
 // The region of a valid hierarchy number. Others count as administrative here: whoever asks has tested the label.

@@ -8,7 +8,7 @@ use Rattle.label.specs.Index.{every, tabulate}
 use Rattle.label.specs.Label.{dominatesOf, equalOf, lowerBoundOf, upperBoundOf}
 use Rattle.label.specs.Label as labels
 use Rattle.label.specs.Region.{regionOf}
-use Rattle.label.specs.Words.{includesOf, intersectionOf, sameOf, unionOf}
+use Rattle.label.specs.Words.{combine, includesOf, intersectionOf, sameOf, unionOf}
 use Rattle.label.proofs.LabelExamples.{exampleOf}
 use Rattle.range.specs.Range.{commonOf, meetAnswerOf, meetOf, rangeOf, validOf}
 use Rattle.range.specs.Tuple.{absent, cutOf, emptyOf, emptyTuple, present, splitOf, tupleOf, validAt}
@@ -18,12 +18,12 @@ use Rattle.range.specs.declared.tuple.Tuple.{Tuple}
 -- [(20,{}),(40,{1,2})] meets [(30,{2}),(50,{2,3})] in [(30,{2}),(40,{2})]
 meeting : meetAnswerOf (rangeOf (exampleOf 20 []) (exampleOf 40 (1 ∷ 2 ∷ []))) (rangeOf (exampleOf 30 (2 ∷ [])) (exampleOf 50 (2 ∷ 3 ∷ [])))
     ≡ granted (rangeOf (exampleOf 30 (2 ∷ [])) (exampleOf 40 (2 ∷ [])))
-unfolding validOf commonOf meetOf labels.validOf dominatesOf includesOf every upperBoundOf unionOf lowerBoundOf intersectionOf tabulate
+unfolding validOf commonOf meetOf labels.validOf dominatesOf includesOf every upperBoundOf unionOf lowerBoundOf intersectionOf combine tabulate
 meeting = refl
 
 -- [(20,{1}),(40,{1})] and [(20,{}),(40,{2})]: 33
 apart : meetAnswerOf (rangeOf (exampleOf 20 (1 ∷ [])) (exampleOf 40 (1 ∷ []))) (rangeOf (exampleOf 20 []) (exampleOf 40 (2 ∷ []))) ≡ refused 33 none
-unfolding validOf commonOf meetOf labels.validOf dominatesOf includesOf every upperBoundOf unionOf lowerBoundOf intersectionOf tabulate
+unfolding validOf commonOf meetOf labels.validOf dominatesOf includesOf every upperBoundOf unionOf lowerBoundOf intersectionOf combine tabulate
 apart = refl
 
 -- [(10,{}),(30,{4})] splits into [(10,{}),(19,{4})] and [(20,{}),(30,{4})]

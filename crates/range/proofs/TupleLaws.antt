@@ -52,6 +52,18 @@ pub absent-valid : (r : ℕ) → validAt r absent ≡ true
 unfolding validAt
 absent-valid r = both (equal-exact zeroLabel zeroLabel refl .1 refl) (equal-exact zeroLabel zeroLabel refl .1 refl)
 
+valid-region : (t : Tuple) → validOf t ≡ true → (r : ℕ) → r < regions → validAt r (rangeAt t r) ≡ true
+unfolding validOf
+valid-region t v r k = every-at (λ j. validAt j (rangeAt t j)) regions r v k
+
+placed-region : (t : Tuple) → validOf t ≡ true → (r : ℕ) → r < regions → rangeAt t r .present ≡ true → Placed r (rangeAt t r .range)
+placed-region t v r k p = valid-placed r (rangeAt t r) p (valid-region t v r k)
+
+-- the tuple that has f r for each region r is valid where each f r is
+tabulated-valid : (f : ℕ → RegionRange) → ((r : ℕ) → r < regions → validAt r (f r) ≡ true) → validOf (tupleOf (tabulate f regions)) ≡ true
+unfolding validOf
+tabulated-valid f h = every-all (λ r. validAt r (rangeAt (tupleOf (tabulate f regions)) r)) regions (λ r k. ap (validAt r) (range-of f r k) ∙ h r k)
+
 -- hierarchies between two of a region's are of that region
 between : (r h a b : ℕ) → regionOf a ≡ r → regionOf b ≡ r → b ≤ 199 → a ≤ h → h ≤ b → regionOf h ≡ r
 between r h a b ea eb v l u =
@@ -86,19 +98,13 @@ meet-at-valid r e f v w = go (e .present && f .present && commonOf (e .range) (f
     go : (p : Bool) → (e .present && f .present && commonOf (e .range) (f .range)) ≡ p → validAt r (cond p (present (Range.meetOf (e .range) (f .range))) absent) ≡ true
     go false h = absent-valid r
     go true h =
-        let k = first-true (e .present && f .present) (commonOf (e .range) (f .range)) h in
-        placed-valid r (Range.meetOf (e .range) (f .range))
-        (meet-placed r (e .range) (f .range) (valid-placed r e (first-true (e .present) (f .present) k) v) (valid-placed r f (second-true (e .present) (f .present) k) w)
-        (second-true (e .present && f .present) (commonOf (e .range) (f .range)) h))
+        let t = three-true (e .present) (f .present) (commonOf (e .range) (f .range)) h in
+        placed-valid r (Range.meetOf (e .range) (f .range)) (meet-placed r (e .range) (f .range) (valid-placed r e (t .0) v) (valid-placed r f (t .1) w) (t .2))
 
 pub tuple-meet-valid : (t u : Tuple) → validOf t ≡ true → validOf u ≡ true → validOf (meetOf t u) ≡ true
-unfolding validOf meetOf
-tuple-meet-valid t u v w = every-all (λ r. validAt r (rangeAt (meetOf t u) r)) regions (λ r h. at r h)
-  where
-    at : (r : ℕ) → r < regions → validAt r (rangeAt (meetOf t u) r) ≡ true
-    at r h =
-        ap (validAt r) (range-of (λ k. meetAt (rangeAt t k) (rangeAt u k)) r h)
-        ∙ meet-at-valid r (rangeAt t r) (rangeAt u r) (every-at (λ k. validAt k (rangeAt t k)) regions r v h) (every-at (λ k. validAt k (rangeAt u k)) regions r w h)
+unfolding meetOf
+tuple-meet-valid t u v w =
+    tabulated-valid (λ r. meetAt (rangeAt t r) (rangeAt u r)) (λ r k. meet-at-valid r (rangeAt t r) (rangeAt u r) (valid-region t v r k) (valid-region u w r k))
 
 -- ---- it contains exactly the common labels
 
@@ -184,20 +190,22 @@ within-labels t u w l h =
       });
     })
 
+-- a label in t's range of region r is in u's
+label-carried : (t u : Tuple) → EachLabel t u → (r : ℕ) → rangeAt t r .present ≡ true → (l : Label) → Typed l → Label.validOf l ≡ true
+    → regionOf (l .hierarchy) ≡ r → Range.containsOf (rangeAt t r .range) l ≡ true → Contains (rangeAt u r) l
+label-carried t u h r p l s v e c = contained-in u l r e (h l s v (contains-in t l r e (record { present = p; range = c })))
+
 labels-inside : (t u : Tuple) → TypedTuple t → validOf t ≡ true → EachLabel t u → (r : ℕ) → r < regions → rangeAt t r .present ≡ true → Inside (rangeAt t r) (rangeAt u r)
-unfolding validOf
 labels-inside t u s v h r k p =
-    let e : RegionRange = rangeAt t r in
-    let placed = valid-placed r e p (every-at (λ j. validAt j (rangeAt t j)) regions r v k) in
-    let parts = valid-parts (e .range) (placed .valid) in
-    let low = contained-in u (e .range .low) r (placed .low) (h (e .range .low) (s .range r k .low) (parts .low)
-    (contains-in t (e .range .low) r (placed .low) (record { present = p; range = contains-low (e .range) (placed .valid) }))) in
-    let high = contained-in u (e .range .high) r (placed .high) (h (e .range .high) (s .range r k .high) (parts .high)
-    (contains-in t (e .range .high) r (placed .high) (record { present = p; range = contains-high (e .range) (placed .valid) }))) in
+    let x : Range = rangeAt t r .range in
+    let placed = placed-region t v r k p in
+    let parts = valid-parts x (placed .valid) in
+    let low = label-carried t u h r p (x .low) (s .range r k .low) (parts .low) (placed .low) (contains-low x (placed .valid)) in
+    let high = label-carried t u h r p (x .high) (s .range r k .high) (parts .high) (placed .high) (contains-high x (placed .valid)) in
     record {
       present = low .present;
-      high = contains-parts (rangeAt u r .range) (e .range .high) (high .range) .below;
-      low = contains-parts (rangeAt u r .range) (e .range .low) (low .range) .above;
+      high = contains-parts (rangeAt u r .range) (x .high) (high .range) .below;
+      low = contains-parts (rangeAt u r .range) (x .low) (low .range) .above;
     }
 
 pub within-exact : (t u : Tuple) → TypedTuple t → validOf t ≡ true → (withinOf t u ≡ true) ↔ EachLabel t u
@@ -208,7 +216,7 @@ within-exact t u s v =
 -- ---- empty exactly if there is no label
 
 pub empty-exact : (t : Tuple) → TypedTuple t → validOf t ≡ true → (emptyOf t ≡ true) ↔ ((l : Label) → Typed l → Label.validOf l ≡ true → containsOf t l ≡ true → ⊥)
-unfolding emptyOf validOf
+unfolding emptyOf
 empty-exact t s v = (there, λ h. every-all (λ r. not (rangeAt t r .present)) regions (back h))
   where
     there : emptyOf t ≡ true → (l : Label) → Typed l → Label.validOf l ≡ true → containsOf t l ≡ true → ⊥
@@ -218,9 +226,10 @@ empty-exact t s v = (there, λ h. every-all (λ r. not (rangeAt t r .present)) r
 
     back : ((l : Label) → Typed l → Label.validOf l ≡ true → containsOf t l ≡ true → ⊥) → (r : ℕ) → r < regions → not (rangeAt t r .present) ≡ true
     back h r k = ap not (not-so (rangeAt t r .present) (λ p.
-        let placed = valid-placed r (rangeAt t r) p (every-at (λ j. validAt j (rangeAt t j)) regions r v k) in
-        h (rangeAt t r .range .low) (s .range r k .low) (valid-parts (rangeAt t r .range) (placed .valid) .low)
-        (contains-in t (rangeAt t r .range .low) r (placed .low) (record { present = p; range = contains-low (rangeAt t r .range) (placed .valid) }))))
+        let x : Range = rangeAt t r .range in
+        let placed = placed-region t v r k p in
+        h (x .low) (s .range r k .low) (valid-parts x (placed .valid) .low)
+        (contains-in t (x .low) r (placed .low) (record { present = p; range = contains-low x (placed .valid) }))))
 
 -- ---- the tuple of a range
 
@@ -258,9 +267,21 @@ cut-valid x r k v = go (reaches x r) refl
     go false h = absent-valid r
 
 pub split-valid : (x : Range) → Range.validOf x ≡ true → validOf (splitOf x) ≡ true
-unfolding validOf splitOf
-split-valid x v =
-    every-all (λ r. validAt r (rangeAt (splitOf x) r)) regions (λ r k. ap (validAt r) (range-of (cutOf x) r k) ∙ cut-valid x r k v)
+unfolding splitOf
+split-valid x v = tabulated-valid (cutOf x) (λ r k. cut-valid x r k v)
+
+-- of two ranges whose ends have the same categories, the second contains a label of the first where its hierarchies allow it
+contains-by-hierarchy : (x y : Range) (l : Label) → x .high .categories ≡ y .high .categories → x .low .categories ≡ y .low .categories
+    → (l .hierarchy ≤ x .high .hierarchy → l .hierarchy ≤ y .high .hierarchy) → (x .low .hierarchy ≤ l .hierarchy → y .low .hierarchy ≤ l .hierarchy)
+    → Range.containsOf x l ≡ true → Range.containsOf y l ≡ true
+contains-by-hierarchy x y l eh el fh fl c =
+    let s = contains-parts x l c in
+    let a = dominates-parts (x .high) l (s .below) in
+    let b = dominates-parts l (x .low) (s .above) in
+    parts-contain y l (record {
+      below = parts-dominate (y .high) l (record { hierarchy = fh (a .hierarchy); categories = rw (← eh) (a .categories) });
+      above = parts-dominate l (y .low) (record { hierarchy = fl (b .hierarchy); categories = rw (← el) (b .categories) });
+    })
 
 -- a label of region r is in x exactly if it is in x's part there
 cut-labels : (x : Range) (l : Label) (r : ℕ) → firstOf r ≤ l .hierarchy → (Range.containsOf x l ≡ true → l .hierarchy ≤ lastOf r) → containsAt (cutOf x r) l ≡ Range.containsOf x l
@@ -268,32 +289,10 @@ unfolding cutOf containsAt
 cut-labels x l r f k = go (reaches x r) refl
   where
     go : (p : Bool) → reaches x r ≡ p → containsAt (cond p (present (partOf x r)) absent) l ≡ Range.containsOf x l
-    go true h = same-truth (Range.containsOf (partOf x r) l) (Range.containsOf x l) there back
-      where
-        there : Range.containsOf (partOf x r) l ≡ true → Range.containsOf x l ≡ true
-        there c =
-            let s = contains-parts (partOf x r) l c in
-            let a = dominates-parts (partOf x r .high) l (s .below) in
-            let b = dominates-parts l (partOf x r .low) (s .above) in
-            let ah = a .hierarchy in
-            let bh = b .hierarchy in
-            parts-contain x l (record {
-              below = parts-dominate (x .high) l (record { hierarchy = omega arith; categories = a .categories });
-              above = parts-dominate l (x .low) (record { hierarchy = omega arith; categories = b .categories });
-            })
-
-        back : Range.containsOf x l ≡ true → Range.containsOf (partOf x r) l ≡ true
-        back c =
-            let last = k c in
-            let s = contains-parts x l c in
-            let a = dominates-parts (x .high) l (s .below) in
-            let b = dominates-parts l (x .low) (s .above) in
-            let ah = a .hierarchy in
-            let bh = b .hierarchy in
-            parts-contain (partOf x r) l (record {
-              below = parts-dominate (partOf x r .high) l (record { hierarchy = omega arith; categories = a .categories });
-              above = parts-dominate l (partOf x r .low) (record { hierarchy = omega arith; categories = b .categories });
-            })
+    go true h =
+        same-truth (Range.containsOf (partOf x r) l) (Range.containsOf x l)
+        (contains-by-hierarchy (partOf x r) x l refl refl (λ u. omega arith) (λ u. omega arith))
+        (λ c. let last = k c in contains-by-hierarchy x (partOf x r) l refl refl (λ u. omega arith) (λ u. omega arith) c)
     go false h =
         sym (not-so (Range.containsOf x l) (λ c.
         let last = k c in

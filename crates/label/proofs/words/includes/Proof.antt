@@ -3,10 +3,11 @@ use mathlib.Core.Bool.{true}
 use mathlib.Core.Path.{_≡_, refl, sym}
 use Prim.Native.Nat.{_≤_, _-_, max}
 use native.Mathlib.Omega.{arith}
+use lib.Bits.{bitAnd}
 use lib.ListN.{length}
 use borrow.Author.Tests.{eq-eqb, ne-eqb}
 use Rattle.label.specs.Index.{every}
-use Rattle.label.specs.Words.{andAt, includesAt, includesOf, wordAt, words}
+use Rattle.label.specs.Words.{includesAt, includesOf, wordAt, words}
 use Rattle.label.proofs.IndexLaws.{every-done, every-next, every-stop}
 use Rattle.label.proofs.words.includes.Statement.{statement}
 use Rattle.label.proofs.words.includes.Tie as tie
@@ -47,7 +48,7 @@ returns c =
     let b = h .before .args .t2 in
     let i = h .loop .i in
     let la : length a ≡ words = search needs in
-    sym (every-stop (includesAt a b) (max (length a) (length b)) i (omega arith) (ne-eqb (andAt a b i) (wordAt b i) (c .if1 .taken)))
+    sym (every-stop (includesAt a b) (max (length a) (length b)) i (omega arith) (ne-eqb (bitAnd (wordAt a i) (wordAt b i)) (wordAt b i) (c .if1 .taken)))
 
 add-i : tie.Need-add-i Inv-loop μ-loop
 add-i c = search needs
@@ -61,7 +62,7 @@ loop-again c =
     let a = h .before .args .t1 in
     let b = h .before .args .t2 in
     let i = h .loop .i in
-    (search needs, every-next (includesAt a b) i (h .loop .inv .1) (eq-eqb (andAt a b i) (wordAt b i) (c .if1 .left)))
+    (search needs, every-next (includesAt a b) i (h .loop .inv .1) (eq-eqb (bitAnd (wordAt a i) (wordAt b i)) (wordAt b i) (c .if1 .left)))
 
 returns-2 : tie.Need-returns-2 Inv-loop μ-loop
 unfolding includesOf

@@ -1,16 +1,17 @@
 use borrow.Author.Needs.{needs}
 use mathlib.Core.Path.{_≡_, refl}
-use Prim.Native.Nat.{_≤_, _-_, max}
+use Prim.Native.Nat.{_≤_, _-_}
 use native.Mathlib.Omega.{arith}
+use lib.Bits.{bitOr}
 use lib.ListN.{length, take}
 use Rattle.label.specs.Index.{tabulate}
-use Rattle.label.specs.Words.{orAt, unionOf, words}
-use Rattle.label.proofs.IndexLaws.{fill-done, fill-step}
+use Rattle.label.specs.Words.{combinedAt, unionOf, words}
+use Rattle.label.proofs.WordLaws.{combine-done, combine-step}
 use Rattle.label.proofs.words.union.Statement.{statement}
 use Rattle.label.proofs.words.union.Tie as tie
 
 abbrev Inv-loop : tie.InvT-loop
-Inv-loop a b r₀ i₀ r i = (i ≤ words) × (length r ≡ words) × (take i r ≡ tabulate (orAt a b) i)
+Inv-loop a b r₀ i₀ r i = (i ≤ words) × (length r ≡ words) × (take i r ≡ tabulate (combinedAt bitOr a b) i)
 
 abbrev μ-loop : tie.MeasureT-loop
 μ-loop a b r₀ i₀ r i = words - i
@@ -47,16 +48,14 @@ loop-again : tie.Need-loop-again Inv-loop μ-loop
 loop-again c =
     let a = c .before .before .args .t1 in
     let b = c .before .before .args .t2 in
-    (search needs, search needs, fill-step (orAt a b) (c .before .loop .r) (c .before .loop .i) _ (search needs) refl (c .before .loop .inv .2))
+    (search needs, search needs, combine-step bitOr a b (c .before .loop .r) (c .before .loop .i) words (c .before .loop .inv .2) (search needs))
 
 returns : tie.Need-returns Inv-loop μ-loop
 unfolding unionOf
 returns c =
     let a = c .before .before .args .t1 in
     let b = c .before .before .args .t2 in
-    let la : length a ≡ words = search needs in
-    let lb : length b ≡ words = search needs in
-    fill-done (orAt a b) (c .before .loop .r) (c .before .loop .i) (max (length a) (length b)) (omega arith) (omega arith) (c .before .loop .inv .2)
+    combine-done bitOr a b (c .before .loop .r) (c .before .loop .i) words (c .before .loop .inv .2) (omega arith) (search needs) (search needs) (search needs)
 
 pub union-spec : {M : Type 1} → statement M
 union-spec =
