@@ -2,13 +2,13 @@
 use mathlib.Core.Bool.{Bool, true, false, cond, not, _&&_, _||_, and-false, true≢false}
 use mathlib.Core.Logic.{_↔_}
 use mathlib.Core.Path.{_≡_, refl, sym, ap, _∙_, subst}
-use Prim.Native.Nat.{ℕ, _≤_, _<_, max, min}
+use Prim.Native.Nat.{ℕ, _≤_, _<_}
 use native.Mathlib.Omega.{arith}
 use lib.Dec.{eqb, leb}
 use borrow.Author.Tests.{eqb-true, eq-eqb, leb-true, le-leb}
 use Rattle.label.specs.Index.{tabulate}
 use Rattle.label.specs.Label
-use Rattle.label.specs.Label.{Typed, dominatesOf, labelOf, zeroLabel}
+use Rattle.label.specs.Label.{Typed, dominatesOf, zeroLabel}
 use Rattle.label.specs.Region.{firstOf, lastOf, regionOf, regions}
 use Rattle.label.specs.declared.Label.{Label}
 use Rattle.label.proofs.BoolLaws.{both, first-true, not-so, same-truth, second-true, three-true}
@@ -16,8 +16,8 @@ use Rattle.label.proofs.IndexLaws.{every-all, every-at, tabulate-at}
 use Rattle.label.proofs.LabelLaws.{dominates-parts, dominates-trans, equal-exact, hierarchy-valid, lower-hierarchy, parts-dominate, upper-hierarchy, valid-hierarchy}
 use Rattle.label.proofs.RegionLaws.{region-order, region-unique, region-within}
 use Rattle.range.specs.Range
-use Rattle.range.specs.Range.{commonOf, rangeOf}
-use Rattle.range.specs.Tuple.{TypedTuple, absent, containsAt, containsOf, cutOf, emptyOf, meetAt, meetOf, present, rangeAt, splitOf, tupleOf, validAt, validOf, withinAt, withinOf}
+use Rattle.range.specs.Range.{commonOf}
+use Rattle.range.specs.Tuple.{TypedTuple, absent, containsAt, containsOf, cutOf, emptyOf, meetAt, meetOf, partOf, present, rangeAt, reaches, splitOf, tupleOf, validAt, validOf, withinAt, withinOf}
 use Rattle.range.specs.declared.Range.{Range}
 use Rattle.range.specs.declared.tuple.RegionRange.{RegionRange}
 use Rattle.range.specs.declared.tuple.Tuple.{Tuple}
@@ -232,13 +232,6 @@ empty-exact t s v = (there, λ h. every-all (λ r. not (rangeAt t r .present)) r
         (contains-in t (x .low) r (placed .low) (record { present = p; range = contains-low x (placed .valid) }))))
 
 -- ---- the tuple of a range
-
--- whether x has hierarchies in region r
-abbrev reaches : Range → ℕ → Bool
-reaches x r = leb (firstOf r) (x .high .hierarchy) && leb (x .low .hierarchy) (lastOf r)
-
-abbrev partOf : Range → ℕ → Range
-partOf x r = rangeOf (labelOf (max (x .low .hierarchy) (firstOf r)) (x .low .categories)) (labelOf (min (x .high .hierarchy) (lastOf r)) (x .high .categories))
 
 part-placed : (x : Range) (r : ℕ) → r < regions → Range.validOf x ≡ true → reaches x r ≡ true → Placed r (partOf x r)
 part-placed x r k v h =

@@ -74,14 +74,18 @@ withinAt e f =
 unfoldable pub withinOf : Tuple → Tuple → Bool
 withinOf t u = every (λ r. withinAt (rangeAt t r) (rangeAt u r)) regions
 
+-- whether x has hierarchies in region r
+abbrev pub reaches : Range → ℕ → Bool
+reaches x r = leb (firstOf r) (x .high .hierarchy) && leb (x .low .hierarchy) (lastOf r)
+
 -- the part of x in region r: its hierarchies cut at the region's borders, both ends' categories kept
+abbrev pub partOf : Range → ℕ → Range
+partOf x r =
+    Range.rangeOf (Label.labelOf (max (x .low .hierarchy) (firstOf r)) (x .low .categories))
+    (Label.labelOf (min (x .high .hierarchy) (lastOf r)) (x .high .categories))
+
 unfoldable pub cutOf : Range → ℕ → RegionRange
-cutOf x r =
-    cond (leb (firstOf r) (x .high .hierarchy) && leb (x .low .hierarchy) (lastOf r))
-    (present
-    (Range.rangeOf (Label.labelOf (max (x .low .hierarchy) (firstOf r)) (x .low .categories))
-    (Label.labelOf (min (x .high .hierarchy) (lastOf r)) (x .high .categories))))
-    absent
+cutOf x r = cond (reaches x r) (present (partOf x r)) absent
 
 -- the tuple of a range
 unfoldable pub splitOf : Range → Tuple
