@@ -5,5 +5,6 @@ pub mod WordLaws
 pub mod ListingLaws
 pub mod RegionLaws
 pub mod AnswerLaws
+pub mod BufferLaws
 pub mod LabelLaws
 pub mod LabelExamples

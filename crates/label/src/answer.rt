@@ -16,3 +16,9 @@ pub enum Outcome {
     Granted,
     Refused(Errno),
 }
+
+// The length of what was written to a lent buffer.
+pub enum Written {
+    Length(usize),
+    Refused(Errno),
+}

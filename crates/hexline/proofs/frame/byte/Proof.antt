@@ -1,0 +1,24 @@
+use mathlib.Core.Path.{sym, _∙_}
+use native.Mathlib.Omega.{arith}
+use Rattle.hexline.proofs.FrameLoops.{body-at, body-past}
+use borrow.Author.Needs.{needs}
+use Rattle.hexline.proofs.frame.byte.Statement.{statement}
+use Rattle.hexline.proofs.frame.byte.Tie as tie
+
+returns : tie.Need-returns
+returns c = sym (body-past _ _ (omega arith))
+
+sub-if2 : tie.Need-sub-if2
+sub-if2 c = search needs
+
+returns-2 : tie.Need-returns-2
+returns-2 c = sym (body-past _ _ (c .if2 .taken))
+
+byte-at-requires : tie.Need-byte-at-requires
+byte-at-requires c κs = search needs
+
+returns-3 : tie.Need-returns-3
+returns-3 c = c .byte-at .ensures ∙ sym (body-at _ _ (c .before .if2 .left))
+
+pub byte-spec : {M : Type 1} → statement M
+byte-spec = tie.close (tie.spec returns sub-if2 returns-2 byte-at-requires returns-3)

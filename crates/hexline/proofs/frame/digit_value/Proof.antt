@@ -1,0 +1,33 @@
+use borrow.Author.Needs.{needs}
+use mathlib.Core.Path.{_≡_, sym, _∙_}
+use native.Mathlib.Omega.{arith}
+use borrow.Author.Tests.{not-false, not-true}
+use Rattle.hexline.proofs.FrameLaws.{high-value, low-value, no-digit, value-small}
+use Rattle.hexline.proofs.frame.digit_value.Statement.{statement}
+use Rattle.hexline.proofs.frame.digit_value.Tie as tie
+
+is-digit-requires : tie.Need-is-digit-requires
+is-digit-requires c κs = search needs
+
+returns : tie.Need-returns
+returns c = (sym (no-digit _ (sym (c .before .is-digit .ensures) ∙ not-true _ (c .if1 .taken))), search needs)
+
+sub-result : tie.Need-sub-result
+sub-result c = let v = low-value _ (sym (c .before .before .is-digit .ensures) ∙ not-false _ (c .before .if1 .left)) (c .if2 .taken) in search needs
+
+sub-result-2 : tie.Need-sub-result-2
+sub-result-2 c = let v = high-value _ (sym (c .before .before .is-digit .ensures) ∙ not-false _ (c .before .if1 .left)) (c .if2 .left) in search needs
+
+returns-2 : tie.Need-returns-2
+returns-2 c =
+    let v = low-value _ (sym (c .before .before .is-digit .ensures) ∙ not-false _ (c .before .if1 .left)) (c .if2 .taken) in
+    (sym (v .1), omega arith)
+
+returns-3 : tie.Need-returns-3
+returns-3 c =
+    let v = high-value _ (sym (c .before .before .is-digit .ensures) ∙ not-false _ (c .before .if1 .left)) (c .if2 .left) in
+    (sym (v .2), omega arith)
+
+pub digit-value-spec : {M : Type 1} → statement M
+digit-value-spec =
+    tie.close (tie.spec is-digit-requires returns sub-result sub-result-2 returns-2 returns-3)

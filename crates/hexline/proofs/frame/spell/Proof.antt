@@ -1,0 +1,96 @@
+use mathlib.Core.List.{List}
+use mathlib.Core.Path.{_≡_, refl, ap, _∙_}
+use Prim.Native.Nat.{ℕ, _≤_, _+_, _*_, _-_, _/_, _%_}
+use native.Mathlib.Omega.{arith}
+use lib.ListN.{getD, length, set, take}
+use lib.Seq.{take-all}
+use Rattle.label.specs.Buffer.{overlay}
+use Rattle.hexline.specs.Frame.{digitOf, digitsOf, sumOf}
+use Rattle.hexline.proofs.FrameLoops.{digits-fit, digits-next, sum-done, sum-next}
+use borrow.Author.Needs.{needs}
+use Rattle.hexline.proofs.frame.spell.Statement.{statement}
+use Rattle.hexline.proofs.frame.spell.Tie as tie
+
+abbrev Inv-loop : tie.InvT-loop
+Inv-loop body out₀ s₀ i₀ out s i =
+    (i ≤ length body) × (out ≡ overlay (digitsOf (take i body)) out₀) × (s ≡ sumOf (take i body) % 256)
+
+abbrev μ-loop : tie.MeasureT-loop
+μ-loop body out₀ s₀ i₀ out s i = length body - i
+
+loop-holds : tie.Need-loop-holds Inv-loop μ-loop
+unfolding sumOf digitsOf
+loop-holds c = (search needs, refl, refl)
+
+mul-put : tie.Need-mul-put Inv-loop μ-loop
+mul-put c = search needs
+
+shared-slice-read-put : tie.Need-shared-slice-read-put Inv-loop μ-loop
+shared-slice-read-put c = search needs
+
+put-requires : tie.Need-put-requires Inv-loop μ-loop
+put-requires c κs =
+    let h = c .before .before .before in
+    let p = h .before .before .before .pre in
+    let l = ap length (h .loop .inv .1) ∙ digits-fit _ _ (h .loop .i) (omega arith) p in
+    omega arith
+
+shared-slice-read-wide : tie.Need-shared-slice-read-wide Inv-loop μ-loop
+shared-slice-read-wide c = search needs
+
+wide-requires : tie.Need-wide-requires Inv-loop μ-loop
+wide-requires c κs = search needs
+
+add-s : tie.Need-add-s Inv-loop μ-loop
+add-s c = record { fits = omega (arith, c .wide .ensures, c .before .shared-slice-known3 .given (c .before .before .before .before .before .before .before .before .loop .i)) }
+
+add-i : tie.Need-add-i Inv-loop μ-loop
+add-i c = search needs
+
+loop-less : tie.Need-loop-less Inv-loop μ-loop
+loop-less c = search needs
+
+loop-again : tie.Need-loop-again Inv-loop μ-loop
+loop-again c =
+    let p = c .before .before .before .before in
+    let h = p .before .before .before .before in
+    let body = h .before .before .before .args .body .now in
+    let out = h .before .before .before .args .out .now in
+    let i = h .loop .i in (
+      search needs,
+      p .put .ensures ∙ ap (λ (l : List ℕ). set (set l (2 * i) (digitOf (getD body i 0 / 16))) (2 * i + 1) (digitOf (getD body i 0 % 16))) (h .loop .inv .1) ∙ digits-next body out i (omega arith) (h .before .before .before .pre),
+      ap (λ (b : ℕ). (h .loop .s + b) % 256) (c .wide .ensures) ∙ sum-next body i (h .loop .s) (omega arith) (h .loop .inv .2),
+    )
+
+same-length : tie.Need-same-length Inv-loop μ-loop
+same-length c =
+    let h = c .before in
+    ap length (h .loop .inv .1) ∙ digits-fit _ _ (h .loop .i) (h .loop .inv .0) (h .before .before .before .pre)
+
+returns : tie.Need-returns Inv-loop μ-loop
+returns c =
+    let h = c .before in
+    let body = h .before .before .before .args .body .now in
+    let out = h .before .before .before .args .out .now in (
+      sum-done body (h .loop .i) (h .loop .s) (c .loop-test .left) (h .loop .inv .2),
+      h .loop .inv .1 ∙ ap (λ (l : List ℕ). overlay (digitsOf l) out) (take-all (h .loop .i) body (c .loop-test .left)),
+    )
+
+pub spell-spec : {M : Type 1} → statement M
+spell-spec =
+    tie.close
+    (tie.spec
+    Inv-loop
+    μ-loop
+    loop-holds
+    mul-put
+    shared-slice-read-put
+    put-requires
+    shared-slice-read-wide
+    wide-requires
+    add-s
+    add-i
+    loop-less
+    loop-again
+    same-length
+    returns)

@@ -1,0 +1,70 @@
+use mathlib.Core.Path.{_≡_, refl, ap, _∙_}
+use Prim.Native.Nat.{ℕ, _≤_, _+_, _-_, _/_, _%_}
+use native.Mathlib.Omega.{arith}
+use lib.ListN.{getD, length, take}
+use Rattle.hexline.specs.Frame.{bytesOf, sumOf}
+use Rattle.hexline.proofs.FrameLaws.{bytes-length}
+use Rattle.hexline.proofs.FrameLoops.{sum-done, sum-next}
+use borrow.Author.Needs.{needs}
+use Rattle.hexline.proofs.frame.sum.Statement.{statement}
+use Rattle.hexline.proofs.frame.sum.Tie as tie
+
+abbrev Inv-loop : tie.InvT-loop
+Inv-loop line s₀ i₀ s i = (i ≤ length line / 2) × (s ≡ sumOf (take i (bytesOf line)) % 256)
+
+abbrev μ-loop : tie.MeasureT-loop
+μ-loop line s₀ i₀ s i = length line / 2 - i
+
+loop-holds : tie.Need-loop-holds Inv-loop μ-loop
+unfolding sumOf
+loop-holds c = (search needs, refl)
+
+byte-at-requires : tie.Need-byte-at-requires Inv-loop μ-loop
+byte-at-requires c κs = search needs
+
+wide-requires : tie.Need-wide-requires Inv-loop μ-loop
+wide-requires c κs = search needs
+
+add-s : tie.Need-add-s Inv-loop μ-loop
+add-s c = search needs
+
+add-i : tie.Need-add-i Inv-loop μ-loop
+add-i c = search needs
+
+loop-less : tie.Need-loop-less Inv-loop μ-loop
+loop-less c = search needs
+
+loop-again : tie.Need-loop-again Inv-loop μ-loop
+loop-again c =
+    let h = c .before .before .before in
+    let bs = bytesOf (h .before .before .args .line .now) in
+    let n = bytes-length (h .before .before .args .line .now) in
+    let e : c .wide .result ≡ getD bs (h .loop .i) 0 = c .wide .ensures ∙ c .before .byte-at .ensures in
+    (search needs, ap (λ (b : ℕ). (h .loop .s + b) % 256) e ∙ sum-next bs (h .loop .i) (h .loop .s) (omega arith) (h .loop .inv .1))
+
+cast-result : tie.Need-cast-result Inv-loop μ-loop
+cast-result c = search needs
+
+returns : tie.Need-returns Inv-loop μ-loop
+returns c =
+    let h = c .before in
+    let bs = bytesOf (h .before .before .args .line .now) in
+    let n = bytes-length (h .before .before .args .line .now) in
+    let e = sum-done bs (h .loop .i) (h .loop .s) (omega arith) (h .loop .inv .1) in
+    omega arith
+
+pub sum-spec : {M : Type 1} → statement M
+sum-spec =
+    tie.close
+    (tie.spec
+    Inv-loop
+    μ-loop
+    loop-holds
+    byte-at-requires
+    wide-requires
+    add-s
+    add-i
+    loop-less
+    loop-again
+    cast-result
+    returns)

@@ -1,0 +1,100 @@
+use mathlib.Core.List.{List}
+use mathlib.Core.Path.{_≡_, refl, sym, ap, _∙_}
+use Prim.Native.Nat.{ℕ, _+_, _*_, _-_, _/_, _%_}
+use native.Mathlib.Omega.{arith}
+use lib.ListN.{length, set, length-set}
+use borrow.Author.Tests.{le-leb, lt-leb}
+use Rattle.label.specs.declared.errno.Errno.the-variants.{Invalid}
+use Rattle.label.proofs.AnswerLaws.{passed, stopped}
+use Rattle.label.proofs.BufferLaws.{overlay-length, too-short, writes, writes-nothing}
+use Rattle.hexline.specs.Frame.{digitOf, digitsOf, frameOf, maxBody}
+use Rattle.hexline.proofs.FrameLaws.{digits-length, frame-length}
+use Rattle.hexline.proofs.FrameLoops.{check-of, frame-more}
+use borrow.Author.Needs.{needs}
+use Rattle.hexline.proofs.frame.write.Statement.{statement}
+use Rattle.hexline.proofs.frame.write.Tie as tie
+
+returns : tie.Need-returns
+returns c = writes-nothing Invalid _ _ _ (stopped _ 22 _ (lt-leb _ maxBody (c .if1 .taken))) refl
+
+mul-length : tie.Need-mul-length
+mul-length c = search needs
+
+add-length : tie.Need-add-length
+add-length c = search needs
+
+returns-2 : tie.Need-returns-2
+returns-2 c =
+    let body = c .before .before .before .before .args .body .now in
+    let n = frame-length body in
+    too-short (frameOf body) _ _ _ (passed _ 22 _ (le-leb (length body) maxBody (c .before .if1 .left))) _ (sym n) (omega arith) refl
+
+spell-requires : tie.Need-spell-requires
+spell-requires c κs = search needs
+
+mul-put : tie.Need-mul-put
+mul-put c = search needs
+
+sub-put : tie.Need-sub-put
+sub-put c = search needs
+
+cast-put : tie.Need-cast-put
+cast-put c = search needs
+
+put-requires : tie.Need-put-requires
+put-requires c κs = search needs
+
+mul-out : tie.Need-mul-out
+mul-out c = search needs
+
+add-out : tie.Need-add-out
+add-out c = search needs
+
+slice-write-out : tie.Need-slice-write-out
+slice-write-out c = search needs
+
+same-length : tie.Need-same-length
+same-length c =
+    let p = c .before .before in
+    let q = p .before .before .before .before in
+    let h = q .before .before in
+    let start = h .before .before .before .before in
+    let body = start .args .body .now in
+    let d = digits-length body in
+    let spelled = ap length (q .spell .ensures .1) ∙ overlay-length (digitsOf body) (start .args .out .now) (omega arith) in
+    simp length-set (ap length (p .put .ensures) ∙ simp length-set spelled)
+
+returns-3 : tie.Need-returns-3
+returns-3 c =
+    let p = c .before .before in
+    let q = p .before .before .before .before in
+    let h = q .before .before in
+    let start = h .before .before .before .before in
+    let body = start .args .body .now in
+    let out = start .args .out .now in
+    let n = length body in
+    let b = (256 - q .spell .result) % 256 in
+    let e = check-of body (q .spell .result) (q .spell .ensures .0) in
+    let len = frame-length body in
+    let two = p .put .ensures ∙ ap (λ (l : List ℕ). set (set l (2 * n) (digitOf (b / 16))) (2 * n + 1) (digitOf (b % 16))) (q .spell .ensures .1) in
+    writes (frameOf body) _ out _ (passed _ 22 _ (le-leb n maxBody (h .before .if1 .left))) _ (sym len) (omega arith)
+    (ap (λ (l : List ℕ). set l (2 * n + 2) 10) two ∙ frame-more body out b (2 * n) refl e (omega arith))
+
+pub write-spec : {M : Type 1} → statement M
+write-spec =
+    tie.close
+    (tie.spec
+    returns
+    mul-length
+    add-length
+    returns-2
+    spell-requires
+    mul-put
+    sub-put
+    cast-put
+    put-requires
+    mul-out
+    add-out
+    slice-write-out
+    same-length
+    returns-3)

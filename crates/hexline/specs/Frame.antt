@@ -1,0 +1,72 @@
+-- Document 01, "Hex lines": the frame, one a line, for a body of any bytes. Assumes nothing.
+use mathlib.Core.Bool.{Bool, false, cond, _&&_, _||_}
+use mathlib.Core.List.{List, [], _∷_, _++_}
+use Prim.Native.Nat.{ℕ, _+_, _*_, _-_, _/_, _%_}
+use lib.Dec.{eqb, leb, ltb}
+use lib.ListN.{length, take}
+use Rattle.label.specs.Answer.{Answer, granted, require}
+
+-- ---- digits: lower-case hex
+
+-- the digit of a number below 16
+unfoldable pub digitOf : ℕ → ℕ
+digitOf n = cond (ltb n 10) (48 + n) (87 + n)
+
+unfoldable pub isDigit : ℕ → Bool
+isDigit c = (leb 48 c && leb c 57) || (leb 97 c && leb c 102)
+
+-- the number of a digit, and 0 for any other byte
+unfoldable pub valueOf : ℕ → ℕ
+valueOf c = cond (isDigit c) (cond (leb c 57) (c - 48) (c - 87)) 0
+
+-- two digits a byte, the high one first
+unfoldable pub digitsOf : List ℕ → List ℕ
+digitsOf [] = []
+digitsOf (b ∷ bytes) = digitOf (b / 16) ∷ digitOf (b % 16) ∷ digitsOf bytes
+
+-- ---- writing
+
+unfoldable pub sumOf : List ℕ → ℕ
+sumOf [] = 0
+sumOf (b ∷ bytes) = b + sumOf bytes
+
+-- the byte that makes the sum of all a multiple of 256
+unfoldable pub checkOf : List ℕ → ℕ
+checkOf body = (256 - sumOf body % 256) % 256
+
+-- the line of a body: the digits of its bytes and of the check byte, then LF
+unfoldable pub frameOf : List ℕ → List ℕ
+frameOf body = digitsOf (body ++ (checkOf body ∷ [])) ++ (10 ∷ [])
+
+-- a body that is longer is not written: no kind has one, and the line's length stays a small number
+abbrev pub maxBody : ℕ
+maxBody = 65536
+
+abbrev pub frameAnswerOf : List ℕ → Answer (List ℕ)
+frameAnswerOf body = require (leb (length body) maxBody) 22 (granted (frameOf body))
+
+-- ---- reading
+
+-- a line is pairs of digits, then LF and nothing after it
+unfoldable pub spelledOf : List ℕ → Bool
+spelledOf [] = false
+spelledOf (c ∷ []) = eqb c 10
+spelledOf (h ∷ l ∷ rest) = isDigit h && isDigit l && spelledOf rest
+
+-- the bytes of a line
+unfoldable pub bytesOf : List ℕ → List ℕ
+bytesOf [] = []
+bytesOf (c ∷ []) = []
+bytesOf (h ∷ l ∷ rest) = (valueOf h * 16 + valueOf l) ∷ bytesOf rest
+
+-- a line is a frame: spelled in digits, with a last byte that makes the sum a multiple of 256
+unfoldable pub framedOf : List ℕ → Bool
+framedOf line = spelledOf line && leb 1 (length (bytesOf line)) && eqb (sumOf (bytesOf line) % 256) 0
+
+-- all bytes but the last
+unfoldable pub bodyOf : List ℕ → List ℕ
+bodyOf line = take (length (bytesOf line) - 1) (bytesOf line)
+
+-- what is read of a line by way of its body: a line that is no frame is refused with 22
+abbrev pub readOf : {A : Type 0} → (List ℕ → Answer A) → List ℕ → Answer A
+readOf read line = require (framedOf line) 22 (read (bodyOf line))

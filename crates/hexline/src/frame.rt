@@ -1,0 +1,149 @@
+// The frame of a hex line, for a body of any bytes: two lower-case hex digits a byte, a last byte that makes the sum of all a multiple of
+// 256, and LF.
+use label::answer::Written;
+use label::errno::Errno;
+ghost use mathlib.Core.Path.{_≡_};
+ghost use Prim.Native.Nat.{_+_, _*_, _<_, _≤_, _/_, _%_};
+ghost use lib.ListN.{getD, length, set};
+ghost use Rattle.label.specs.Buffer.{WrittenTo, overlay};
+ghost use Rattle.hexline.specs.Frame.{bodyOf, bytesOf, digitOf, digitsOf, frameAnswerOf, framedOf, isDigit, spelledOf, sumOf, valueOf};
+
+// A longer body is not written.
+pub const MAX_BODY: usize = 65536;
+
+const LINE_FEED: u8 = 10;
+
+fn digit(n: u8) -> u8
+    requires { ⌜ n < 16 ⌝ }
+    ensures { λ r. ⌜ r ≡ digitOf n ⌝ }
+{
+    if n < 10 { 48 + n } else { 87 + n }
+}
+
+fn is_digit(c: u8) -> bool
+    ensures { λ r. ⌜ r ≡ isDigit c ⌝ }
+{
+    ((48 <= c) & (c <= 57)) | ((97 <= c) & (c <= 102))
+}
+
+// The number of a digit, and 0 for any other byte.
+fn digit_value(c: u8) -> u8
+    ensures { λ r. ⌜ r ≡ valueOf c ⌝ }
+    ensures { λ r. ⌜ r < 16 ⌝ }
+{
+    if !is_digit(c) {
+        return 0;
+    }
+    if c <= 57 { c - 48 } else { c - 87 }
+}
+
+// Byte i of a line, the last one, which makes the sum, among them.
+fn byte_at(line: &[u8], i: usize) -> u8
+    requires { ⌜ i < length (now line) / 2 ⌝ }
+    ensures { λ r. ⌜ r ≡ getD (bytesOf (now (line .entry))) i 0 ⌝ }
+{
+    digit_value(line[2 * i]) * 16 + digit_value(line[2 * i + 1])
+}
+
+// Byte i of a line's body, and 0 past its end.
+pub fn byte(line: &[u8], i: usize) -> u8
+    ensures { λ r. ⌜ r ≡ getD (bodyOf (now (line .entry))) i 0 ⌝ }
+{
+    let bytes = line.len() / 2;
+    if bytes <= i {
+        return 0;
+    }
+    if bytes - 1 <= i {
+        return 0;
+    }
+    byte_at(line, i)
+}
+
+// Whether a line is pairs of digits, then LF and nothing after it.
+fn spelled(line: &[u8]) -> bool
+    ensures { λ r. ⌜ r ≡ spelledOf (now (line .entry)) ⌝ }
+{
+    let mut i = 0;
+    while i + 1 < line.len() {
+        if !(is_digit(line[i]) & is_digit(line[i + 1])) {
+            return false;
+        }
+        i += 2;
+    }
+    if i < line.len() {
+        return line[i] == LINE_FEED;
+    }
+    false
+}
+
+// The sum of a line's bytes, modulo 256.
+fn sum(line: &[u8]) -> u8
+    ensures { λ r. ⌜ r ≡ sumOf (bytesOf (now (line .entry))) % 256 ⌝ }
+{
+    let mut s: u64 = 0;
+    let mut i = 0;
+    while i < line.len() / 2 {
+        s = (s + wide(byte_at(line, i))) % 256;
+        i += 1;
+    }
+    (s % 256) as u8
+}
+
+fn wide(b: u8) -> u64
+    ensures { λ r. ⌜ r ≡ b ⌝ }
+{
+    b as u64
+}
+
+// Whether a line is the frame of some body.
+pub fn framed(line: &[u8]) -> bool
+    ensures { λ r. ⌜ r ≡ framedOf (now (line .entry)) ⌝ }
+{
+    if !spelled(line) {
+        return false;
+    }
+    (1 <= line.len() / 2) & (sum(line) == 0)
+}
+
+// The two digits of b at index at.
+fn put(out: &mut [u8], at: usize, b: u8)
+    requires { ⌜ at + 1 < length (now out) ⌝ }
+    ensures { λ _. ⌜ now (out .exit) ≡ set (set (now (out .entry)) at (digitOf (b / 16))) (at + 1) (digitOf (b % 16)) ⌝ }
+{
+    out[at] = digit(b / 16);
+    out[at + 1] = digit(b % 16);
+}
+
+// The digits of the body's bytes at the front of out, and the sum of these bytes, modulo 256.
+fn spell(body: &[u8], out: &mut [u8]) -> u64
+    requires { ⌜ 2 * length (now body) ≤ length (now out) ⌝ }
+    ensures { λ r. ⌜ r ≡ sumOf (now (body .entry)) % 256 ⌝ }
+    ensures { λ _. ⌜ now (out .exit) ≡ overlay (digitsOf (now (body .entry))) (now (out .entry)) ⌝ }
+{
+    let mut s: u64 = 0;
+    let mut i = 0;
+    while i < body.len() {
+        put(out, 2 * i, body[i]);
+        s = (s + wide(body[i])) % 256;
+        i += 1;
+    }
+    s
+}
+
+// The line of a body, at the front of out.
+pub fn write(body: &[u8], out: &mut [u8]) -> Written
+    ensures { λ r. ⌜ WrittenTo r (frameAnswerOf (now (body .entry))) (now (out .entry)) (now (out .exit)) ⌝ }
+{
+    let n = body.len();
+    if MAX_BODY < n {
+        return Written::Refused(Errno::Invalid);
+    }
+    let length = 2 * n + 3;
+    if out.len() < length {
+        return Written::Refused(Errno::TooBig(length));
+    }
+    let s = spell(body, out);
+    put(out, 2 * n, ((256 - s) % 256) as u8);
+    out[2 * n + 2] = LINE_FEED;
+    Written::Length(length)
+}
