@@ -59,6 +59,14 @@ pub fn byte(line: &[u8], i: usize) -> u8
     byte_at(line, i)
 }
 
+// How many bytes a line's body has.
+pub fn body_length(line: &[u8]) -> usize
+    ensures { λ r. ⌜ r ≡ length (bodyOf (now (line .entry))) ⌝ }
+{
+    let bytes = line.len() / 2;
+    if bytes == 0 { 0 } else { bytes - 1 }
+}
+
 // Whether a line is pairs of digits, then LF and nothing after it.
 fn spelled(line: &[u8]) -> bool
     ensures { λ r. ⌜ r ≡ spelledOf (now (line .entry)) ⌝ }
@@ -89,7 +97,7 @@ fn sum(line: &[u8]) -> u8
     (s % 256) as u8
 }
 
-fn wide(b: u8) -> u64
+pub(crate) fn wide(b: u8) -> u64
     ensures { λ r. ⌜ r ≡ b ⌝ }
 {
     b as u64

@@ -1,2 +1,197 @@
-// Hex lines: one frame a line, in `frame`; and what is written and read as its body.
+// Hex lines: one frame a line, in `frame`, and what stands in its body. A writer takes contents and a lent buffer, a reader one whole line
+// with its LF; each refuses what document 01 refuses, and a refusal writes nothing.
+mod body;
 pub mod frame;
+mod regions;
+
+use crate::body::LINE_WORDS;
+use crate::body::label_at;
+use crate::body::put_label;
+use crate::body::put_range;
+use crate::body::range_at;
+use crate::regions::presence;
+use crate::regions::present_below;
+use crate::regions::put_regions;
+use crate::regions::tuple_at;
+use label::Label;
+use label::LabelAnswer;
+use label::answer::Outcome;
+use label::answer::Written;
+use label::errno::Errno;
+use label::region::REGIONS;
+use range::Range;
+use range::RangeAnswer;
+use range::tuple;
+use range::tuple::Tuple;
+use range::tuple::TupleAnswer;
+ghost use mathlib.Core.Path.{_≡_};
+ghost use mathlib.Core.Bool.{_&&_};
+ghost use Rattle.label.specs.Answer.{Answered};
+ghost use Rattle.label.specs.Buffer.{WrittenTo};
+ghost use Rattle.label.specs.Label as labels;
+ghost use Rattle.range.specs.Range as ranges;
+ghost use Rattle.range.specs.Tuple as tuples;
+ghost use Rattle.hexline.specs.Body.{lineWords};
+ghost use Rattle.hexline.specs.Frame.{bodyOf, framedOf};
+ghost use Rattle.hexline.specs.Line.{formOf, kindAnswerOf, kindOf, labelLineOf, rangeLineOf, readLabelOf, readRangeOf, readTupleOf, tupleForm, tupleLineOf};
+
+// The longest body is a full tuple's: kind, presence, six labels.
+pub(crate) const BODY_BYTES: usize = 200;
+
+// The kind that a line says it has.
+pub enum Kind {
+    OfLabel,
+    OfRange,
+    OfTuple,
+    OfEntry,
+    Refused(Errno),
+}
+
+// Which reader a line is for.
+pub fn kind_of(line: &[u8]) -> Kind
+    ensures { λ r. ⌜ kindAnswerOf r ≡ kindOf (now (line .entry)) ⌝ }
+{
+    if !frame::framed(line) {
+        return Kind::Refused(Errno::Invalid);
+    }
+    let kind = frame::byte(line, 0);
+    if kind == 1 {
+        return Kind::OfLabel;
+    }
+    if kind == 2 {
+        return Kind::OfRange;
+    }
+    if kind == 3 {
+        return Kind::OfTuple;
+    }
+    if kind == 4 {
+        return Kind::OfEntry;
+    }
+    Kind::Refused(Errno::Invalid)
+}
+
+// The line of a label, kind 01.
+pub fn write_label(l: Label, out: &mut [u8]) -> Written
+    ensures { λ r. ⌜ WrittenTo r (labelLineOf l) (now (out .entry)) (now (out .exit)) ⌝ }
+{
+    if !label::valid(l) {
+        return Written::Refused(Errno::Invalid);
+    }
+    let mut bytes = [0u8; BODY_BYTES];
+    bytes[0] = 1;
+    let n = put_label(&mut bytes, 1, l, LINE_WORDS);
+    frame::write(&bytes[..n], out)
+}
+
+// The line of a range, kind 02.
+pub fn write_range(x: Range, out: &mut [u8]) -> Written
+    ensures { λ r. ⌜ WrittenTo r (rangeLineOf x) (now (out .entry)) (now (out .exit)) ⌝ }
+{
+    if !range::valid(x) {
+        return Written::Refused(Errno::Invalid);
+    }
+    let mut bytes = [0u8; BODY_BYTES];
+    bytes[0] = 2;
+    let n = put_range(&mut bytes, 1, x, LINE_WORDS);
+    frame::write(&bytes[..n], out)
+}
+
+// The line of a tuple, kind 03.
+pub fn write_tuple(t: Tuple, out: &mut [u8]) -> Written
+    ensures { λ r. ⌜ WrittenTo r (tupleLineOf t) (now (out .entry)) (now (out .exit)) ⌝ }
+{
+    if !tuple::valid(t) {
+        return Written::Refused(Errno::Invalid);
+    }
+    let mut bytes = [0u8; BODY_BYTES];
+    bytes[0] = 3;
+    bytes[1] = presence(t);
+    let n = put_regions(&mut bytes, 2, t, LINE_WORDS);
+    frame::write(&bytes[..n], out)
+}
+
+// Whether a line is a frame, with a body of that many bytes and of that kind.
+fn has_form(line: &[u8], bytes: usize, kind: u8) -> bool
+    ensures { λ r. ⌜ r ≡ (framedOf (now (line .entry)) && formOf (bodyOf (now (line .entry))) bytes kind) ⌝ }
+{
+    frame::framed(line) & ((frame::body_length(line) == bytes) & (frame::byte(line, 0) == kind))
+}
+
+// The label of a line of kind 01.
+pub fn read_label(line: &[u8]) -> LabelAnswer
+    ensures { λ r. ⌜ Answered (r .outcome) (r .label) labels.zeroLabel (readLabelOf (now (line .entry))) ⌝ }
+{
+    if has_form(line, 34, 1) {
+        let l = label_at(line, 1, LINE_WORDS);
+        if label::valid(l) {
+            return LabelAnswer {
+                outcome: Outcome::Granted,
+                label: l,
+            };
+        }
+        return LabelAnswer {
+            outcome: Outcome::Refused(Errno::Invalid),
+            label: label::zero(),
+        };
+    }
+    LabelAnswer {
+        outcome: Outcome::Refused(Errno::Invalid),
+        label: label::zero(),
+    }
+}
+
+// The range of a line of kind 02.
+pub fn read_range(line: &[u8]) -> RangeAnswer
+    ensures { λ r. ⌜ Answered (r .outcome) (r .range) ranges.zeroRange (readRangeOf (now (line .entry))) ⌝ }
+{
+    if has_form(line, 67, 2) {
+        let x = range_at(line, 1, LINE_WORDS);
+        if range::valid(x) {
+            return RangeAnswer {
+                outcome: Outcome::Granted,
+                range: x,
+            };
+        }
+        return RangeAnswer {
+            outcome: Outcome::Refused(Errno::Invalid),
+            range: range::zero(),
+        };
+    }
+    RangeAnswer {
+        outcome: Outcome::Refused(Errno::Invalid),
+        range: range::zero(),
+    }
+}
+
+// Whether a line has the form of a tuple's: kind 03, and as many ranges as its byte of presence says.
+fn has_tuple_form(line: &[u8]) -> bool
+    ensures { λ r. ⌜ r ≡ (framedOf (now (line .entry)) && tupleForm 3 lineWords (bodyOf (now (line .entry)))) ⌝ }
+{
+    let p = frame::byte(line, 1);
+    let n = present_below(p, REGIONS) * 66 + 2;
+    frame::framed(line)
+        & ((p < 8) & ((frame::body_length(line) == n) & (frame::byte(line, 0) == 3)))
+}
+
+// The tuple of a line of kind 03.
+pub fn read_tuple(line: &[u8]) -> TupleAnswer
+    ensures { λ r. ⌜ Answered (r .outcome) (r .tuple) tuples.emptyTuple (readTupleOf (now (line .entry))) ⌝ }
+{
+    if has_tuple_form(line) {
+        let t = tuple_at(line, frame::byte(line, 1), 2, LINE_WORDS);
+        if tuple::valid(t) {
+            return TupleAnswer {
+                outcome: Outcome::Granted,
+                tuple: t,
+            };
+        }
+        return TupleAnswer {
+            outcome: Outcome::Refused(Errno::Invalid),
+            tuple: tuple::empty(),
+        };
+    }
+    TupleAnswer {
+        outcome: Outcome::Refused(Errno::Invalid),
+        tuple: tuple::empty(),
+    }
+}

@@ -1,7 +1,7 @@
 -- The laws of tuples, by the region's number. Assumes nothing.
 use mathlib.Core.Bool.{Bool, true, false, cond, not, _&&_, _||_, and-false, true≢false}
 use mathlib.Core.Logic.{_↔_}
-use mathlib.Core.Path.{_≡_, refl, sym, ap, _∙_, subst}
+use mathlib.Core.Path.{_≡_, refl, sym, ap, ap₂, _∙_, subst}
 use Prim.Native.Nat.{ℕ, _≤_, _<_}
 use native.Mathlib.Omega.{arith}
 use lib.Dec.{eqb, leb}
@@ -26,7 +26,7 @@ use Rattle.range.proofs.RangeLaws.{common-label, contains-high, contain
 -- ---- by the region
 
 -- the tuple that has f r for each region r
-range-of : (f : ℕ → RegionRange) (r : ℕ) → r < regions → rangeAt (tupleOf (tabulate f regions)) r ≡ f r
+pub range-of : (f : ℕ → RegionRange) (r : ℕ) → r < regions → rangeAt (tupleOf (tabulate f regions)) r ≡ f r
 range-of f r h = tabulate-at f regions r _ h
 
 -- a valid range with both ends in region r
@@ -52,7 +52,17 @@ pub absent-valid : (r : ℕ) → validAt r absent ≡ true
 unfolding validAt
 absent-valid r = both (equal-exact zeroLabel zeroLabel refl .1 refl) (equal-exact zeroLabel zeroLabel refl .1 refl)
 
-valid-region : (t : Tuple) → validOf t ≡ true → (r : ℕ) → r < regions → validAt r (rangeAt t r) ≡ true
+-- where there is no range, a valid tuple holds just that
+pub valid-absent : (r : ℕ) (e : RegionRange) → Range.TypedRange (e .range) → e .present ≡ false → validAt r e ≡ true → e ≡ absent
+unfolding validAt
+valid-absent r e t p h =
+    let low : Bool = Label.equalOf (e .range .low) zeroLabel in
+    let high : Bool = Label.equalOf (e .range .high) zeroLabel in
+    let l = equal-exact (e .range .low) zeroLabel (t .low .length-is) .0 (first-true low high (rw p at h)) in
+    let u = equal-exact (e .range .high) zeroLabel (t .high .length-is) .0 (second-true low high (rw p at h)) in
+    ap₂ (λ (b : Bool) (x : Range). record { present = b; range = x }) p (ap₂ Range.rangeOf l u)
+
+pub valid-region : (t : Tuple) → validOf t ≡ true → (r : ℕ) → r < regions → validAt r (rangeAt t r) ≡ true
 unfolding validOf
 valid-region t v r k = every-at (λ j. validAt j (rangeAt t j)) regions r v k
 

@@ -33,7 +33,7 @@ pub struct TupleAnswer {
 }
 
 // No range: zeros.
-fn no_range() -> RegionRange
+pub fn no_range() -> RegionRange
     ensures { λ r. ⌜ r ≡ absent ⌝ }
 {
     RegionRange {

@@ -1,0 +1,177 @@
+-- The laws of labels and ranges as bytes: what is written reads back, and what is read is written as it stands. Assumes nothing.
+use mathlib.Core.List.{List, [], _∷_, _++_}
+use mathlib.Core.Logic.{_⊎_, inl, inr, ⊎-elim}
+use mathlib.Core.Path.{_≡_, refl, sym, ap, ap₂, _∙_}
+use Prim.Native.Nat.{ℕ, zero, suc, _+_, _*_, _/_, _%_, _^_, _≤_, _<_}
+use native.Mathlib.Nat.{add-zero, mod-lt, zero-lt-suc}
+use native.Mathlib.Omega.{arith}
+use lib.ListN.{drop, getD, length, take, length-append, length-drop, List·getD-append, List·getD-eq-default}
+use lib.Seq.{ext-getD, getD-append-add, getD-drop, getD-take, length-take-le, drop-drop, take-add}
+use borrow.Author.Tests.{le-ltb, lt-ltb}
+use Rattle.label.specs.Index.{tabulate}
+use Rattle.label.specs.Label
+use Rattle.label.specs.Words.{wordAt, words}
+use Rattle.label.specs.declared.Label.{Label}
+use Rattle.label.proofs.IndexLaws.{le-or-lt, tabulate-at, tabulate-length}
+use Rattle.range.specs.Range
+use Rattle.range.specs.declared.Range.{Range}
+use Rattle.hexline.specs.Body.{byteAt, categoryByte, labelAt, labelBytes, labelSize, numberOf, rangeAt, rangeBytes, rangeSize, wordFrom}
+use Rattle.hexline.proofs.FrameLaws.{Bytes}
+use Rattle.hexline.proofs.NumberLaws.{number-digit, number-only}
+
+-- ---- bytes at an index
+
+-- bs has xs from index i on
+abbrev pub Holds : List ℕ → ℕ → List ℕ → Type 0
+Holds bs i xs = (k : ℕ) → k < length xs → getD bs (i + k) 0 ≡ getD xs k 0
+
+pub holds-self : (bs : List ℕ) → Holds bs 0 bs
+holds-self bs k h = ap (λ (n : ℕ). getD bs n 0) (omega arith)
+
+pub holds-first : (bs : List ℕ) (i : ℕ) (xs ys : List ℕ) → Holds bs i (xs ++ ys) → Holds bs i xs
+holds-first bs i xs ys h k l = let n = length-append xs ys in h k (omega arith) ∙ List·getD-append xs ys 0 k l
+
+pub holds-second : (bs : List ℕ) (i j : ℕ) (xs ys : List ℕ) → j ≡ i + length xs → Holds bs i (xs ++ ys) → Holds bs j ys
+holds-second bs i j xs ys e h k l =
+    let n = length-append xs ys in
+    ap (λ (m : ℕ). getD bs m 0) (omega arith) ∙ h (length xs + k) (omega arith) ∙ getD-append-add xs ys k 0
+
+-- n bytes of bs from index i on
+abbrev pub part : ℕ → ℕ → List ℕ → List ℕ
+part i n bs = take n (drop i bs)
+
+pub part-length : (i n : ℕ) (bs : List ℕ) → i + n ≤ length bs → length (part i n bs) ≡ n
+part-length i n bs h = let d = length-drop i bs in length-take-le n (drop i bs) (omega arith)
+
+pub part-at : (i n k : ℕ) (bs : List ℕ) → k < n → getD (part i n bs) k 0 ≡ getD bs (i + k) 0
+part-at i n k bs h = getD-take n (drop i bs) k 0 h ∙ getD-drop i bs k 0
+
+-- a list that bs has from index i on is that part of it
+pub part-is : (i n : ℕ) (bs xs : List ℕ) → i + n ≤ length bs → length xs ≡ n → ((k : ℕ) → k < n → getD xs k 0 ≡ getD bs (i + k) 0) → xs ≡ part i n bs
+part-is i n bs xs h e at =
+    ext-getD 0 xs (part i n bs) (e ∙ sym (part-length i n bs h)) (λ k l. at k (omega arith) ∙ sym (part-at i n k bs (omega arith)))
+
+pub bytes-append : (xs ys : List ℕ) → Bytes xs → Bytes ys → Bytes (xs ++ ys)
+bytes-append [] ys hx hy i = hy i
+bytes-append (x ∷ xs) ys hx hy zero = hx 0
+bytes-append (x ∷ xs) ys hx hy (suc i) = bytes-append xs ys (λ j. hx (suc j)) hy i
+
+pub bytes-tabulate : (f : ℕ → ℕ) (n : ℕ) → ((i : ℕ) → f i < 256) → Bytes (tabulate f n)
+bytes-tabulate f n h i =
+    ⊎-elim
+    (λ l. let e = tabulate-length f n in let z = List·getD-eq-default (tabulate f n) 0 {n = i} (omega arith) in omega arith)
+    (λ l. let e = tabulate-at f n i 0 l in omega (arith, h i))
+    (le-or-lt n i)
+
+-- ---- labels
+
+-- every category of l stands in the bytes of w words
+abbrev pub Within : ℕ → Label → Type 0
+Within w l = (j : ℕ) → w ≤ j → wordAt (l .categories) j ≡ 0
+
+pub label-length : (w : ℕ) (l : Label) → length (labelBytes w l) ≡ labelSize w
+unfolding labelBytes
+label-length w l = let t = tabulate-length (categoryByte (l .categories)) (8 * w) in omega arith
+
+category-byte-small : (ws : List ℕ) (i : ℕ) → categoryByte ws i < 256
+unfolding categoryByte
+category-byte-small ws i = mod-lt (wordAt ws (i / 8) / 256 ^ (i % 8)) (zero-lt-suc 255)
+
+pub label-bytes : (w : ℕ) (l : Label) → l .hierarchy < 256 → Bytes (labelBytes w l)
+unfolding labelBytes
+label-bytes w l h zero = h
+label-bytes w l h (suc i) = bytes-tabulate (categoryByte (l .categories)) (8 * w) (category-byte-small (l .categories)) i
+
+-- byte k of word j
+word-byte : (ws : List ℕ) (j k : ℕ) → k < 8 → categoryByte ws (8 * j + k) ≡ wordAt ws j / 256 ^ k % 256
+unfolding categoryByte
+word-byte ws j k h =
+    let q : (8 * j + k) / 8 ≡ j = omega arith in
+    let r : (8 * j + k) % 8 ≡ k = omega arith in
+    ap₂ (λ (x y : ℕ). wordAt ws x / 256 ^ y % 256) q r
+
+pub word-from : (w : ℕ) (bs : List ℕ) (i j : ℕ) → j < w → wordFrom w bs i j ≡ numberOf 256 (byteAt bs) (i + 8 * j) 8
+unfolding wordFrom
+word-from w bs i j h = rw (lt-ltb j w h)
+
+pub word-past : (w : ℕ) (bs : List ℕ) (i j : ℕ) → w ≤ j → wordFrom w bs i j ≡ 0
+unfolding wordFrom
+word-past w bs i j h = rw (le-ltb j w h)
+
+-- the bytes of a label read back as the label
+pub label-back : (w : ℕ) (bs : List ℕ) (i : ℕ) (l : Label) → Holds bs i (labelBytes w l) → Label.Typed l → Within w l → labelAt w bs i ≡ l
+unfolding labelBytes labelAt
+label-back w bs i l h t within = ap₂ Label.labelOf first rest
+  where
+    cats : List ℕ
+    cats = l .categories
+
+    size : length (l .hierarchy ∷ tabulate (categoryByte cats) (8 * w)) ≡ labelSize w
+    size = let t = tabulate-length (categoryByte cats) (8 * w) in omega arith
+
+    first : byteAt bs i ≡ l .hierarchy
+    first = ap (byteAt bs) (sym (add-zero i)) ∙ h 0 (omega (arith, size))
+
+    digit : (j k : ℕ) → j < w → k < 8 → byteAt bs (i + 1 + 8 * j + k) ≡ wordAt cats j / 256 ^ k % 256
+    digit j k lj lk =
+        ap (byteAt bs) (omega arith) ∙ h (suc (8 * j + k)) (omega (arith, size))
+        ∙ tabulate-at (categoryByte cats) (8 * w) (8 * j + k) 0 (omega arith) ∙ word-byte cats j k lk
+
+    word : (j : ℕ) → wordFrom w bs (i + 1) j ≡ wordAt cats j
+    word j =
+        ⊎-elim (λ p. word-past w bs (i + 1) j p ∙ sym (within j p))
+        (λ p. word-from w bs (i + 1) j p ∙ number-only 256 (byteAt bs) (zero-lt-suc 255) (i + 1 + 8 * j) 8 (wordAt cats j) (λ k q. digit j k p q) (t .word j))
+        (le-or-lt w j)
+
+    rest : tabulate (wordFrom w bs (i + 1)) words ≡ cats
+    rest =
+        ext-getD 0 (tabulate (wordFrom w bs (i + 1)) words) cats (tabulate-length (wordFrom w bs (i + 1)) words ∙ sym (t .length-is))
+        (λ j p. tabulate-at (wordFrom w bs (i + 1)) words j 0 (omega (arith, tabulate-length (wordFrom w bs (i + 1)) words)) ∙ word j)
+
+-- a label that is read is written as the bytes that it was read from
+pub label-forth : (w : ℕ) (bs : List ℕ) (i : ℕ) → Bytes bs → w ≤ words → i + labelSize w ≤ length bs → labelBytes w (labelAt w bs i) ≡ part i (labelSize w) bs
+unfolding labelBytes labelAt
+label-forth w bs i small fits h =
+    part-is i (labelSize w) bs _ h (omega (arith, tabulate-length (categoryByte (tabulate (wordFrom w bs (i + 1)) words)) (8 * w))) at-index
+  where
+    ws : List ℕ
+    ws = tabulate (wordFrom w bs (i + 1)) words
+
+    at-index : (k : ℕ) → k < labelSize w → getD (byteAt bs i ∷ tabulate (categoryByte ws) (8 * w)) k 0 ≡ getD bs (i + k) 0
+    at-index zero p = ap (byteAt bs) (sym (add-zero i))
+    at-index (suc m) p =
+        let q : m / 8 < w = omega arith in
+        tabulate-at (categoryByte ws) (8 * w) m 0 (omega arith)
+        ∙ ap (categoryByte ws) (omega arith)
+        ∙ word-byte ws (m / 8) (m % 8) (omega arith)
+        ∙ ap (λ (x : ℕ). x / 256 ^ (m % 8) % 256) (tabulate-at (wordFrom w bs (i + 1)) words (m / 8) 0 (omega arith) ∙ word-from w bs (i + 1) (m / 8) q)
+        ∙ number-digit 256 (byteAt bs) small (i + 1 + 8 * (m / 8)) 8 (m % 8) (omega arith)
+        ∙ ap (byteAt bs) (omega arith)
+
+-- ---- ranges
+
+pub range-length : (w : ℕ) (x : Range) → length (rangeBytes w x) ≡ rangeSize w
+unfolding rangeBytes
+range-length w x = length-append (labelBytes w (x .low)) (labelBytes w (x .high)) ∙ ap₂ _+_ (label-length w (x .low)) (label-length w (x .high))
+
+pub range-bytes : (w : ℕ) (x : Range) → Range.TypedRange x → Bytes (rangeBytes w x)
+unfolding rangeBytes
+range-bytes w x t =
+    bytes-append (labelBytes w (x .low)) (labelBytes w (x .high)) (label-bytes w (x .low) (t .low .hierarchy)) (label-bytes w (x .high) (t .high .hierarchy))
+
+pub range-back : (w : ℕ) (bs : List ℕ) (i : ℕ) (x : Range) → Holds bs i (rangeBytes w x) → Range.TypedRange x → Within w (x .low) → Within w (x .high) → rangeAt w bs i ≡ x
+unfolding rangeBytes rangeAt
+range-back w bs i x h t wl wh =
+    let n = label-length w (x .low) in
+    ap₂ Range.rangeOf (label-back w bs i (x .low) (holds-first bs i (labelBytes w (x .low)) (labelBytes w (x .high)) h) (t .low) wl)
+    (label-back w bs (i + labelSize w) (x .high) (holds-second bs i (i + labelSize w) (labelBytes w (x .low)) (labelBytes w (x .high)) (omega arith) h) (t .high) wh)
+
+-- two parts that stand side by side
+pub parts-join : (i m n : ℕ) (bs : List ℕ) → part i m bs ++ part (i + m) n bs ≡ part i (m + n) bs
+parts-join i m n bs = ap (λ (l : List ℕ). part i m bs ++ take n l) (sym (drop-drop m i bs)) ∙ sym (take-add m n (drop i bs))
+
+pub range-forth : (w : ℕ) (bs : List ℕ) (i : ℕ) → Bytes bs → w ≤ words → i + rangeSize w ≤ length bs → rangeBytes w (rangeAt w bs i) ≡ part i (rangeSize w) bs
+unfolding rangeBytes rangeAt
+range-forth w bs i small fits h =
+    ap₂ _++_ (label-forth w bs i small fits (omega arith)) (label-forth w bs (i + labelSize w) small fits (omega arith))
+    ∙ parts-join i (labelSize w) (labelSize w) bs

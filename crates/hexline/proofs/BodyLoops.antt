@@ -1,0 +1,55 @@
+-- What the functions of `body` need at each turn of a loop. Assumes nothing.
+use mathlib.Core.List.{List, _∷_, [], _++_, append-assoc, append-nil}
+use mathlib.Core.Path.{_≡_, refl, sym, ap, _∙_}
+use Prim.Native.Nat.{ℕ, suc, _+_, _*_, _≤_, _<_}
+use native.Mathlib.Nat.{add-zero, lt-of-lt-of-le, pow-le-pow-right, zero-lt-suc}
+use native.Mathlib.Numerals.{add-one}
+use native.Mathlib.Omega.{arith}
+use lib.ListN.{length, set, take, length-append}
+use lib.Seq.{length-take-le, take-suc-set}
+use Rattle.label.specs.Index.{tabulate}
+use Rattle.label.specs.declared.Label.{Label}
+use Rattle.hexline.specs.Body.{Appended, byteAt, categoryByte, labelBytes, numberOf}
+use Rattle.hexline.proofs.FrameLaws.{Bytes}
+use Rattle.hexline.proofs.NumberLaws.{number-bound}
+
+-- the bytes past the lowest of a word leave room for one more
+pub word-room : (bs : List ℕ) → Bytes bs → (i n : ℕ) → n ≤ 7 → numberOf 256 (byteAt bs) i n < 72057594037927936
+word-room bs small i n h = lt-of-lt-of-le (number-bound 256 (byteAt bs) small i n) (pow-le-pow-right (zero-lt-suc 255) h)
+
+pub fill-start : (f : ℕ → ℕ) (out : List ℕ) (k : ℕ) → take (k + 0) out ≡ take k out ++ tabulate f 0
+unfolding tabulate
+fill-start f out k = ap (λ (n : ℕ). take n out) (add-zero k) ∙ sym (append-nil (take k out))
+
+-- one more element of f past the front of a buffer
+pub fill-more : (f : ℕ → ℕ) (xs out : List ℕ) (k i v : ℕ) → k + i < length out → v ≡ f i → take (k + i) out ≡ xs ++ tabulate f i
+    → take (k + (i + 1)) (set out (k + i) v) ≡ xs ++ tabulate f (i + 1)
+unfolding tabulate
+fill-more f xs out k i v h e inv =
+    let n : k + (i + 1) ≡ suc (k + i) = omega arith in
+    rw (n, take-suc-set out (k + i) v h, inv, e, add-one i) (append-assoc xs (tabulate f i) (f i ∷ []))
+
+-- a label's bytes once the loop over its set is done
+pub label-done : (before out : List ℕ) (at w i : ℕ) (l : Label) → at < length before → i ≡ 8 * w
+    → take (at + 1 + i) out ≡ take (at + 1) (set before at (l .hierarchy)) ++ tabulate (categoryByte (l .categories)) i
+    → take (at + 1 + i) out ≡ take at before ++ labelBytes w l
+unfolding labelBytes
+label-done before out at w i l h e inv =
+    inv ∙ ap (λ (n : ℕ). take (at + 1) (set before at (l .hierarchy)) ++ tabulate (categoryByte (l .categories)) n) e
+    ∙ ap (λ (xs : List ℕ). xs ++ tabulate (categoryByte (l .categories)) (8 * w)) (ap (λ (n : ℕ). take n (set before at (l .hierarchy))) (add-one at) ∙ take-suc-set before at (l .hierarchy) h)
+    ∙ append-assoc (take at before) (l .hierarchy ∷ []) (tabulate (categoryByte (l .categories)) (8 * w))
+
+-- bytes that are put one after the other
+pub appended-both : {a b c xs ys : List ℕ} {i j k : ℕ} → Appended a i xs j b → Appended b j ys k c → Appended a i (xs ++ ys) k c
+appended-both {a = a} {xs = xs} {ys = ys} {i = i} p q =
+    let n = p .next in
+    let m = q .next in
+    let l = length-append xs ys in
+    record { next = omega arith; holds = q .holds ∙ ap (λ (t : List ℕ). t ++ ys) (p .holds) ∙ append-assoc (take i a) xs ys; size = q .size ∙ p .size }
+
+pub appended-none : (a : List ℕ) (i : ℕ) → Appended a i [] i a
+appended-none a i = record { next = sym (add-zero i); holds = sym (append-nil (take i a)); size = refl }
+
+-- the bytes up to the index past the last are that many
+pub appended-count : {a b xs : List ℕ} {i r : ℕ} → Appended a i xs r b → r ≤ length a → r ≡ length (take r b)
+appended-count {b = b} {r = r} p h = let n = p .size in sym (length-take-le r b (omega arith))

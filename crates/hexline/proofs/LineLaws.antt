@@ -1,0 +1,118 @@
+-- The laws of lines by their kind, and the ways in which their readers and writers end. Assumes nothing.
+use mathlib.Core.Bool.{Bool, true, false, _&&_}
+use mathlib.Core.List.{List}
+use mathlib.Core.Option.{none}
+use mathlib.Core.Path.{_≡_, refl, sym, ap, _∙_}
+use Prim.Native.Nat.{ℕ, _+_, _*_, _≤_, _<_}
+use native.Mathlib.Omega.{arith}
+use lib.Dec.{eqb, leb, ltb}
+use lib.ListN.{length}
+use borrow.Author.Tests.{eqb-true, le-leb, leb-true, ltb-true}
+use Rattle.label.specs.Answer.{Answer, Answered, granted, refused, require}
+use Rattle.label.specs.Buffer.{WrittenTo}
+use Rattle.label.specs.Region.{regions}
+use Rattle.label.specs.declared.answer.Outcome.the-variants.{Granted, Refused}
+use Rattle.label.specs.declared.answer.Written.{Written}
+use Rattle.label.specs.declared.errno.Errno.the-variants.{Invalid}
+use Rattle.label.proofs.AnswerLaws.{answers-grant, answers-refusal}
+use Rattle.label.proofs.BoolLaws.{both, first-true, not-so, second-true}
+use Rattle.hexline.specs.Body.{byteAt, rangeSize}
+use Rattle.hexline.specs.Frame.{bodyOf, frameAnswerOf, frameOf, framedOf, maxBody, readOf}
+use Rattle.hexline.specs.Regions.{presentBelow}
+use Rattle.hexline.proofs.FrameLaws.{Bytes, reads-back, reads-exactly}
+use Rattle.hexline.specs.Line.{contentsOf, formOf, kindOf, lineOf, tupleForm}
+
+-- ---- how a reader ends: a line that is no frame or has another form, contents that are not valid, or a grant
+
+module _ {A : Type 0} (form : List ℕ → Bool) (contents : List ℕ → A) (valid : A → Bool) (line : List ℕ) (z : A) where
+  pub grants : (x : A) → (framedOf line && form (bodyOf line)) ≡ true → x ≡ contents (bodyOf line) → valid x ≡ true
+      → Answered Granted x z (readOf (contentsOf form contents valid) line)
+  unfolding contentsOf
+  grants x e f v =
+      answers-grant x z (contents (bodyOf line)) _
+      (rw (first-true (framedOf line) (form (bodyOf line)) e, second-true (framedOf line) (form (bodyOf line)) e, ap valid (sym f) ∙ v)) f
+
+  pub bad-form : (value : A) → (framedOf line && form (bodyOf line)) ≡ false → value ≡ z → Answered (Refused Invalid) value z (readOf (contentsOf form contents valid) line)
+  unfolding contentsOf
+  bad-form value e = answers-refusal Invalid value z _ (go (framedOf line) e)
+    where
+      go : (f : Bool) → (f && form (bodyOf line)) ≡ false
+          → require f 22 (require (form (bodyOf line) && valid (contents (bodyOf line))) 22 (granted (contents (bodyOf line)))) ≡ refused 22 none
+      go true e = rw e
+      go false e = refl
+
+  pub bad-contents : (x value : A) → x ≡ contents (bodyOf line) → valid x ≡ false → value ≡ z
+      → Answered (Refused Invalid) value z (readOf (contentsOf form contents valid) line)
+  unfolding contentsOf
+  bad-contents x value f v = answers-refusal Invalid value z _ (go (framedOf line) (form (bodyOf line)) (ap valid (sym f) ∙ v))
+    where
+      go : (f g : Bool) → valid (contents (bodyOf line)) ≡ false
+          → require f 22 (require (g && valid (contents (bodyOf line))) 22 (granted (contents (bodyOf line)))) ≡ refused 22 none
+      go true true e = rw e
+      go true false e = refl
+      go false g e = refl
+
+-- ---- a kind's two laws, from those of its body: what the writer makes reads back, and what is accepted is what the writer makes
+
+module _ {A : Type 0} (form : List ℕ → Bool) (contents : List ℕ → A) (valid : A → Bool) (body : A → List ℕ) (x : A) where
+  pub line-back : Bytes (body x) → form (body x) ≡ true → contents (body x) ≡ x → valid x ≡ true → readOf (contentsOf form contents valid) (frameOf (body x)) ≡ granted x
+  unfolding contentsOf
+  line-back small f e v = reads-back body (contentsOf form contents valid) x small (rw (f, e, v))
+
+  pub line-only : ((bs : List ℕ) → Bytes bs → form bs ≡ true → bs ≡ body (contents bs)) → (line : List ℕ) → readOf (contentsOf form contents valid) line ≡ granted x
+      → (line ≡ frameOf (body x)) × (valid x ≡ true)
+  unfolding contentsOf
+  line-only forth line e = (reads-exactly body (contentsOf form contents valid) x only line e, go (framedOf line) e)
+    where
+      taken : (bs : List ℕ) (f v : Bool) → form bs ≡ f → valid (contents bs) ≡ v → require (form bs && valid (contents bs)) 22 (granted (contents bs)) ≡ granted x
+          → (form bs ≡ true) × (contents bs ≡ x) × (valid x ≡ true)
+      taken bs true true p q r =
+          let c : contents bs ≡ x = cc (rw (p, q) at r) in
+          (p, c, ap valid (sym c) ∙ q)
+      taken bs true false p q r = let no : _≡_ {A = ℕ} 0 1 = cc (rw (p, q) at r) in absurd (omega arith)
+      taken bs false v p q r = let no : _≡_ {A = ℕ} 0 1 = cc (rw p at r) in absurd (omega arith)
+
+      only : (bs : List ℕ) → Bytes bs → contentsOf form contents valid bs ≡ granted x → bs ≡ body x
+      only bs small r = let t = taken bs (form bs) (valid (contents bs)) refl refl r in forth bs small (t .0) ∙ ap body (t .1)
+
+      go : (f : Bool) → require f 22 (contentsOf form contents valid (bodyOf line)) ≡ granted x → valid x ≡ true
+      go true r = taken (bodyOf line) (form (bodyOf line)) (valid (contents (bodyOf line))) refl refl r .2
+      go false r = let no : _≡_ {A = ℕ} 0 1 = cc r in absurd (omega arith)
+
+pub form-length : (bs : List ℕ) (n kind : ℕ) → formOf bs n kind ≡ true → length bs ≡ n
+unfolding formOf
+form-length bs n kind e = eqb-true (length bs) n (first-true (eqb (length bs) n) (eqb (byteAt bs 0) kind) e)
+
+pub form-kind : (bs : List ℕ) (n kind : ℕ) → formOf bs n kind ≡ true → byteAt bs 0 ≡ kind
+unfolding formOf
+form-kind bs n kind e = eqb-true (byteAt bs 0) kind (second-true (eqb (length bs) n) (eqb (byteAt bs 0) kind) e)
+
+pub tuple-form-parts : (kind w : ℕ) (bs : List ℕ) → tupleForm kind w bs ≡ true
+    → (byteAt bs 1 < 8) × (length bs ≡ presentBelow (byteAt bs 1) regions * rangeSize w + 2) × (byteAt bs 0 ≡ kind)
+unfolding tupleForm
+tuple-form-parts kind w bs e =
+    let n = presentBelow (byteAt bs 1) regions * rangeSize w + 2 in
+    let f = second-true (ltb (byteAt bs 1) 8) (formOf bs n kind) e in
+    (ltb-true (byteAt bs 1) 8 (first-true (ltb (byteAt bs 1) 8) (formOf bs n kind) e), form-length bs n kind f, form-kind bs n kind f)
+
+-- ---- how a writer ends that has put a body together
+
+pub writes-line : (r : Written) (before after bs body : List ℕ) (valid : Bool) → valid ≡ true → bs ≡ body → length body ≤ maxBody
+    → WrittenTo r (frameAnswerOf bs) before after → WrittenTo r (lineOf valid body) before after
+writes-line r before after bs body valid v e h w =
+    let fits : leb (length body) maxBody ≡ true = le-leb (length body) maxBody h in
+    rw v (rw (e, fits) at w)
+
+-- ---- the kind of a line
+
+pub kind-is : (line : List ℕ) (n : ℕ) → framedOf line ≡ true → byteAt (bodyOf line) 0 ≡ n → 1 ≤ n → n ≤ 4 → kindOf line ≡ granted n
+kind-is line n f e l h = rw (f, e, le-leb 1 n l, le-leb n 4 h)
+
+pub kind-none : (line : List ℕ) → (framedOf line ≡ true → 1 ≤ byteAt (bodyOf line) 0 → byteAt (bodyOf line) 0 ≤ 4 → ⊥) → kindOf line ≡ refused 22 none
+kind-none line h =
+    let k = byteAt (bodyOf line) 0 in
+    let no : (framedOf line && leb 1 k && leb k 4) ≡ false =
+    not-so (framedOf line && leb 1 k && leb k 4)
+    (λ e. let both-e = first-true (framedOf line && leb 1 k) (leb k 4) e in
+    h (first-true (framedOf line) (leb 1 k) both-e) (leb-true 1 k (second-true (framedOf line) (leb 1 k) both-e)) (leb-true k 4 (second-true (framedOf line && leb 1 k) (leb k 4) e))) in
+    rw no

@@ -1,0 +1,68 @@
+-- The laws of `numberOf`: a number and its digits in a base, the lowest first. Assumes nothing.
+use mathlib.Core.Path.{_≡_, refl, sym, ap, ap₂, _∙_}
+use Prim.Native.Nat.{ℕ, zero, suc, _+_, _*_, _/_, _%_, _^_, _≤_, _<_}
+use native.Mathlib.Nat.{add-mul-div-left, add-mul-mod-self-left, add-zero, div-div-eq-div-mul, div-eq-of-lt, div-lt-iff-lt-mul, div-one, lt-of-lt-of-le, mod-add-div, mod-eq-of-lt, mul-add, mul-comm, mul-le-mul-left, mul-one, add-comm, pow-le-pow-right, pow-suc, pow-succ', pow-zero, zero-lt-suc}
+use native.Mathlib.Numerals.{add-one}
+use native.Mathlib.Omega.{arith}
+use lib.Arith.{lt-one}
+use lib.Pow.{pow-add}
+use Rattle.hexline.specs.Body.{numberOf}
+
+-- the digits past the lowest are those of the quotient
+pub quotient-digit : (w b k : ℕ) → w / b ^ suc k ≡ w / b / b ^ k
+quotient-digit w b k = ap (λ (p : ℕ). w / p) (pow-succ' b k) ∙ sym (div-div-eq-div-mul w b (b ^ k))
+
+lowest-digit : (w b : ℕ) → w / b ^ 0 ≡ w
+lowest-digit w b = ap (λ (p : ℕ). w / p) (pow-zero b) ∙ div-one w
+
+module _ (b : ℕ) (f : ℕ → ℕ) where
+  -- digits below the base are those of their number
+  pub number-digit : ((k : ℕ) → f k < b) → (i n k : ℕ) → k < n → numberOf b f i n / b ^ k % b ≡ f (i + k)
+  unfolding numberOf
+  number-digit h i zero k l = absurd (omega arith)
+  number-digit h i (suc n) zero l =
+      let pos : 0 < b = omega (arith, h i) in
+      ap (λ (x : ℕ). x % b) (lowest-digit (f i + b * numberOf b f (suc i) n) b)
+      ∙ add-mul-mod-self-left (f i) b (numberOf b f (suc i) n) ∙ mod-eq-of-lt (h i) ∙ ap f (sym (add-zero i))
+  number-digit h i (suc n) (suc k) l =
+      let pos : 0 < b = omega (arith, h i) in
+      let q : (f i + b * numberOf b f (suc i) n) / b ≡ numberOf b f (suc i) n =
+      add-mul-div-left (f i) (numberOf b f (suc i) n) pos ∙ ap (λ (x : ℕ). x + numberOf b f (suc i) n) (div-eq-of-lt (h i)) ∙ omega arith in
+      ap (λ (x : ℕ). x % b) (quotient-digit (f i + b * numberOf b f (suc i) n) b k ∙ ap (λ (x : ℕ). x / b ^ k) q)
+      ∙ number-digit h (suc i) n k (omega arith) ∙ ap f (omega arith)
+
+  -- a number is known by its digits
+  pub number-only : 0 < b → (i n w : ℕ) → ((k : ℕ) → k < n → f (i + k) ≡ w / b ^ k % b) → w < b ^ n → numberOf b f i n ≡ w
+  unfolding numberOf
+  number-only pos i zero w h l = sym (lt-one (rw pow-zero at l))
+  number-only pos i (suc n) w h l =
+      let low : f i ≡ w % b = ap f (sym (add-zero i)) ∙ h 0 (omega arith) ∙ ap (λ (x : ℕ). x % b) (lowest-digit w b) in
+      let high : numberOf b f (suc i) n ≡ w / b =
+      number-only pos (suc i) n (w / b)
+      (λ k m. ap f (omega arith) ∙ h (suc k) (omega arith) ∙ ap (λ (x : ℕ). x % b) (quotient-digit w b k))
+      (div-lt-iff-lt-mul pos .1 (rw pow-suc at l)) in
+      ap₂ (λ (x y : ℕ). x + b * y) low high ∙ mod-add-div w b
+
+  pub number-bound : ((k : ℕ) → f k < b) → (i n : ℕ) → numberOf b f i n < b ^ n
+  unfolding numberOf
+  number-bound h i zero = rw pow-zero (zero-lt-suc 0)
+  number-bound h i (suc n) =
+      let ih : numberOf b f (suc i) n < b ^ n = number-bound h (suc i) n in
+      let m : b * (numberOf b f (suc i) n + 1) ≤ b * b ^ n = mul-le-mul-left b (omega arith) in
+      let e : b * (numberOf b f (suc i) n + 1) ≡ b * numberOf b f (suc i) n + b = mul-add b (numberOf b f (suc i) n) 1 ∙ ap (λ (x : ℕ). b * numberOf b f (suc i) n + x) (mul-one b) in
+      rw pow-succ' (omega (arith, h i))
+
+  -- a loop that takes the digits from the highest down
+  pub number-next : (i n w : ℕ) → w ≡ numberOf b f (i + 1) n → w * b + f i ≡ numberOf b f i (n + 1)
+  unfolding numberOf
+  number-next i n w e =
+      let c = mul-comm w b in
+      let s : w ≡ numberOf b f (suc i) n = e ∙ ap (λ (j : ℕ). numberOf b f j n) (add-one i) in
+      rw add-one (ap (λ (x : ℕ). x + f i) (c ∙ ap (λ (x : ℕ). b * x) s) ∙ add-comm (b * numberOf b f (suc i) n) (f i))
+
+-- eight bits a byte
+pub pow-byte : (k : ℕ) → 2 ^ (k * 8) ≡ 256 ^ k
+pow-byte zero = refl
+pow-byte (suc k) =
+    let e : suc k * 8 ≡ k * 8 + 8 = omega arith in
+    ap (λ (n : ℕ). 2 ^ n) e ∙ pow-add 2 (k * 8) 8 ∙ ap (λ (x : ℕ). x * 2 ^ 8) (pow-byte k) ∙ sym (pow-suc 256 k)

@@ -1,0 +1,248 @@
+-- The laws of tuples as bytes. Assumes nothing.
+use mathlib.Core.Bool.{Bool, true, false, cond}
+use mathlib.Core.List.{List, [], _∷_, _++_, append-nil}
+use mathlib.Core.Logic.{_⊎_, inl, inr, ⊎-elim}
+use mathlib.Core.Path.{_≡_, refl, sym, ap, ap₂, _∙_}
+use Prim.Native.Nat.{ℕ, zero, suc, _+_, _*_, _/_, _%_, _^_, _≤_, _<_}
+use native.Mathlib.Nat.{add-mul, add-zero, eq-or-lt-of-le, lt-of-lt-of-le, mod-lt, mul-le-mul-right, suc-mul, zero-lt-suc, zero-mul}
+use native.Mathlib.Numerals.{add-one}
+use native.Mathlib.Omega.{arith}
+use lib.Dec.{eqb}
+use lib.ListN.{getD, length, length-append}
+use lib.Pow.{pow-mono}
+use lib.Seq.{ext-getD}
+use Rattle.label.specs.Index.{tabulate}
+use Rattle.label.specs.Label
+use Rattle.label.specs.Region.{regions}
+use Rattle.label.specs.Words.{bit, words}
+use Rattle.label.proofs.IndexLaws.{tabulate-at, tabulate-length}
+use Rattle.range.specs.Range
+use Rattle.range.specs.Tuple
+use Rattle.range.specs.declared.Range.{Range}
+use Rattle.range.specs.declared.tuple.RegionRange.{RegionRange}
+use Rattle.range.specs.declared.tuple.Tuple.{Tuple}
+use Rattle.range.proofs.TupleLaws.{range-of, valid-absent, valid-region}
+use Rattle.hexline.specs.Body.{Appended, numberOf, rangeAt, rangeBytes, rangeSize}
+use Rattle.hexline.specs.Regions.{presenceOf, presentAt, presentBelow, regionAt, regionBytes, regionsBytes, tupleAt}
+use Rattle.hexline.proofs.BodyLaws.{Holds, Within, bytes-append, holds-first, holds-second, part, parts-join, range-back, range-bytes, range-forth, range-length}
+use Rattle.hexline.proofs.FrameLaws.{Bytes}
+use Rattle.hexline.proofs.NumberLaws.{number-bound, number-digit, number-only}
+
+-- ---- one region
+
+pub region-there : (w : ℕ) (e : RegionRange) → e .present ≡ true → regionBytes w e ≡ rangeBytes w (e .range)
+unfolding regionBytes
+region-there w e h = rw h
+
+pub region-none : (w : ℕ) (e : RegionRange) → e .present ≡ false → regionBytes w e ≡ []
+unfolding regionBytes
+region-none w e h = rw h
+
+pub regions-next : (w : ℕ) (t : Tuple) (n : ℕ) → regionsBytes w t (n + 1) ≡ regionsBytes w t n ++ regionBytes w (Tuple.rangeAt t n)
+unfolding regionsBytes
+regions-next w t n = rw add-one
+
+pub below-next : (p n : ℕ) → presentBelow p n + cond (bit p n) 1 0 ≡ presentBelow p (n + 1)
+unfolding presentBelow
+below-next p n = rw add-one
+
+-- ---- sizes
+
+-- a region is there or not
+by-present : {A : Type 0} (b : Bool) → (b ≡ true → A) → (b ≡ false → A) → A
+by-present true f g = f refl
+by-present false f g = g refl
+
+region-size : (w : ℕ) (e : RegionRange) → length (regionBytes w e) ≡ cond (e .present) 1 0 * rangeSize w
+region-size w e =
+    by-present (e .present) (λ h. ap length (region-there w e h) ∙ range-length w (e .range) ∙ sym (ap (λ (b : Bool). cond b 1 0 * rangeSize w) h ∙ omega arith))
+    (λ h. ap length (region-none w e h) ∙ sym (ap (λ (b : Bool). cond b 1 0 * rangeSize w) h ∙ omega arith))
+
+pub one-of : (b : Bool) → cond b 1 0 ≤ 1
+one-of true = omega arith
+one-of false = omega arith
+
+one-below : (b : Bool) → cond b 1 0 < 2
+one-below true = omega arith
+one-below false = omega arith
+
+pub regions-size : (w : ℕ) (t : Tuple) (n : ℕ) → length (regionsBytes w t n) ≤ n * rangeSize w
+unfolding regionsBytes
+regions-size w t zero = omega arith
+regions-size w t (suc n) =
+    let ih : length (regionsBytes w t n) ≤ n * rangeSize w = regions-size w t n in
+    let a = length-append (regionsBytes w t n) (regionBytes w (Tuple.rangeAt t n)) in
+    let e = region-size w (Tuple.rangeAt t n) in
+    let m : cond (Tuple.rangeAt t n .present) 1 0 * rangeSize w ≤ 1 * rangeSize w = mul-le-mul-right (rangeSize w) (one-of (Tuple.rangeAt t n .present)) in
+    let s = suc-mul n (rangeSize w) in
+    omega arith
+
+-- there is room for the next region
+pub regions-room : (w : ℕ) (t : Tuple) (r : ℕ) → r < regions → length (regionsBytes w t r) + rangeSize w ≤ regions * rangeSize w
+regions-room w t r h =
+    let a = regions-size w t r in
+    let s = suc-mul r (rangeSize w) in
+    let m : suc r * rangeSize w ≤ regions * rangeSize w = mul-le-mul-right (rangeSize w) h in
+    omega arith
+
+below-mono : (p m n : ℕ) → m ≤ n → presentBelow p m ≤ presentBelow p n
+unfolding presentBelow
+below-mono p m zero h = let e : m ≡ 0 = omega arith in rw e (omega arith)
+below-mono p m (suc n) h =
+    ⊎-elim (λ e. rw e (omega arith)) (λ l. let ih : presentBelow p m ≤ presentBelow p n = below-mono p m n (omega arith) in omega arith) (eq-or-lt-of-le h)
+
+-- a region that is there has room for its range
+pub present-room : (p r n s : ℕ) → r < n → bit p r ≡ true → presentBelow p r * s + s ≤ presentBelow p n * s
+present-room p r n s h e =
+    let one : _≡_ {A = ℕ} (cond (bit p r) 1 0) 1 = ap (λ (b : Bool). cond b 1 0) e in
+    let k : presentBelow p (r + 1) ≤ presentBelow p n = below-mono p (r + 1) n (omega arith) in
+    let b = below-next p r in
+    let m : suc (presentBelow p r) * s ≤ presentBelow p n * s = mul-le-mul-right s (omega arith) in
+    let q = suc-mul (presentBelow p r) s in
+    omega arith
+
+-- ---- the byte of presence
+
+pub present-small : (t : Tuple) (r : ℕ) → presentAt t r < 2
+present-small t r = one-below (Tuple.rangeAt t r .present)
+
+-- the bits past the lowest leave room for one more
+pub presence-room : (t : Tuple) (r n : ℕ) → n ≤ 2 → numberOf 2 (presentAt t) r n < 4
+presence-room t r n h = lt-of-lt-of-le (number-bound 2 (presentAt t) (present-small t) r n) (pow-mono h)
+
+pub presence-small : (t : Tuple) → presenceOf t < 8
+unfolding presenceOf
+presence-small t = number-bound 2 (presentAt t) (present-small t) 0 regions
+
+as-bit : (b : Bool) → eqb (cond b 1 0) 1 ≡ b
+as-bit true = refl
+as-bit false = refl
+
+presence-bit : (t : Tuple) (r : ℕ) → r < regions → bit (presenceOf t) r ≡ Tuple.rangeAt t r .present
+unfolding bit presenceOf
+presence-bit t r h =
+    ap (λ (x : ℕ). eqb x 1) (number-digit 2 (presentAt t) (present-small t) 0 regions r h ∙ ap (presentAt t) (omega arith)) ∙ as-bit (Tuple.rangeAt t r .present)
+
+presence-below : (w : ℕ) (t : Tuple) (n : ℕ) → n ≤ regions → length (regionsBytes w t n) ≡ presentBelow (presenceOf t) n * rangeSize w
+unfolding regionsBytes presentBelow
+presence-below w t zero h = sym (zero-mul (rangeSize w))
+presence-below w t (suc n) h =
+    length-append (regionsBytes w t n) (regionBytes w (Tuple.rangeAt t n))
+    ∙ ap₂ _+_ (presence-below w t n (omega arith)) (region-size w (Tuple.rangeAt t n) ∙ ap (λ (b : Bool). cond b 1 0 * rangeSize w) (sym (presence-bit t n h)))
+    ∙ sym (add-mul (presentBelow (presenceOf t) n) (cond (bit (presenceOf t) n) 1 0) (rangeSize w))
+
+pub presence-size : (w : ℕ) (t : Tuple) → length (regionsBytes w t regions) ≡ presentBelow (presenceOf t) regions * rangeSize w
+presence-size w t = presence-below w t regions (omega arith)
+
+-- ---- the bytes of a tuple read back as the tuple
+
+-- every category of a tuple's labels stands in the bytes of w words
+abbrev pub WithinTuple : ℕ → Tuple → Type 0
+WithinTuple w t = (r : ℕ) → r < regions → Within w (Tuple.rangeAt t r .range .low) × Within w (Tuple.rangeAt t r .range .high)
+
+region-bytes : (w : ℕ) (e : RegionRange) → Range.TypedRange (e .range) → Bytes (regionBytes w e)
+region-bytes w e t =
+    by-present (e .present) (λ h. rw (region-there w e h) (range-bytes w (e .range) t)) (λ h. rw (region-none w e h) (λ i. omega arith))
+
+pub regions-bytes : (w : ℕ) (t : Tuple) → Tuple.TypedTuple t → (n : ℕ) → n ≤ regions → Bytes (regionsBytes w t n)
+unfolding regionsBytes
+regions-bytes w t ty zero h = λ i. omega arith
+regions-bytes w t ty (suc n) h =
+    bytes-append (regionsBytes w t n) (regionBytes w (Tuple.rangeAt t n)) (regions-bytes w t ty n (omega arith)) (region-bytes w (Tuple.rangeAt t n) (ty .range n h))
+
+-- the regions below n stand first
+holds-below : (w : ℕ) (t : Tuple) (bs : List ℕ) (i m n : ℕ) → m ≤ n → Holds bs i (regionsBytes w t n) → Holds bs i (regionsBytes w t m)
+unfolding regionsBytes
+holds-below w t bs i m zero l h = let e : m ≡ 0 = omega arith in rw e h
+holds-below w t bs i m (suc n) l h =
+    ⊎-elim (λ e. rw e h) (λ q. holds-below w t bs i m n (omega arith) (holds-first bs i (regionsBytes w t n) (regionBytes w (Tuple.rangeAt t n)) h)) (eq-or-lt-of-le l)
+
+module _ (w : ℕ) (t : Tuple) (bs : List ℕ) (i : ℕ) (ty : Tuple.TypedTuple t) (within : WithinTuple w t) (valid : Tuple.validOf t ≡ true)
+    (h : Holds bs i (regionsBytes w t regions)) where
+  region-back : (r : ℕ) → r < regions → regionAt w bs (presenceOf t) i r ≡ Tuple.rangeAt t r
+  unfolding regionAt
+  region-back r l = by-present (e .present) there none
+    where
+      e : RegionRange
+      e = Tuple.rangeAt t r
+
+      same : bit (presenceOf t) r ≡ e .present
+      same = presence-bit t r l
+
+      here : Holds bs (i + presentBelow (presenceOf t) r * rangeSize w) (regionBytes w e)
+      here =
+          holds-second bs i (i + presentBelow (presenceOf t) r * rangeSize w) (regionsBytes w t r) (regionBytes w e) (ap (λ (n : ℕ). i + n) (sym (presence-below w t r (omega arith))))
+          (rw (← regions-next w t r) (holds-below w t bs i (r + 1) regions (omega arith) h))
+
+      there : e .present ≡ true → regionAt w bs (presenceOf t) i r ≡ e
+      there p =
+          let x = range-back w bs (i + presentBelow (presenceOf t) r * rangeSize w) (e .range) (rw (region-there w e p) at here) (ty .range r l) (within r l .0) (within r l .1) in
+          ap (λ (b : Bool). cond b (Tuple.present (rangeAt w bs (i + presentBelow (presenceOf t) r * rangeSize w))) Tuple.absent) (same ∙ p)
+          ∙ ap₂ (λ (b : Bool) (y : Range). record { present = b; range = y }) (sym p) x
+
+      none : e .present ≡ false → regionAt w bs (presenceOf t) i r ≡ e
+      none p =
+          ap (λ (b : Bool). cond b (Tuple.present (rangeAt w bs (i + presentBelow (presenceOf t) r * rangeSize w))) Tuple.absent) (same ∙ p)
+          ∙ sym (valid-absent r e (ty .range r l) p (valid-region t valid r l))
+
+  pub tuple-back : tupleAt w bs (presenceOf t) i ≡ t
+  unfolding tupleAt
+  tuple-back =
+      ap Tuple.tupleOf
+      (ext-getD _ (tabulate (regionAt w bs (presenceOf t) i) regions) (t .ranges) (tabulate-length (regionAt w bs (presenceOf t) i) regions ∙ sym (ty .length-is))
+      (λ r l. let k : r < regions = omega (arith, tabulate-length (regionAt w bs (presenceOf t) i) regions) in tabulate-at (regionAt w bs (presenceOf t) i) regions r _ k ∙ region-back r k))
+
+-- ---- a tuple that is read is written as the bytes that it was read from
+
+as-number : (x : ℕ) → x < 2 → cond (eqb x 1) 1 0 ≡ x
+as-number zero h = refl
+as-number (suc zero) h = refl
+as-number (suc (suc x)) h = absurd (omega arith)
+
+module _ (w : ℕ) (bs : List ℕ) (p i : ℕ) where
+  at-region : (r : ℕ) → r < regions → Tuple.rangeAt (tupleAt w bs p i) r ≡ regionAt w bs p i r
+  unfolding tupleAt
+  at-region r h = range-of (regionAt w bs p i) r h
+
+  region-present : (r : ℕ) → regionAt w bs p i r .present ≡ bit p r
+  unfolding regionAt
+  region-present r = by-present (bit p r) (λ e. rw e) (λ e. rw e)
+
+  pub presence-forth : p < 8 → presenceOf (tupleAt w bs p i) ≡ p
+  unfolding presenceOf bit
+  presence-forth h =
+      number-only 2 (presentAt (tupleAt w bs p i)) (zero-lt-suc 1) 0 regions p
+      (λ r l. ap (presentAt (tupleAt w bs p i)) (omega arith) ∙ ap (λ (e : RegionRange). cond (e .present) 1 0) (at-region r l)
+      ∙ ap (λ (b : Bool). cond b 1 0) (region-present r) ∙ as-number (p / 2 ^ r % 2) (mod-lt (p / 2 ^ r) (zero-lt-suc 1)))
+      h
+
+  region-forth : Bytes bs → w ≤ words → (r : ℕ) → r < regions → i + presentBelow p regions * rangeSize w ≤ length bs
+      → regionBytes w (regionAt w bs p i r) ≡ part (i + presentBelow p r * rangeSize w) (cond (bit p r) 1 0 * rangeSize w) bs
+  unfolding regionAt
+  region-forth small fits r l room = by-present (bit p r) there none
+    where
+      at : ℕ
+      at = i + presentBelow p r * rangeSize w
+
+      there : bit p r ≡ true → regionBytes w (regionAt w bs p i r) ≡ part at (cond (bit p r) 1 0 * rangeSize w) bs
+      there e =
+          let k = present-room p r regions (rangeSize w) l e in
+          let whole : _≡_ {A = ℕ} (cond (bit p r) 1 0 * rangeSize w) (rangeSize w) = ap (λ (b : Bool). cond b 1 0 * rangeSize w) e ∙ omega arith in
+          ap (λ (b : Bool). regionBytes w (cond b (Tuple.present (rangeAt w bs at)) Tuple.absent)) e
+          ∙ region-there w (Tuple.present (rangeAt w bs at)) refl ∙ range-forth w bs at small fits (omega arith)
+          ∙ ap (λ (n : ℕ). part at n bs) (sym whole)
+
+      none : bit p r ≡ false → regionBytes w (regionAt w bs p i r) ≡ part at (cond (bit p r) 1 0 * rangeSize w) bs
+      none e =
+          let nothing : _≡_ {A = ℕ} (cond (bit p r) 1 0 * rangeSize w) 0 = ap (λ (b : Bool). cond b 1 0 * rangeSize w) e ∙ omega arith in
+          ap (λ (b : Bool). regionBytes w (cond b (Tuple.present (rangeAt w bs at)) Tuple.absent)) e
+          ∙ region-none w Tuple.absent refl ∙ ap (λ (n : ℕ). part at n bs) (sym nothing)
+
+  pub regions-forth : Bytes bs → w ≤ words → i + presentBelow p regions * rangeSize w ≤ length bs → (n : ℕ) → n ≤ regions
+      → regionsBytes w (tupleAt w bs p i) n ≡ part i (presentBelow p n * rangeSize w) bs
+  unfolding regionsBytes presentBelow
+  regions-forth small fits room zero h = ap (λ (n : ℕ). part i n bs) (sym (zero-mul (rangeSize w)))
+  regions-forth small fits room (suc n) h =
+      ap₂ _++_ (regions-forth small fits room n (omega arith)) (ap (regionBytes w) (at-region n h) ∙ region-forth small fits n h room)
+      ∙ parts-join i (presentBelow p n * rangeSize w) (cond (bit p n) 1 0 * rangeSize w) bs
+      ∙ ap (λ (m : ℕ). part i m bs) (sym (add-mul (presentBelow p n) (cond (bit p n) 1 0) (rangeSize w)))

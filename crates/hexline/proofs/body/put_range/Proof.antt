@@ -1,0 +1,31 @@
+use native.Mathlib.Omega.{arith}
+use Rattle.hexline.specs.Body.{rangeBytes}
+use Rattle.hexline.proofs.BodyLaws.{label-length}
+use Rattle.hexline.proofs.BodyLoops.{appended-both}
+use borrow.Author.Needs.{needs}
+use Rattle.hexline.proofs.body.put_range.Statement.{statement}
+use Rattle.hexline.proofs.body.put_range.Tie as tie
+
+put-label-requires : tie.Need-put-label-requires
+put-label-requires c κs = search needs
+
+put-label-requires-2 : tie.Need-put-label-requires-2
+put-label-requires-2 c κs =
+    let p = c .before .before .before in
+    let start = p .before .before .before in
+    let n = label-length (start .args .words) (start .args .x .low) in
+    let next = p .put-label .ensures .next in
+    let size = p .put-label .ensures .size in
+    (search needs, omega arith)
+
+same-length : tie.Need-same-length
+same-length c = search needs
+
+returns : tie.Need-returns
+unfolding rangeBytes
+returns c =
+    let q = c .before .before in
+    appended-both (q .before .before .before .before .put-label .ensures) (q .put-label2 .ensures)
+
+pub put-range-spec : {M : Type 1} → statement M
+put-range-spec = tie.close (tie.spec put-label-requires put-label-requires-2 same-length returns)

@@ -1,0 +1,84 @@
+use mathlib.Core.Path.{_≡_, refl, ap, ap₂, _∙_}
+use Prim.Native.Nat.{ℕ, _≤_, _+_, _*_, _-_}
+use native.Mathlib.Omega.{arith}
+use Rattle.hexline.specs.Frame.{bodyOf}
+use Rattle.hexline.specs.Body.{byteAt, numberOf}
+use Rattle.hexline.proofs.FrameLaws.{body-small}
+use Rattle.hexline.proofs.NumberLaws.{number-next}
+use Rattle.hexline.proofs.BodyLoops.{word-room}
+use borrow.Author.Needs.{needs}
+use Rattle.hexline.proofs.body.word_at.Statement.{statement}
+use Rattle.hexline.proofs.body.word_at.Tie as tie
+
+abbrev Inv-loop : tie.InvT-loop
+Inv-loop line at w₀ k₀ w k = (k ≤ 8) × (w ≡ numberOf 256 (byteAt (bodyOf line)) (at + k) (8 - k))
+
+abbrev μ-loop : tie.MeasureT-loop
+μ-loop line at w₀ k₀ w k = k
+
+loop-holds : tie.Need-loop-holds Inv-loop μ-loop
+unfolding numberOf
+loop-holds c = (search needs, refl)
+
+sub-k : tie.Need-sub-k Inv-loop μ-loop
+sub-k c = search needs
+
+mul-w : tie.Need-mul-w Inv-loop μ-loop
+mul-w c =
+    let h = c .before in
+    let room = word-room (bodyOf (h .before .before .args .line .now)) (body-small (h .before .before .args .line .now)) (h .before .before .args .at + h .loop .k) (8 - h .loop .k) (omega arith) in
+    record { fits = omega (arith, h .loop .inv .1) }
+
+add-byte : tie.Need-add-byte Inv-loop μ-loop
+add-byte c = search needs
+
+byte-requires : tie.Need-byte-requires Inv-loop μ-loop
+byte-requires c κs = search needs
+
+wide-requires : tie.Need-wide-requires Inv-loop μ-loop
+wide-requires c κs = search needs
+
+add-w : tie.Need-add-w Inv-loop μ-loop
+add-w c =
+    let h = c .before .before .before in
+    let line = h .before .before .args .line .now in
+    let at = h .before .before .args .at in
+    let room = word-room (bodyOf line) (body-small line) (at + h .loop .k) (8 - h .loop .k) (omega arith) in
+    record { fits = omega (arith, h .loop .inv .1, c .wide .ensures, c .before .byte .ensures, body-small line (at + (h .loop .k - 1))) }
+
+loop-less : tie.Need-loop-less Inv-loop μ-loop
+loop-less c = search needs
+
+loop-again : tie.Need-loop-again Inv-loop μ-loop
+loop-again c =
+    let h = c .before .before .before in
+    let at = h .before .before .args .at in
+    let f = byteAt (bodyOf (h .before .before .args .line .now)) in
+    let k = h .loop .k in (
+      search needs,
+      ap (λ (b : ℕ). h .loop .w * 256 + b) (c .wide .ensures ∙ c .before .byte .ensures)
+          ∙ number-next 256 f (at + (k - 1)) (8 - k) (h .loop .w) (h .loop .inv .1 ∙ ap (λ (i : ℕ). numberOf 256 f i (8 - k)) (omega arith))
+          ∙ ap (λ (n : ℕ). numberOf 256 f (at + (k - 1)) n) (omega arith),
+    )
+
+returns : tie.Need-returns Inv-loop μ-loop
+returns c =
+    let h = c .before in
+    h .loop .inv .1 ∙ ap₂ (numberOf 256 (byteAt (bodyOf (h .before .before .args .line .now)))) (omega arith) (omega arith)
+
+pub word-at-spec : {M : Type 1} → statement M
+word-at-spec =
+    tie.close
+    (tie.spec
+    Inv-loop
+    μ-loop
+    loop-holds
+    sub-k
+    mul-w
+    add-byte
+    byte-requires
+    wide-requires
+    add-w
+    loop-less
+    loop-again
+    returns)

@@ -1,0 +1,18 @@
+use mathlib.Core.Path.{sym}
+use native.Mathlib.Omega.{arith}
+use Rattle.hexline.proofs.FrameLaws.{body-length}
+use borrow.Author.Needs.{needs}
+use Rattle.hexline.proofs.frame.body_length.Statement.{statement}
+use Rattle.hexline.proofs.frame.body_length.Tie as tie
+
+sub-result : tie.Need-sub-result
+sub-result c = search needs
+
+returns : tie.Need-returns
+returns c = let n = body-length (c .before .args .line .now) in omega arith
+
+returns-2 : tie.Need-returns-2
+returns-2 c = sym (body-length _)
+
+pub body-length-spec : {M : Type 1} → statement M
+body-length-spec = tie.close (tie.spec sub-result returns returns-2)

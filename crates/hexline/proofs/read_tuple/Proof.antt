@@ -1,0 +1,73 @@
+use mathlib.Core.Path.{sym, ap, _∙_}
+use Prim.Native.Nat.{ℕ}
+use native.Mathlib.Omega.{arith}
+use Rattle.label.proofs.BoolLaws.{second-true}
+use Rattle.range.specs.Tuple.{emptyTuple, validOf}
+use Rattle.hexline.specs.Body.{lineWords}
+use Rattle.hexline.specs.Frame.{bodyOf, framedOf}
+use Rattle.hexline.specs.Line.{tupleForm, tupleIn}
+use Rattle.hexline.specs.Regions.{tupleAt}
+use Rattle.hexline.proofs.FrameLaws.{body-length}
+use Rattle.hexline.proofs.LineLaws.{bad-contents, bad-form, grants, tuple-form-parts}
+use borrow.Author.Needs.{needs}
+use Rattle.hexline.proofs.read_tuple.Statement.{statement}
+use Rattle.hexline.proofs.read_tuple.Tie as tie
+
+has-tuple-form-requires : tie.Need-has-tuple-form-requires
+has-tuple-form-requires c κs = search needs
+
+byte-requires : tie.Need-byte-requires
+byte-requires c κs = search needs
+
+tuple-at-requires : tie.Need-tuple-at-requires
+tuple-at-requires c κs =
+    let f = c .before .before in
+    let line = f .before .before .args .line .now in
+    let form = tuple-form-parts 3 lineWords (bodyOf line) (second-true (framedOf line) (tupleForm 3 lineWords (bodyOf line)) (sym (f .has-tuple-form .ensures) ∙ c .before .if1 .taken)) in
+    let n = body-length line in
+    (search needs, rw (c .byte .ensures) (omega arith))
+
+valid-requires : tie.Need-valid-requires
+valid-requires c κs = search needs
+
+returns : tie.Need-returns
+returns c =
+    let t = c .before .before in
+    let f = t .before .before in
+    let line = f .before .before .before .args .line .now in
+    grants (tupleForm 3 lineWords) (tupleIn lineWords) validOf line emptyTuple _
+    (sym (f .before .has-tuple-form .ensures) ∙ f .if1 .taken) (t .tuple-at .ensures ∙ ap (λ (p : ℕ). tupleAt lineWords (bodyOf line) p 2) (t .before .byte .ensures))
+    (sym (c .before .valid .ensures) ∙ c .if2 .taken)
+
+empty-requires : tie.Need-empty-requires
+empty-requires c κs = search needs
+
+returns-2 : tie.Need-returns-2
+returns-2 c =
+    let v = c .before .before in
+    let t = v .before in
+    let line = t .before .before .before .before .before .args .line .now in
+    bad-contents (tupleForm 3 lineWords) (tupleIn lineWords) validOf line emptyTuple _ _
+    (t .tuple-at .ensures ∙ ap (λ (p : ℕ). tupleAt lineWords (bodyOf line) p 2) (t .before .byte .ensures)) (sym (v .valid .ensures) ∙ c .before .if2 .left) (c .empty .ensures)
+
+empty-requires-2 : tie.Need-empty-requires-2
+empty-requires-2 c κs = search needs
+
+returns-3 : tie.Need-returns-3
+returns-3 c =
+    let e = c .before in
+    bad-form (tupleForm 3 lineWords) (tupleIn lineWords) validOf (e .before .before .before .args .line .now) emptyTuple _ (sym (e .before .has-tuple-form .ensures) ∙ e .if1 .left) (c .empty2 .ensures)
+
+pub read-tuple-spec : {M : Type 1} → statement M
+read-tuple-spec =
+    tie.close
+    (tie.spec
+    has-tuple-form-requires
+    byte-requires
+    tuple-at-requires
+    valid-requires
+    returns
+    empty-requires
+    returns-2
+    empty-requires-2
+    returns-3)

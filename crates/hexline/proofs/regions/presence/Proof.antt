@@ -1,0 +1,75 @@
+use mathlib.Core.Path.{_≡_, refl, ap, ap₂, _∙_}
+use Prim.Native.Nat.{ℕ, _≤_, _+_, _*_, _-_}
+use native.Mathlib.Omega.{arith}
+use Rattle.label.specs.Region.{regions}
+use Rattle.hexline.specs.Body.{numberOf}
+use Rattle.hexline.specs.Regions.{presenceOf, presentAt}
+use Rattle.hexline.proofs.NumberLaws.{number-next}
+use Rattle.hexline.proofs.RegionsLaws.{presence-room, present-small}
+use borrow.Author.Needs.{needs}
+use Rattle.hexline.proofs.regions.presence.Statement.{statement}
+use Rattle.hexline.proofs.regions.presence.Tie as tie
+
+abbrev Inv-loop : tie.InvT-loop
+Inv-loop t p₀ r₀ p r = (r ≤ regions) × (p ≡ numberOf 2 (presentAt t) r (regions - r))
+
+abbrev μ-loop : tie.MeasureT-loop
+μ-loop t p₀ r₀ p r = r
+
+loop-holds : tie.Need-loop-holds Inv-loop μ-loop
+unfolding numberOf
+loop-holds c = (search needs, refl)
+
+sub-r : tie.Need-sub-r Inv-loop μ-loop
+sub-r c = search needs
+
+mul-p : tie.Need-mul-p Inv-loop μ-loop
+mul-p c =
+    let h = c .before in
+    let room = presence-room (h .before .args .t) (h .loop .r) (regions - h .loop .r) (omega arith) in
+    record { fits = omega (arith, h .loop .inv .1) }
+
+present-at-requires : tie.Need-present-at-requires Inv-loop μ-loop
+present-at-requires c κs = search needs
+
+add-p : tie.Need-add-p Inv-loop μ-loop
+add-p c =
+    let h = c .before .before in
+    let t = h .before .args .t in
+    let room = presence-room t (h .loop .r) (regions - h .loop .r) (omega arith) in
+    record { fits = omega (arith, h .loop .inv .1, c .present-at .ensures, present-small t (h .loop .r - 1)) }
+
+loop-less : tie.Need-loop-less Inv-loop μ-loop
+loop-less c = search needs
+
+loop-again : tie.Need-loop-again Inv-loop μ-loop
+loop-again c =
+    let h = c .before .before in
+    let f = presentAt (h .before .args .t) in
+    let r = h .loop .r in (
+      search needs,
+      ap (λ (b : ℕ). h .loop .p * 2 + b) (c .present-at .ensures)
+          ∙ number-next 2 f (r - 1) (regions - r) (h .loop .p) (h .loop .inv .1 ∙ ap (λ (i : ℕ). numberOf 2 f i (regions - r)) (omega arith))
+          ∙ ap (λ (n : ℕ). numberOf 2 f (r - 1) n) (omega arith),
+    )
+
+returns : tie.Need-returns Inv-loop μ-loop
+unfolding presenceOf
+returns c =
+    let h = c .before in
+    h .loop .inv .1 ∙ ap₂ (numberOf 2 (presentAt (h .before .args .t))) (omega arith) (omega arith)
+
+pub presence-spec : {M : Type 1} → statement M
+presence-spec =
+    tie.close
+    (tie.spec
+    Inv-loop
+    μ-loop
+    loop-holds
+    sub-r
+    mul-p
+    present-at-requires
+    add-p
+    loop-less
+    loop-again
+    returns)

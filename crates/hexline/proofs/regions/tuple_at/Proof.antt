@@ -1,0 +1,71 @@
+use mathlib.Core.Path.{_≡_, refl, ap}
+use Prim.Native.Nat.{_≤_, _-_}
+use native.Mathlib.Omega.{arith}
+use lib.ListN.{length, take}
+use Rattle.label.specs.Index.{tabulate}
+use Rattle.label.specs.Region.{regions}
+use Rattle.label.proofs.IndexLaws.{fill-done, fill-step}
+use Rattle.range.specs.Tuple.{tupleOf}
+use Rattle.hexline.specs.Frame.{bodyOf}
+use Rattle.hexline.specs.Regions.{regionAt, tupleAt}
+use borrow.Author.Needs.{needs}
+use Rattle.hexline.proofs.regions.tuple_at.Statement.{statement}
+use Rattle.hexline.proofs.regions.tuple_at.Tie as tie
+
+abbrev Inv-loop : tie.InvT-loop
+Inv-loop line p at words ranges₀ r₀ ranges r =
+    (r ≤ regions) × (length ranges ≡ regions) × (take r ranges ≡ tabulate (regionAt words (bodyOf line) p at) r)
+
+abbrev μ-loop : tie.MeasureT-loop
+μ-loop line p at words ranges₀ r₀ ranges r = regions - r
+
+no-range-requires : tie.Need-no-range-requires Inv-loop μ-loop
+no-range-requires c κs = search needs
+
+loop-holds : tie.Need-loop-holds Inv-loop μ-loop
+unfolding tabulate
+loop-holds c = (search needs, refl, refl)
+
+region-at-requires : tie.Need-region-at-requires Inv-loop μ-loop
+region-at-requires c κs = search needs
+
+mul-ranges : tie.Need-mul-ranges Inv-loop μ-loop
+mul-ranges c = search needs
+
+array-set-from-ranges : tie.Need-array-set-from-ranges Inv-loop μ-loop
+array-set-from-ranges c = search needs
+
+add-r : tie.Need-add-r Inv-loop μ-loop
+add-r c = search needs
+
+loop-less : tie.Need-loop-less Inv-loop μ-loop
+loop-less c = search needs
+
+loop-again : tie.Need-loop-again Inv-loop μ-loop
+loop-again c =
+    let h = c .before .before in
+    let a = h .before .before .before .args in
+    (search needs, search needs, fill-step (regionAt (a .words) (bodyOf (a .line .now)) (a .p) (a .at)) (h .loop .ranges) (h .loop .r) (c .region-at .result) (omega arith) (c .region-at .ensures) (h .loop .inv .2))
+
+returns : tie.Need-returns Inv-loop μ-loop
+unfolding tupleAt
+returns c =
+    let h = c .before in
+    let a = h .before .before .before .args in
+    ap tupleOf (fill-done (regionAt (a .words) (bodyOf (a .line .now)) (a .p) (a .at)) (h .loop .ranges) (h .loop .r) regions (omega arith) (h .loop .inv .1) (h .loop .inv .2))
+
+pub tuple-at-spec : {M : Type 1} → statement M
+tuple-at-spec =
+    tie.close
+    (tie.spec
+    Inv-loop
+    μ-loop
+    no-range-requires
+    loop-holds
+    region-at-requires
+    mul-ranges
+    array-set-from-ranges
+    add-r
+    loop-less
+    loop-again
+    returns)

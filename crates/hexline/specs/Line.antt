@@ -1,0 +1,103 @@
+-- Document 01, "Hex lines": the lines of labels, ranges and tuples, kinds 01 to 03. A body is the kind, then the contents; each definition
+-- is over the kind's number and the words that a set has in it. Assumes nothing.
+use mathlib.Core.Bool.{Bool, _&&_}
+use mathlib.Core.List.{List, _∷_}
+use Prim.Native.Nat.{ℕ, _+_, _*_, _^_}
+use lib.Dec.{eqb, leb, ltb}
+use lib.ListN.{length}
+use Rattle.label.specs.Answer.{Answer, granted, refusedBy, require}
+use Rattle.label.specs.Label
+use Rattle.label.specs.Region.{regions}
+use Rattle.label.specs.declared.Label.{Label}
+use Rattle.range.specs.Range
+use Rattle.range.specs.Tuple
+use Rattle.range.specs.declared.Range.{Range}
+use Rattle.range.specs.declared.tuple.Tuple.{Tuple}
+use Rattle.hexline.specs.Body.{byteAt, labelAt, labelBytes, labelSize, lineWords, rangeAt, rangeBytes, rangeSize}
+use Rattle.hexline.specs.Frame.{bodyOf, frameOf, framedOf, readOf}
+use Rattle.hexline.specs.Regions.{presenceOf, presentBelow, regionsBytes, tupleAt}
+use Rattle.hexline.specs.declared.Kind.{Kind}
+use Rattle.hexline.specs.declared.Kind.the-variants.{OfLabel, OfRange, OfTuple, OfEntry, Refused}
+
+-- ---- what a kind has in common with the others
+
+-- a body has so many bytes, and that kind
+unfoldable pub formOf : List ℕ → ℕ → ℕ → Bool
+formOf bs n kind = eqb (length bs) n && eqb (byteAt bs 0) kind
+
+-- what is read of a body that has the kind's form: the contents that stand there, where they are valid, else 22
+unfoldable pub contentsOf : {A : Type 0} → (List ℕ → Bool) → (List ℕ → A) → (A → Bool) → List ℕ → Answer A
+contentsOf form contents valid bs = require (form bs && valid (contents bs)) 22 (granted (contents bs))
+
+-- what is written: the line of a body, where its contents are valid, else 22
+abbrev pub lineOf : Bool → List ℕ → Answer (List ℕ)
+lineOf valid body = require valid 22 (granted (frameOf body))
+
+-- ---- labels
+
+unfoldable pub labelBody : ℕ → ℕ → Label → List ℕ
+labelBody kind w l = kind ∷ labelBytes w l
+
+unfoldable pub labelForm : ℕ → ℕ → List ℕ → Bool
+labelForm kind w bs = formOf bs (1 + labelSize w) kind
+
+abbrev pub labelIn : ℕ → List ℕ → Label
+labelIn w bs = labelAt w bs 1
+
+-- the line of a label, kind 01
+abbrev pub labelLineOf : Label → Answer (List ℕ)
+labelLineOf l = lineOf (Label.validOf l) (labelBody 1 lineWords l)
+
+abbrev pub readLabelOf : List ℕ → Answer Label
+readLabelOf = readOf (contentsOf (labelForm 1 lineWords) (labelIn lineWords) Label.validOf)
+
+-- ---- ranges
+
+unfoldable pub rangeBody : ℕ → ℕ → Range → List ℕ
+rangeBody kind w x = kind ∷ rangeBytes w x
+
+unfoldable pub rangeForm : ℕ → ℕ → List ℕ → Bool
+rangeForm kind w bs = formOf bs (1 + rangeSize w) kind
+
+abbrev pub rangeIn : ℕ → List ℕ → Range
+rangeIn w bs = rangeAt w bs 1
+
+-- the line of a range, kind 02
+abbrev pub rangeLineOf : Range → Answer (List ℕ)
+rangeLineOf x = lineOf (Range.validOf x) (rangeBody 2 lineWords x)
+
+abbrev pub readRangeOf : List ℕ → Answer Range
+readRangeOf = readOf (contentsOf (rangeForm 2 lineWords) (rangeIn lineWords) Range.validOf)
+
+-- ---- tuples
+
+unfoldable pub tupleBody : ℕ → ℕ → Tuple → List ℕ
+tupleBody kind w t = kind ∷ presenceOf t ∷ regionsBytes w t regions
+
+-- the byte of presence has no bit but those of the regions, and the ranges that are there fill the body
+unfoldable pub tupleForm : ℕ → ℕ → List ℕ → Bool
+tupleForm kind w bs = ltb (byteAt bs 1) (2 ^ regions) && formOf bs (presentBelow (byteAt bs 1) regions * rangeSize w + 2) kind
+
+abbrev pub tupleIn : ℕ → List ℕ → Tuple
+tupleIn w bs = tupleAt w bs (byteAt bs 1) 2
+
+-- the line of a tuple, kind 03
+abbrev pub tupleLineOf : Tuple → Answer (List ℕ)
+tupleLineOf t = lineOf (Tuple.validOf t) (tupleBody 3 lineWords t)
+
+abbrev pub readTupleOf : List ℕ → Answer Tuple
+readTupleOf = readOf (contentsOf (tupleForm 3 lineWords) (tupleIn lineWords) Tuple.validOf)
+
+-- ---- any line
+
+-- what the enum Kind says
+abbrev pub kindAnswerOf : Kind → Answer ℕ
+kindAnswerOf OfLabel = granted 1
+kindAnswerOf OfRange = granted 2
+kindAnswerOf OfTuple = granted 3
+kindAnswerOf OfEntry = granted 4
+kindAnswerOf (Refused e) = refusedBy e
+
+-- the kind that a line says it has: a line that is no frame, or has another kind, is refused with 22
+abbrev pub kindOf : List ℕ → Answer ℕ
+kindOf line = require (framedOf line && leb 1 (byteAt (bodyOf line) 0) && leb (byteAt (bodyOf line) 0) 4) 22 (granted (byteAt (bodyOf line) 0))

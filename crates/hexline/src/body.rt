@@ -1,0 +1,102 @@
+// Labels and ranges as the bytes of a body. A set of categories has its first `words` words there.
+use crate::frame;
+use label::Label;
+use label::words::WORDS;
+use range::Range;
+ghost use mathlib.Core.Path.{_≡_};
+ghost use Prim.Native.Nat.{_+_, _*_, _<_, _≤_};
+ghost use lib.ListN.{length};
+ghost use Rattle.label.specs.Words.{words as setWords};
+ghost use Rattle.hexline.specs.Frame.{bodyOf};
+ghost use Rattle.hexline.specs.Body.{Appended, byteAt, categoryByte, labelAt, labelBytes, labelSize, numberOf, rangeAt, rangeBytes, rangeSize, wordFrom};
+
+// How many words a set has in lines of kinds 01 to 04.
+pub(crate) const LINE_WORDS: usize = 4;
+
+// Byte i of a set of categories.
+fn category_byte(categories: [u64; WORDS], i: usize) -> u8
+    requires { ⌜ i < 8 * setWords ⌝ }
+    ensures { λ r. ⌜ r ≡ categoryByte categories i ⌝ }
+{
+    let w = categories[i / 8];
+    let shift = (i % 8) * 8;
+    ((w >> shift) % 256) as u8
+}
+
+// A label's bytes at index at, and the index past them.
+pub(crate) fn put_label(out: &mut [u8], at: usize, l: Label, words: usize) -> usize
+    requires { ⌜ (words ≤ setWords) × (at + labelSize words ≤ length (now out)) ⌝ }
+    ensures { λ r. ⌜ Appended (now (out .entry)) at (labelBytes words l) r (now (out .exit)) ⌝ }
+{
+    out[at] = l.hierarchy;
+    let categories = l.categories;
+    let mut i = 0;
+    while i < 8 * words {
+        out[at + 1 + i] = category_byte(categories, i);
+        i += 1;
+    }
+    at + 1 + i
+}
+
+// A range's bytes at index at, and the index past them.
+pub(crate) fn put_range(out: &mut [u8], at: usize, x: Range, words: usize) -> usize
+    requires { ⌜ (words ≤ setWords) × (at + rangeSize words ≤ length (now out)) ⌝ }
+    ensures { λ r. ⌜ Appended (now (out .entry)) at (rangeBytes words x) r (now (out .exit)) ⌝ }
+{
+    let next = put_label(out, at, x.low, words);
+    put_label(out, next, x.high, words)
+}
+
+// The word whose eight bytes begin at index at of a line's body, the lowest first.
+fn word_at(line: &[u8], at: usize) -> u64
+    requires { ⌜ at + 8 ≤ length (now line) ⌝ }
+    ensures { λ r. ⌜ r ≡ numberOf 256 (byteAt (bodyOf (now (line .entry)))) at 8 ⌝ }
+{
+    let mut w: u64 = 0;
+    let mut k = 8;
+    while 0 < k {
+        k -= 1;
+        w = w * 256 + frame::wide(frame::byte(line, at + k));
+    }
+    w
+}
+
+// Word j of the set whose bytes begin at index at.
+fn set_word(line: &[u8], at: usize, j: usize, words: usize) -> u64
+    requires { ⌜ at + 8 * words ≤ length (now line) ⌝ }
+    ensures { λ r. ⌜ r ≡ wordFrom words (bodyOf (now (line .entry))) at j ⌝ }
+{
+    if j < words {
+        return word_at(line, at + 8 * j);
+    }
+    0
+}
+
+// The label at index at of a line's body.
+pub(crate) fn label_at(line: &[u8], at: usize, words: usize) -> Label
+    requires { ⌜ at + labelSize words ≤ length (now line) ⌝ }
+    ensures { λ r. ⌜ r ≡ labelAt words (bodyOf (now (line .entry))) at ⌝ }
+{
+    let mut categories = [0u64; WORDS];
+    let mut j = 0;
+    while j < WORDS {
+        categories[j] = set_word(line, at + 1, j, words);
+        j += 1;
+    }
+    Label {
+        hierarchy: frame::byte(line, at),
+        categories,
+    }
+}
+
+// The range at index at of a line's body.
+pub(crate) fn range_at(line: &[u8], at: usize, words: usize) -> Range
+    requires { ⌜ at + rangeSize words ≤ length (now line) ⌝ }
+    ensures { λ r. ⌜ r ≡ rangeAt words (bodyOf (now (line .entry))) at ⌝ }
+{
+    let size = 1 + 8 * words;
+    Range {
+        low: label_at(line, at, words),
+        high: label_at(line, at + size, words),
+    }
+}
