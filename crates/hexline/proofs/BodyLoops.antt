@@ -5,8 +5,8 @@ use Prim.Native.Nat.{ℕ, suc, _+_, _*_, _≤_, _<_}
 use native.Mathlib.Nat.{add-zero, lt-of-lt-of-le, pow-le-pow-right, zero-lt-suc}
 use native.Mathlib.Numerals.{add-one}
 use native.Mathlib.Omega.{arith}
-use lib.ListN.{length, set, take, length-append}
-use lib.Seq.{length-take-le, take-suc-set}
+use lib.ListN.{getD, length, set, take, length-append, length-set}
+use lib.Seq.{length-take-le, take-suc, take-suc-set}
 use Rattle.label.specs.Index.{tabulate}
 use Rattle.label.specs.declared.Label.{Label}
 use Rattle.hexline.specs.Body.{Appended, byteAt, categoryByte, labelBytes, numberOf}
@@ -53,3 +53,20 @@ appended-none a i = record { next = sym (add-zero i); holds = sym (append-nil (t
 -- the bytes up to the index past the last are that many
 pub appended-count : {a b xs : List ℕ} {i r : ℕ} → Appended a i xs r b → r ≤ length a → r ≡ length (take r b)
 appended-count {b = b} {r = r} p h = let n = p .size in sym (length-take-le r b (omega arith))
+
+-- one more byte
+pub take-more : (xs out : List ℕ) (k v : ℕ) → k < length out → take k out ≡ xs → take (k + 1) (set out k v) ≡ xs ++ (v ∷ [])
+take-more xs out k v h e = rw (add-one k, take-suc-set out k v h, e)
+
+pub appended-byte : (a : List ℕ) (i b : ℕ) → i < length a → Appended a i (b ∷ []) (i + 1) (set a i b)
+appended-byte a i b h = record { next = refl; holds = take-more (take i a) a i b h refl; size = length-set a i b }
+
+-- one more byte of a text
+pub text-more : (text xs out : List ℕ) (k i : ℕ) → k + i < length out → i < length text → take (k + i) out ≡ xs ++ take i text
+    → take (k + (i + 1)) (set out (k + i) (getD text i 0)) ≡ xs ++ take (i + 1) text
+text-more text xs out k i h l e =
+    let n : k + (i + 1) ≡ k + i + 1 = omega arith in
+    ap (λ (j : ℕ). take j (set out (k + i) (getD text i 0))) n
+    ∙ take-more (xs ++ take i text) out (k + i) (getD text i 0) h e
+    ∙ append-assoc xs (take i text) (getD text i 0 ∷ [])
+    ∙ ap (λ (t : List ℕ). xs ++ t) (sym (ap (λ (j : ℕ). take j text) (add-one i) ∙ take-suc text i 0 l))

@@ -4,4 +4,5 @@ pub mod NumberLaws
 pub mod BodyLaws
 pub mod BodyLoops
 pub mod RegionsLaws
+pub mod EntryLaws
 pub mod LineLaws

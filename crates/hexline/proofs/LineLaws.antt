@@ -7,7 +7,7 @@ use Prim.Native.Nat.{ℕ, _+_, _*_, _≤_, _<_}
 use native.Mathlib.Omega.{arith}
 use lib.Dec.{eqb, leb, ltb}
 use lib.ListN.{length}
-use borrow.Author.Tests.{eqb-true, le-leb, leb-true, ltb-true}
+use borrow.Author.Tests.{eq-eqb, eqb-true, le-leb, leb-true, ltb-true}
 use Rattle.label.specs.Answer.{Answer, Answered, granted, refused, require}
 use Rattle.label.specs.Buffer.{WrittenTo}
 use Rattle.label.specs.Region.{regions}
@@ -15,12 +15,13 @@ use Rattle.label.specs.declared.answer.Outcome.the-variants.{Granted, Refused}
 use Rattle.label.specs.declared.answer.Written.{Written}
 use Rattle.label.specs.declared.errno.Errno.the-variants.{Invalid}
 use Rattle.label.proofs.AnswerLaws.{answers-grant, answers-refusal}
-use Rattle.label.proofs.BoolLaws.{both, first-true, not-so, second-true}
-use Rattle.hexline.specs.Body.{byteAt, rangeSize}
+use Rattle.label.proofs.BoolLaws.{first-true, not-so, second-true, three-true}
+use Rattle.hexline.specs.Body.{byteAt, labelSize, rangeSize}
+use Rattle.hexline.specs.Entry.{layoutOf, maxAbbreviation, maxName, past, valueSize}
 use Rattle.hexline.specs.Frame.{bodyOf, frameAnswerOf, frameOf, framedOf, maxBody, readOf}
 use Rattle.hexline.specs.Regions.{presentBelow}
 use Rattle.hexline.proofs.FrameLaws.{Bytes, reads-back, reads-exactly}
-use Rattle.hexline.specs.Line.{contentsOf, formOf, kindOf, lineOf, tupleForm}
+use Rattle.hexline.specs.Line.{contentsOf, entryForm, formOf, kindOf, lineOf, tupleForm}
 
 -- ---- how a reader ends: a line that is no frame or has another form, contents that are not valid, or a grant
 
@@ -94,6 +95,42 @@ tuple-form-parts kind w bs e =
     let n = presentBelow (byteAt bs 1) regions * rangeSize w + 2 in
     let f = second-true (ltb (byteAt bs 1) 8) (formOf bs n kind) e in
     (ltb-true (byteAt bs 1) 8 (first-true (ltb (byteAt bs 1) 8) (formOf bs n kind) e), form-length bs n kind f, form-kind bs n kind f)
+
+pub record EntryForm (kind w : ℕ) (bs : List ℕ) : Type 0 where
+  pub name : layoutOf w bs 1 .name .length ≤ maxName
+  pub abbreviation : layoutOf w bs 1 .abbreviation .length ≤ maxAbbreviation
+  pub size : length bs ≡ past (layoutOf w bs 1 .abbreviation)
+  pub kind-is : byteAt bs 0 ≡ kind
+  pub low : 1 ≤ layoutOf w bs 1 .class
+  pub high : layoutOf w bs 1 .class ≤ 3
+
+pub entry-form-parts : (kind w : ℕ) (bs : List ℕ) → entryForm kind w bs ≡ true → EntryForm kind w bs
+unfolding entryForm
+entry-form-parts kind w bs e =
+    let p = layoutOf w bs 1 in
+    let n = leb (p .name .length) maxName in
+    let a = leb (p .abbreviation .length) maxAbbreviation in
+    let f = formOf bs (past (p .abbreviation)) kind in
+    let l = leb 1 (p .class) in
+    let h = leb (p .class) 3 in
+    let t = three-true n a (f && l && h) e in
+    let u = three-true f l h (t .2) in
+    record {
+      name = leb-true (p .name .length) maxName (t .0);
+      abbreviation = leb-true (p .abbreviation .length) maxAbbreviation (t .1);
+      size = form-length bs (past (p .abbreviation)) kind (u .0);
+      kind-is = form-kind bs (past (p .abbreviation)) kind (u .0);
+      low = leb-true 1 (p .class) (u .1);
+      high = leb-true (p .class) 3 (u .2);
+    }
+
+-- where the class is a label's, its bytes are there
+pub entry-label-room : (kind w : ℕ) (bs : List ℕ) → EntryForm kind w bs → layoutOf w bs 1 .class ≡ 3 → 2 + labelSize w ≤ length bs
+unfolding layoutOf valueSize
+entry-label-room kind w bs f e =
+    let b : eqb (byteAt bs 1) 3 ≡ true = eq-eqb (byteAt bs 1) 3 e in
+    let s = rw b at (f .size) in
+    omega arith
 
 -- ---- how a writer ends that has put a body together
 

@@ -1,4 +1,4 @@
--- Document 01, "Hex lines": the lines of labels, ranges and tuples, kinds 01 to 03. A body is the kind, then the contents; each definition
+-- Document 01, "Hex lines": the lines of labels, ranges, tuples and alias entries, kinds 01 to 04. A body is the kind, then the contents; each definition
 -- is over the kind's number and the words that a set has in it. Assumes nothing.
 use mathlib.Core.Bool.{Bool, _&&_}
 use mathlib.Core.List.{List, _∷_}
@@ -14,8 +14,11 @@ use Rattle.range.specs.Tuple
 use Rattle.range.specs.declared.Range.{Range}
 use Rattle.range.specs.declared.tuple.Tuple.{Tuple}
 use Rattle.hexline.specs.Body.{byteAt, labelAt, labelBytes, labelSize, lineWords, rangeAt, rangeBytes, rangeSize}
+use Rattle.hexline.specs.Entry
+use Rattle.hexline.specs.Entry.{past, entryBytes, entryFrom, layoutOf, maxAbbreviation, maxName}
 use Rattle.hexline.specs.Frame.{bodyOf, frameOf, framedOf, readOf}
 use Rattle.hexline.specs.Regions.{presenceOf, presentBelow, regionsBytes, tupleAt}
+use Rattle.hexline.specs.declared.entry.Entry.{Entry}
 use Rattle.hexline.specs.declared.Kind.{Kind}
 use Rattle.hexline.specs.declared.Kind.the-variants.{OfLabel, OfRange, OfTuple, OfEntry, Refused}
 
@@ -87,6 +90,27 @@ tupleLineOf t = lineOf (Tuple.validOf t) (tupleBody 3 lineWords t)
 
 abbrev pub readTupleOf : List ℕ → Answer Tuple
 readTupleOf = readOf (contentsOf (tupleForm 3 lineWords) (tupleIn lineWords) Tuple.validOf)
+
+-- ---- alias entries
+
+unfoldable pub entryBody : ℕ → ℕ → Entry → List ℕ
+entryBody kind w e = kind ∷ entryBytes w e
+
+-- lengths that fit, nothing past the abbreviation, and a class that there is
+unfoldable pub entryForm : ℕ → ℕ → List ℕ → Bool
+entryForm kind w bs =
+    leb (layoutOf w bs 1 .name .length) maxName && leb (layoutOf w bs 1 .abbreviation .length) maxAbbreviation
+    && (formOf bs (past (layoutOf w bs 1 .abbreviation)) kind && leb 1 (layoutOf w bs 1 .class) && leb (layoutOf w bs 1 .class) 3)
+
+abbrev pub entryIn : ℕ → List ℕ → Entry
+entryIn w bs = entryFrom w bs 2 (layoutOf w bs 1)
+
+-- the line of an alias entry, kind 04
+abbrev pub entryLineOf : Entry → Answer (List ℕ)
+entryLineOf e = lineOf (Entry.validOf e) (entryBody 4 lineWords e)
+
+abbrev pub readEntryOf : List ℕ → Answer Entry
+readEntryOf = readOf (contentsOf (entryForm 4 lineWords) (entryIn lineWords) Entry.validOf)
 
 -- ---- any line
 

@@ -1,6 +1,7 @@
 // Hex lines: one frame a line, in `frame`, and what stands in its body. A writer takes contents and a lent buffer, a reader one whole line
 // with its LF; each refuses what document 01 refuses, and a refusal writes nothing.
 mod body;
+pub mod entry;
 pub mod frame;
 mod regions;
 
@@ -9,6 +10,14 @@ use crate::body::label_at;
 use crate::body::put_label;
 use crate::body::put_range;
 use crate::body::range_at;
+use crate::entry::Entry;
+use crate::entry::EntryAnswer;
+use crate::entry::Layout;
+use crate::entry::MAX_ABBREVIATION;
+use crate::entry::MAX_NAME;
+use crate::entry::entry_from;
+use crate::entry::layout_at;
+use crate::entry::put_entry;
 use crate::regions::presence;
 use crate::regions::present_below;
 use crate::regions::put_regions;
@@ -32,8 +41,10 @@ ghost use Rattle.label.specs.Label as labels;
 ghost use Rattle.range.specs.Range as ranges;
 ghost use Rattle.range.specs.Tuple as tuples;
 ghost use Rattle.hexline.specs.Body.{lineWords};
-ghost use Rattle.hexline.specs.Frame.{bodyOf, framedOf};
-ghost use Rattle.hexline.specs.Line.{formOf, kindAnswerOf, kindOf, labelLineOf, rangeLineOf, readLabelOf, readRangeOf, readTupleOf, tupleForm, tupleLineOf};
+ghost use Rattle.hexline.specs.Entry as entries;
+ghost use Rattle.hexline.specs.Entry.{layoutOf};
+ghost use Rattle.hexline.specs.Frame.{bodyOf};
+ghost use Rattle.hexline.specs.Line.{entryForm, entryLineOf, formOf, kindAnswerOf, kindOf, labelLineOf, rangeLineOf, readEntryOf, readLabelOf, readRangeOf, readTupleOf, tupleForm, tupleLineOf};
 
 // The longest body is a full tuple's: kind, presence, six labels.
 pub(crate) const BODY_BYTES: usize = 200;
@@ -110,18 +121,31 @@ pub fn write_tuple(t: Tuple, out: &mut [u8]) -> Written
     frame::write(&bytes[..n], out)
 }
 
-// Whether a line is a frame, with a body of that many bytes and of that kind.
-fn has_form(line: &[u8], bytes: usize, kind: u8) -> bool
-    ensures { λ r. ⌜ r ≡ (framedOf (now (line .entry)) && formOf (bodyOf (now (line .entry))) bytes kind) ⌝ }
+// The line of an alias entry, kind 04.
+pub fn write_entry(e: Entry, out: &mut [u8]) -> Written
+    ensures { λ r. ⌜ WrittenTo r (entryLineOf e) (now (out .entry)) (now (out .exit)) ⌝ }
 {
-    frame::framed(line) & ((frame::body_length(line) == bytes) & (frame::byte(line, 0) == kind))
+    if !entry::valid(e) {
+        return Written::Refused(Errno::Invalid);
+    }
+    let mut bytes = [0u8; BODY_BYTES];
+    bytes[0] = 4;
+    let n = put_entry(&mut bytes, 1, e, LINE_WORDS);
+    frame::write(&bytes[..n], out)
+}
+
+// Whether a line's body has that many bytes, and that kind.
+fn has_form(line: &[u8], bytes: usize, kind: u8) -> bool
+    ensures { λ r. ⌜ r ≡ formOf (bodyOf (now (line .entry))) bytes kind ⌝ }
+{
+    (frame::body_length(line) == bytes) & (frame::byte(line, 0) == kind)
 }
 
 // The label of a line of kind 01.
 pub fn read_label(line: &[u8]) -> LabelAnswer
     ensures { λ r. ⌜ Answered (r .outcome) (r .label) labels.zeroLabel (readLabelOf (now (line .entry))) ⌝ }
 {
-    if has_form(line, 34, 1) {
+    if frame::framed(line) & has_form(line, 34, 1) {
         let l = label_at(line, 1, LINE_WORDS);
         if label::valid(l) {
             return LabelAnswer {
@@ -144,7 +168,7 @@ pub fn read_label(line: &[u8]) -> LabelAnswer
 pub fn read_range(line: &[u8]) -> RangeAnswer
     ensures { λ r. ⌜ Answered (r .outcome) (r .range) ranges.zeroRange (readRangeOf (now (line .entry))) ⌝ }
 {
-    if has_form(line, 67, 2) {
+    if frame::framed(line) & has_form(line, 67, 2) {
         let x = range_at(line, 1, LINE_WORDS);
         if range::valid(x) {
             return RangeAnswer {
@@ -163,21 +187,20 @@ pub fn read_range(line: &[u8]) -> RangeAnswer
     }
 }
 
-// Whether a line has the form of a tuple's: kind 03, and as many ranges as its byte of presence says.
+// Whether a line's body has the form of a tuple's: kind 03, and as many ranges as its byte of presence says.
 fn has_tuple_form(line: &[u8]) -> bool
-    ensures { λ r. ⌜ r ≡ (framedOf (now (line .entry)) && tupleForm 3 lineWords (bodyOf (now (line .entry)))) ⌝ }
+    ensures { λ r. ⌜ r ≡ tupleForm 3 lineWords (bodyOf (now (line .entry))) ⌝ }
 {
     let p = frame::byte(line, 1);
     let n = present_below(p, REGIONS) * 66 + 2;
-    frame::framed(line)
-        & ((p < 8) & ((frame::body_length(line) == n) & (frame::byte(line, 0) == 3)))
+    (p < 8) & has_form(line, n, 3)
 }
 
 // The tuple of a line of kind 03.
 pub fn read_tuple(line: &[u8]) -> TupleAnswer
     ensures { λ r. ⌜ Answered (r .outcome) (r .tuple) tuples.emptyTuple (readTupleOf (now (line .entry))) ⌝ }
 {
-    if has_tuple_form(line) {
+    if frame::framed(line) & has_tuple_form(line) {
         let t = tuple_at(line, frame::byte(line, 1), 2, LINE_WORDS);
         if tuple::valid(t) {
             return TupleAnswer {
@@ -193,5 +216,41 @@ pub fn read_tuple(line: &[u8]) -> TupleAnswer
     TupleAnswer {
         outcome: Outcome::Refused(Errno::Invalid),
         tuple: tuple::empty(),
+    }
+}
+
+// Whether a line's body has the form of an alias entry's: kind 04, lengths that fit, and a class that there is.
+fn has_entry_form(line: &[u8], p: Layout) -> bool
+    requires { ⌜ p ≡ layoutOf lineWords (bodyOf (now line)) 1 ⌝ }
+    ensures { λ r. ⌜ r ≡ entryForm 4 lineWords (bodyOf (now (line .entry))) ⌝ }
+{
+    let name = p.name;
+    let abbreviation = p.abbreviation;
+    let end = abbreviation.at + abbreviation.length;
+    let fits = (name.length <= MAX_NAME) & (abbreviation.length <= MAX_ABBREVIATION);
+    fits & (has_form(line, end, 4) & (1 <= p.class) & (p.class <= 3))
+}
+
+// The alias entry of a line of kind 04.
+pub fn read_entry(line: &[u8]) -> EntryAnswer
+    ensures { λ r. ⌜ Answered (r .outcome) (r .entry) entries.zeroEntry (readEntryOf (now (line .entry))) ⌝ }
+{
+    let p = layout_at(line, 1, LINE_WORDS);
+    if frame::framed(line) & has_entry_form(line, p) {
+        let e = entry_from(line, 2, p, LINE_WORDS);
+        if entry::valid(e) {
+            return EntryAnswer {
+                outcome: Outcome::Granted,
+                entry: e,
+            };
+        }
+        return EntryAnswer {
+            outcome: Outcome::Refused(Errno::Invalid),
+            entry: entry::zero(),
+        };
+    }
+    EntryAnswer {
+        outcome: Outcome::Refused(Errno::Invalid),
+        entry: entry::zero(),
     }
 }

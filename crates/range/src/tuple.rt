@@ -52,16 +52,6 @@ pub fn empty() -> Tuple
     }
 }
 
-// Whether a label is the label of zeros.
-fn is_zero(l: Label) -> bool
-    ensures { λ r. ⌜ r ≡ labels.equalOf l labels.zeroLabel ⌝ }
-{
-    let x = l.categories;
-    let z = label::zero();
-    let y = z.categories;
-    components::equal(l.hierarchy, x, z.hierarchy, y)
-}
-
 // Whether a tuple may hold e for a region.
 fn valid_at(region: usize, e: RegionRange) -> bool
     ensures { λ r. ⌜ r ≡ validAt region e ⌝ }
@@ -71,7 +61,7 @@ fn valid_at(region: usize, e: RegionRange) -> bool
             & (region::of_hierarchy(e.range.low.hierarchy) == region)
             & (region::of_hierarchy(e.range.high.hierarchy) == region);
     }
-    is_zero(e.range.low) & is_zero(e.range.high)
+    label::is_zero(e.range.low) & label::is_zero(e.range.high)
 }
 
 pub fn valid(t: Tuple) -> bool

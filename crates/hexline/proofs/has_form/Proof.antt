@@ -3,9 +3,6 @@ use borrow.Author.Needs.{needs}
 use Rattle.hexline.proofs.has_form.Statement.{statement}
 use Rattle.hexline.proofs.has_form.Tie as tie
 
-framed-requires : tie.Need-framed-requires
-framed-requires c κs = search needs
-
 body-length-requires : tie.Need-body-length-requires
 body-length-requires c κs = search needs
 
@@ -14,7 +11,7 @@ byte-requires c κs = search needs
 
 returns : tie.Need-returns
 unfolding formOf
-returns c = rw (c .before .before .framed .ensures, c .before .body-length .ensures, c .byte .ensures)
+returns c = rw (c .before .body-length .ensures, c .byte .ensures)
 
 pub has-form-spec : {M : Type 1} → statement M
-has-form-spec = tie.close (tie.spec framed-requires body-length-requires byte-requires returns)
+has-form-spec = tie.close (tie.spec body-length-requires byte-requires returns)

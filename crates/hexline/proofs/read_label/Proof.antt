@@ -1,23 +1,28 @@
 use borrow.Author.Needs.{needs}
-use mathlib.Core.Path.{sym, _∙_}
+use mathlib.Core.Bool.{_&&_}
+use mathlib.Core.Path.{sym, ap₂, _∙_}
 use native.Mathlib.Omega.{arith}
 use Rattle.label.specs.Label.{validOf, zeroLabel}
 use Rattle.label.proofs.BoolLaws.{second-true}
 use Rattle.hexline.specs.Body.{lineWords}
-use Rattle.hexline.specs.Frame.{bodyOf, framedOf}
-use Rattle.hexline.specs.Line.{formOf, labelForm, labelIn}
+use Rattle.hexline.specs.Frame.{bodyOf}
+use Rattle.hexline.specs.Line.{labelForm, labelIn}
 use Rattle.hexline.proofs.FrameLaws.{body-length}
 use Rattle.hexline.proofs.LineLaws.{bad-contents, bad-form, form-length, grants}
 use Rattle.hexline.proofs.read_label.Statement.{statement}
 use Rattle.hexline.proofs.read_label.Tie as tie
+
+framed-requires : tie.Need-framed-requires
+framed-requires c κs = search needs
 
 has-form-requires : tie.Need-has-form-requires
 has-form-requires c κs = search needs
 
 label-at-requires : tie.Need-label-at-requires
 label-at-requires c κs =
-    let line = c .before .before .before .args .line .now in
-    let f = form-length (bodyOf line) 34 1 (second-true (framedOf line) (formOf (bodyOf line) 34 1) (sym (c .before .has-form .ensures) ∙ c .if1 .taken)) in
+    let f = c .before in
+    let line = f .before .before .before .args .line .now in
+    let h = form-length (bodyOf line) 34 1 (sym (f .has-form .ensures) ∙ second-true (f .before .framed .result) (f .has-form .result) (c .if1 .taken)) in
     let n = body-length line in
     omega arith
 
@@ -28,9 +33,10 @@ returns : tie.Need-returns
 unfolding labelForm
 returns c =
     let l = c .before .before in
-    let f = l .before in
+    let t = l .before in
+    let f = t .before in
     grants (labelForm 1 lineWords) (labelIn lineWords) validOf (f .before .before .before .args .line .now) zeroLabel _
-    (sym (f .before .has-form .ensures) ∙ f .if1 .taken) (l .label-at .ensures) (sym (c .before .valid .ensures) ∙ c .if2 .taken)
+    (ap₂ _&&_ (sym (f .before .framed .ensures)) (sym (f .has-form .ensures)) ∙ t .if1 .taken) (l .label-at .ensures) (sym (c .before .valid .ensures) ∙ c .if2 .taken)
 
 zero-requires : tie.Need-zero-requires
 zero-requires c κs = search needs
@@ -39,7 +45,7 @@ returns-2 : tie.Need-returns-2
 returns-2 c =
     let v = c .before .before in
     let l = v .before in
-    bad-contents (labelForm 1 lineWords) (labelIn lineWords) validOf (l .before .before .before .before .args .line .now) zeroLabel _ _
+    bad-contents (labelForm 1 lineWords) (labelIn lineWords) validOf (l .before .before .before .before .before .args .line .now) zeroLabel _ _
     (l .label-at .ensures) (sym (v .valid .ensures) ∙ c .before .if2 .left) (c .zero .ensures)
 
 zero-requires-2 : tie.Need-zero-requires-2
@@ -49,12 +55,15 @@ returns-3 : tie.Need-returns-3
 unfolding labelForm
 returns-3 c =
     let e = c .before in
-    bad-form (labelForm 1 lineWords) (labelIn lineWords) validOf (e .before .before .before .args .line .now) zeroLabel _ (sym (e .before .has-form .ensures) ∙ e .if1 .left) (c .zero2 .ensures)
+    let f = e .before in
+    bad-form (labelForm 1 lineWords) (labelIn lineWords) validOf (f .before .before .before .args .line .now) zeroLabel _
+    (ap₂ _&&_ (sym (f .before .framed .ensures)) (sym (f .has-form .ensures)) ∙ e .if1 .left) (c .zero2 .ensures)
 
 pub read-label-spec : {M : Type 1} → statement M
 read-label-spec =
     tie.close
     (tie.spec
+    framed-requires
     has-form-requires
     label-at-requires
     valid-requires

@@ -1,17 +1,21 @@
-use mathlib.Core.Path.{sym, ap, _∙_}
+use borrow.Author.Needs.{needs}
+use mathlib.Core.Bool.{_&&_}
+use mathlib.Core.Path.{sym, ap, ap₂, _∙_}
 use Prim.Native.Nat.{ℕ}
 use native.Mathlib.Omega.{arith}
 use Rattle.label.proofs.BoolLaws.{second-true}
 use Rattle.range.specs.Tuple.{emptyTuple, validOf}
 use Rattle.hexline.specs.Body.{lineWords}
-use Rattle.hexline.specs.Frame.{bodyOf, framedOf}
+use Rattle.hexline.specs.Frame.{bodyOf}
 use Rattle.hexline.specs.Line.{tupleForm, tupleIn}
 use Rattle.hexline.specs.Regions.{tupleAt}
 use Rattle.hexline.proofs.FrameLaws.{body-length}
 use Rattle.hexline.proofs.LineLaws.{bad-contents, bad-form, grants, tuple-form-parts}
-use borrow.Author.Needs.{needs}
 use Rattle.hexline.proofs.read_tuple.Statement.{statement}
 use Rattle.hexline.proofs.read_tuple.Tie as tie
+
+framed-requires : tie.Need-framed-requires
+framed-requires c κs = search needs
 
 has-tuple-form-requires : tie.Need-has-tuple-form-requires
 has-tuple-form-requires c κs = search needs
@@ -22,8 +26,8 @@ byte-requires c κs = search needs
 tuple-at-requires : tie.Need-tuple-at-requires
 tuple-at-requires c κs =
     let f = c .before .before in
-    let line = f .before .before .args .line .now in
-    let form = tuple-form-parts 3 lineWords (bodyOf line) (second-true (framedOf line) (tupleForm 3 lineWords (bodyOf line)) (sym (f .has-tuple-form .ensures) ∙ c .before .if1 .taken)) in
+    let line = f .before .before .before .args .line .now in
+    let form = tuple-form-parts 3 lineWords (bodyOf line) (sym (f .has-tuple-form .ensures) ∙ second-true (f .before .framed .result) (f .has-tuple-form .result) (c .before .if1 .taken)) in
     let n = body-length line in
     (search needs, rw (c .byte .ensures) (omega arith))
 
@@ -33,11 +37,12 @@ valid-requires c κs = search needs
 returns : tie.Need-returns
 returns c =
     let t = c .before .before in
-    let f = t .before .before in
+    let e = t .before .before in
+    let f = e .before in
     let line = f .before .before .before .args .line .now in
     grants (tupleForm 3 lineWords) (tupleIn lineWords) validOf line emptyTuple _
-    (sym (f .before .has-tuple-form .ensures) ∙ f .if1 .taken) (t .tuple-at .ensures ∙ ap (λ (p : ℕ). tupleAt lineWords (bodyOf line) p 2) (t .before .byte .ensures))
-    (sym (c .before .valid .ensures) ∙ c .if2 .taken)
+    (ap₂ _&&_ (sym (f .before .framed .ensures)) (sym (f .has-tuple-form .ensures)) ∙ e .if1 .taken)
+    (t .tuple-at .ensures ∙ ap (λ (p : ℕ). tupleAt lineWords (bodyOf line) p 2) (t .before .byte .ensures)) (sym (c .before .valid .ensures) ∙ c .if2 .taken)
 
 empty-requires : tie.Need-empty-requires
 empty-requires c κs = search needs
@@ -46,7 +51,7 @@ returns-2 : tie.Need-returns-2
 returns-2 c =
     let v = c .before .before in
     let t = v .before in
-    let line = t .before .before .before .before .before .args .line .now in
+    let line = t .before .before .before .before .before .before .args .line .now in
     bad-contents (tupleForm 3 lineWords) (tupleIn lineWords) validOf line emptyTuple _ _
     (t .tuple-at .ensures ∙ ap (λ (p : ℕ). tupleAt lineWords (bodyOf line) p 2) (t .before .byte .ensures)) (sym (v .valid .ensures) ∙ c .before .if2 .left) (c .empty .ensures)
 
@@ -56,12 +61,15 @@ empty-requires-2 c κs = search needs
 returns-3 : tie.Need-returns-3
 returns-3 c =
     let e = c .before in
-    bad-form (tupleForm 3 lineWords) (tupleIn lineWords) validOf (e .before .before .before .args .line .now) emptyTuple _ (sym (e .before .has-tuple-form .ensures) ∙ e .if1 .left) (c .empty2 .ensures)
+    let f = e .before in
+    bad-form (tupleForm 3 lineWords) (tupleIn lineWords) validOf (f .before .before .before .args .line .now) emptyTuple _
+    (ap₂ _&&_ (sym (f .before .framed .ensures)) (sym (f .has-tuple-form .ensures)) ∙ e .if1 .left) (c .empty2 .ensures)
 
 pub read-tuple-spec : {M : Type 1} → statement M
 read-tuple-spec =
     tie.close
     (tie.spec
+    framed-requires
     has-tuple-form-requires
     byte-requires
     tuple-at-requires

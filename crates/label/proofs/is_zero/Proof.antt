@@ -1,8 +1,8 @@
 use borrow.Author.Needs.{needs}
 use mathlib.Core.Path.{ap, _∙_}
 use Rattle.label.specs.Label.{equalOf}
-use Rattle.range.proofs.tuple.is_zero.Statement.{statement}
-use Rattle.range.proofs.tuple.is_zero.Tie as tie
+use Rattle.label.proofs.is_zero.Statement.{statement}
+use Rattle.label.proofs.is_zero.Tie as tie
 
 zero-requires : tie.Need-zero-requires
 zero-requires c κs = search needs

@@ -1,0 +1,22 @@
+use borrow.Author.Tests.{eq-eqb, ne-eqb}
+use Rattle.hexline.specs.Entry.{valueSize}
+use borrow.Author.Needs.{needs}
+use Rattle.hexline.proofs.entry.value_size.Statement.{statement}
+use Rattle.hexline.proofs.entry.value_size.Tie as tie
+
+mul-result : tie.Need-mul-result
+mul-result c = search needs
+
+add-result : tie.Need-add-result
+add-result c = search needs
+
+returns : tie.Need-returns
+unfolding valueSize
+returns c = rw (eq-eqb _ _ (c .if1 .taken))
+
+returns-2 : tie.Need-returns-2
+unfolding valueSize
+returns-2 c = rw (ne-eqb _ _ (c .if1 .left))
+
+pub value-size-spec : {M : Type 1} → statement M
+value-size-spec = tie.close (tie.spec mul-result add-result returns returns-2)

@@ -1,0 +1,84 @@
+use borrow.Author.Needs.{needs}
+use mathlib.Core.Bool.{_&&_}
+use mathlib.Core.Path.{sym, ap, ap₂, _∙_}
+use native.Mathlib.Omega.{arith}
+use Rattle.label.proofs.BoolLaws.{second-true}
+use Rattle.hexline.specs.Body.{lineWords}
+use Rattle.hexline.specs.Entry.{entryFrom, layoutOf, validOf, zeroEntry}
+use Rattle.hexline.specs.Frame.{bodyOf}
+use Rattle.hexline.specs.Line.{entryForm, entryIn}
+use Rattle.hexline.proofs.EntryLaws.{layout-small}
+use Rattle.hexline.proofs.FrameLaws.{body-length, body-small}
+use Rattle.hexline.proofs.LineLaws.{bad-contents, bad-form, entry-form-parts, entry-label-room, grants}
+use Rattle.hexline.proofs.read_entry.Statement.{statement}
+use Rattle.hexline.proofs.read_entry.Tie as tie
+
+layout-at-requires : tie.Need-layout-at-requires
+layout-at-requires c κs = search needs
+
+framed-requires : tie.Need-framed-requires
+framed-requires c κs = search needs
+
+has-entry-form-requires : tie.Need-has-entry-form-requires
+has-entry-form-requires c κs = c .before .layout-at .ensures
+
+entry-from-requires : tie.Need-entry-from-requires
+entry-from-requires c κs =
+    let f = c .before in
+    let l = f .before .before in
+    let line = l .before .before .args .line .now in
+    let form = entry-form-parts 4 lineWords (bodyOf line) (sym (f .has-entry-form .ensures) ∙ second-true (f .before .framed .result) (f .has-entry-form .result) (c .if1 .taken)) in
+    let small = layout-small lineWords (bodyOf line) 1 (body-small line) (omega arith) (omega arith) in
+    let n = body-length line in
+    rw (l .layout-at .ensures) ((λ e. omega (arith, entry-label-room 4 lineWords (bodyOf line) form e)), omega (arith, small .name), omega (arith, small .abbreviation))
+
+valid-requires : tie.Need-valid-requires
+valid-requires c κs = search needs
+
+returns : tie.Need-returns
+returns c =
+    let x = c .before .before in
+    let t = x .before in
+    let f = t .before in
+    let l = f .before .before in
+    let line = l .before .before .args .line .now in
+    grants (entryForm 4 lineWords) (entryIn lineWords) validOf line zeroEntry _
+    (ap₂ _&&_ (sym (f .before .framed .ensures)) (sym (f .has-entry-form .ensures)) ∙ t .if1 .taken)
+    (x .entry-from .ensures ∙ ap (entryFrom lineWords (bodyOf line) 2) (l .layout-at .ensures)) (sym (c .before .valid .ensures) ∙ c .if2 .taken)
+
+zero-requires : tie.Need-zero-requires
+zero-requires c κs = search needs
+
+returns-2 : tie.Need-returns-2
+returns-2 c =
+    let v = c .before .before in
+    let x = v .before in
+    let l = x .before .before .before .before in
+    let line = l .before .before .args .line .now in
+    bad-contents (entryForm 4 lineWords) (entryIn lineWords) validOf line zeroEntry _ _
+    (x .entry-from .ensures ∙ ap (entryFrom lineWords (bodyOf line) 2) (l .layout-at .ensures)) (sym (v .valid .ensures) ∙ c .before .if2 .left) (c .zero .ensures)
+
+zero-requires-2 : tie.Need-zero-requires-2
+zero-requires-2 c κs = search needs
+
+returns-3 : tie.Need-returns-3
+returns-3 c =
+    let e = c .before in
+    let f = e .before in
+    bad-form (entryForm 4 lineWords) (entryIn lineWords) validOf (f .before .before .before .before .args .line .now) zeroEntry _
+    (ap₂ _&&_ (sym (f .before .framed .ensures)) (sym (f .has-entry-form .ensures)) ∙ e .if1 .left) (c .zero2 .ensures)
+
+pub read-entry-spec : {M : Type 1} → statement M
+read-entry-spec =
+    tie.close
+    (tie.spec
+    layout-at-requires
+    framed-requires
+    has-entry-form-requires
+    entry-from-requires
+    valid-requires
+    returns
+    zero-requires
+    returns-2
+    zero-requires-2
+    returns-3)

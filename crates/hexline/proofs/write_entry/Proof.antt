@@ -1,0 +1,66 @@
+use mathlib.Core.Path.{refl, sym, _∙_}
+use native.Mathlib.Omega.{arith}
+use borrow.Author.Tests.{not-false, not-true}
+use Rattle.label.specs.declared.errno.Errno.the-variants.{Invalid}
+use Rattle.label.proofs.AnswerLaws.{stopped}
+use Rattle.label.proofs.BufferLaws.{writes-nothing}
+use Rattle.hexline.specs.Body.{lineWords}
+use Rattle.hexline.specs.Line.{entryBody}
+use Rattle.hexline.proofs.BodyLoops.{appended-count}
+use Rattle.hexline.proofs.LineLaws.{writes-line}
+use borrow.Author.Needs.{needs}
+use Rattle.hexline.proofs.write_entry.Statement.{statement}
+use Rattle.hexline.proofs.write_entry.Tie as tie
+
+valid-requires : tie.Need-valid-requires
+valid-requires c κs = search needs
+
+returns : tie.Need-returns
+returns c = writes-nothing Invalid _ _ _ (stopped _ 22 _ (sym (c .before .valid .ensures) ∙ not-true _ (c .if1 .taken))) refl
+
+array-write-bytes : tie.Need-array-write-bytes
+array-write-bytes c = search needs
+
+slice-aggregate-put-entry : tie.Need-slice-aggregate-put-entry
+slice-aggregate-put-entry c = search needs
+
+put-entry-requires : tie.Need-put-entry-requires
+put-entry-requires c κs = (search needs, search needs, sym (c .before .before .valid .ensures) ∙ not-false _ (c .before .if1 .left))
+
+array-share-prefix-bytes : tie.Need-array-share-prefix-bytes
+array-share-prefix-bytes c = search needs
+
+slice-aggregate-write : tie.Need-slice-aggregate-write
+slice-aggregate-write c = let p = c .before .before in appended-count (p .put-entry .ensures .0) (omega (arith, p .put-entry .ensures .1))
+
+write-requires : tie.Need-write-requires
+write-requires c κs = search needs
+
+same-length : tie.Need-same-length
+same-length c = search needs
+
+returns-2 : tie.Need-returns-2
+unfolding entryBody
+returns-2 c =
+    let w = c .before .before in
+    let p = w .before .before .before .before in
+    let f = p .before .before in
+    let e = f .before .before .before .args .e in
+    let n = p .put-entry .ensures .0 .next in
+    let m = p .put-entry .ensures .1 in
+    writes-line _ _ _ _ (entryBody 4 lineWords e) _ (sym (f .before .valid .ensures) ∙ not-false _ (f .if1 .left)) (p .put-entry .ensures .0 .holds) (omega arith) (w .write .ensures)
+
+pub write-entry-spec : {M : Type 1} → statement M
+write-entry-spec =
+    tie.close
+    (tie.spec
+    valid-requires
+    returns
+    array-write-bytes
+    slice-aggregate-put-entry
+    put-entry-requires
+    array-share-prefix-bytes
+    slice-aggregate-write
+    write-requires
+    same-length
+    returns-2)

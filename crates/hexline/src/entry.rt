@@ -1,0 +1,361 @@
+// Alias entries, and their bytes in a body. An entry holds its name and abbreviation in arrays of their own with lengths, so that it can be
+// handed over by value; bytes past a length are zeros, and so is the label where the class has none.
+use crate::body::label_at;
+use crate::body::put_label;
+use crate::frame;
+use label::Label;
+use label::MAX_HIERARCHY;
+use label::answer::Outcome;
+ghost use mathlib.Core.Path.{_≡_};
+ghost use mathlib.Core.List.{_∷_, []};
+ghost use Prim.Native.Nat.{_+_, _*_, _<_, _≤_, _^_};
+ghost use mathlib.Core.Bool.{true};
+ghost use lib.ListN.{length, take};
+ghost use Rattle.label.specs.Index.{every};
+ghost use Rattle.label.specs.Words.{words as setWords};
+ghost use Rattle.hexline.specs.Frame.{bodyOf};
+ghost use Rattle.hexline.specs.Body.{Appended, byteAt, labelSize};
+ghost use Rattle.hexline.specs.Entry.{TypedEntry, classOf, entryBytes, entryFrom, entrySize, isLetter, isNameByte, labelFrom, layoutOf, maxAbbreviation, maxName, nameByteAt, nameByteOk, nameOf, spanOf, textByte, textBytes, textFrom, validOf, valueBytes, valueFrom, valueOk, valueSize, zeroEntry};
+
+pub const MAX_NAME: usize = 31;
+
+pub const MAX_ABBREVIATION: usize = 15;
+
+// What an alias stands for. A label stands beside it.
+pub enum Value {
+    Hierarchy(u8),
+    Category(u64),
+    WholeLabel,
+}
+
+pub struct Name {
+    pub bytes: [u8; MAX_NAME],
+    pub length: usize,
+}
+
+pub struct Abbreviation {
+    pub bytes: [u8; MAX_ABBREVIATION],
+    pub length: usize,
+}
+
+pub struct Entry {
+    pub value: Value,
+    pub label: Label,
+    pub name: Name,
+    pub abbreviation: Abbreviation,
+}
+
+// An entry that is answered stands beside its outcome; beside a refusal it is the entry of zeros.
+pub struct EntryAnswer {
+    pub outcome: Outcome,
+    pub entry: Entry,
+}
+
+// The entry of zeros.
+pub fn zero() -> Entry
+    ensures { λ r. ⌜ r ≡ zeroEntry ⌝ }
+{
+    let name = Name {
+        bytes: [0u8; MAX_NAME],
+        length: 0,
+    };
+    let abbreviation = Abbreviation {
+        bytes: [0u8; MAX_ABBREVIATION],
+        length: 0,
+    };
+    Entry {
+        value: Value::Hierarchy(0),
+        label: label::zero(),
+        name,
+        abbreviation,
+    }
+}
+
+fn is_letter(c: u8) -> bool
+    ensures { λ r. ⌜ r ≡ isLetter c ⌝ }
+{
+    ((65 <= c) & (c <= 90)) | ((97 <= c) & (c <= 122))
+}
+
+fn is_name_byte(c: u8) -> bool
+    ensures { λ r. ⌜ r ≡ isNameByte c ⌝ }
+{
+    is_letter(c) | ((48 <= c) & (c <= 57)) | (c == 95) | (c == 45) | (c == 46)
+}
+
+// Whether c may stand at index i where a name has n bytes.
+fn name_byte_ok(n: usize, i: usize, c: u8) -> bool
+    ensures { λ r. ⌜ r ≡ nameByteOk n i c ⌝ }
+{
+    if i < n {
+        return is_name_byte(c);
+    }
+    c == 0
+}
+
+fn all_name_bytes(bytes: &[u8], n: usize) -> bool
+    ensures { λ r. ⌜ r ≡ every (nameByteAt (now (bytes .entry)) n) (length (now (bytes .entry))) ⌝ }
+{
+    let mut i = 0;
+    while i < bytes.len() {
+        if !name_byte_ok(n, i, bytes[i]) {
+            return false;
+        }
+        i += 1;
+    }
+    true
+}
+
+// The first byte, and 0 where there is none.
+fn first(bytes: &[u8]) -> u8
+    ensures { λ r. ⌜ r ≡ byteAt (now (bytes .entry)) 0 ⌝ }
+{
+    if 0 < bytes.len() {
+        return bytes[0];
+    }
+    0
+}
+
+// Whether the first n bytes are a name or nothing, and the rest are zeros.
+fn is_name(bytes: &[u8], n: usize) -> bool
+    ensures { λ r. ⌜ r ≡ nameOf (now (bytes .entry)) n ⌝ }
+{
+    (n <= bytes.len()) & ((n == 0) | is_letter(first(bytes))) & all_name_bytes(bytes, n)
+}
+
+fn value_ok(v: Value, l: Label) -> bool
+    ensures { λ r. ⌜ r ≡ valueOk v l ⌝ }
+{
+    match v {
+        Value::Hierarchy(h) => (h <= MAX_HIERARCHY) & label::is_zero(l),
+        Value::Category(c) => (c < 256) & label::is_zero(l),
+        Value::WholeLabel => label::valid(l),
+    }
+}
+
+pub fn valid(e: Entry) -> bool
+    ensures { λ r. ⌜ r ≡ validOf e ⌝ }
+{
+    let v = e.value;
+    let name = e.name;
+    let abbreviation = e.abbreviation;
+    let n = name.bytes;
+    let a = abbreviation.bytes;
+    value_ok(v, e.label)
+        & (1 <= name.length)
+        & is_name(&n, name.length)
+        & is_name(&a, abbreviation.length)
+}
+
+fn class_of(v: Value) -> u8
+    ensures { λ r. ⌜ r ≡ classOf v ⌝ }
+{
+    match v {
+        Value::Hierarchy(_) => 1,
+        Value::Category(_) => 2,
+        Value::WholeLabel => 3,
+    }
+}
+
+// A byte at index at, and the index past it.
+fn put_byte(out: &mut [u8], at: usize, b: u8) -> usize
+    requires { ⌜ at < length (now out) ⌝ }
+    ensures { λ r. ⌜ Appended (now (out .entry)) at (b ∷ []) r (now (out .exit)) ⌝ }
+{
+    out[at] = b;
+    at + 1
+}
+
+// A value's bytes at index at, and the index past them.
+fn put_value(out: &mut [u8], at: usize, v: Value, l: Label, words: usize) -> usize
+    requires { ⌜ (words ≤ setWords) × (at + labelSize words ≤ length (now out)) × (valueOk v l ≡ true) ⌝ }
+    ensures { λ r. ⌜ Appended (now (out .entry)) at (valueBytes words v l) r (now (out .exit)) ⌝ }
+{
+    match v {
+        Value::Hierarchy(h) => put_byte(out, at, h),
+        Value::Category(c) => put_byte(out, at, (c % 256) as u8),
+        Value::WholeLabel => put_label(out, at, l, words),
+    }
+}
+
+// The first n bytes of a text at index at.
+fn put_bytes(out: &mut [u8], at: usize, text: &[u8], n: usize) -> usize
+    requires { ⌜ (n ≤ length (now text)) × (at + n ≤ length (now out)) ⌝ }
+    ensures { λ r. ⌜ Appended (now (out .entry)) at (take n (now (text .entry))) r (now (out .exit)) ⌝ }
+{
+    let mut i = 0;
+    while i < n {
+        out[at + i] = text[i];
+        i += 1;
+    }
+    at + i
+}
+
+// A length and that many bytes of a text at index at, and the index past them.
+fn put_text(out: &mut [u8], at: usize, text: &[u8], n: usize) -> usize
+    requires { ⌜ (n ≤ length (now text)) × (n < 256) × (at + 1 + n ≤ length (now out)) ⌝ }
+    ensures { λ r. ⌜ Appended (now (out .entry)) at (textBytes (now (text .entry)) n) r (now (out .exit)) ⌝ }
+{
+    let next = put_byte(out, at, (n % 256) as u8);
+    put_bytes(out, next, text, n)
+}
+
+fn put_name(out: &mut [u8], at: usize, name: Name) -> usize
+    requires { ⌜ (nameOf (name .bytes) (name .length) ≡ true) × (at + 1 + maxName ≤ length (now out)) ⌝ }
+    ensures { λ r. ⌜ Appended (now (out .entry)) at (textBytes (name .bytes) (name .length)) r (now (out .exit)) ⌝ }
+    ensures { λ r. ⌜ r ≤ at + 1 + maxName ⌝ }
+{
+    let bytes = name.bytes;
+    put_text(out, at, &bytes, name.length)
+}
+
+fn put_abbreviation(out: &mut [u8], at: usize, name: Abbreviation) -> usize
+    requires { ⌜ (nameOf (name .bytes) (name .length) ≡ true) × (at + 1 + maxAbbreviation ≤ length (now out)) ⌝ }
+    ensures { λ r. ⌜ Appended (now (out .entry)) at (textBytes (name .bytes) (name .length)) r (now (out .exit)) ⌝ }
+    ensures { λ r. ⌜ r ≤ at + 1 + maxAbbreviation ⌝ }
+{
+    let bytes = name.bytes;
+    put_text(out, at, &bytes, name.length)
+}
+
+// An entry's bytes at index at, and the index past them.
+pub(crate) fn put_entry(out: &mut [u8], at: usize, e: Entry, words: usize) -> usize
+    requires { ⌜ (words ≤ setWords) × (at + entrySize words ≤ length (now out)) × (validOf e ≡ true) ⌝ }
+    ensures { λ r. ⌜ Appended (now (out .entry)) at (entryBytes words e) r (now (out .exit)) ⌝ }
+    ensures { λ r. ⌜ r ≤ at + entrySize words ⌝ }
+{
+    let v = e.value;
+    let value_at = put_byte(out, at, class_of(v));
+    let name_at = put_value(out, value_at, v, e.label, words);
+    let abbreviation_at = put_name(out, name_at, e.name);
+    put_abbreviation(out, abbreviation_at, e.abbreviation)
+}
+
+// A length byte's text: the index of its first byte, and its length.
+pub(crate) struct Span {
+    pub at: usize,
+    pub length: usize,
+}
+
+// Where the parts of an entry stand in a line's body. A table can be walked by it without making entries.
+pub(crate) struct Layout {
+    pub class: u8,
+    pub name: Span,
+    pub abbreviation: Span,
+}
+
+fn value_size(class: u8, words: usize) -> usize
+    requires { ⌜ words ≤ setWords ⌝ }
+    ensures { λ r. ⌜ r ≡ valueSize words class ⌝ }
+{
+    if class == 3 { 1 + 8 * words } else { 1 }
+}
+
+// A byte of a line's body as a length.
+fn length_at(line: &[u8], i: usize) -> usize
+    ensures { λ r. ⌜ r ≡ byteAt (bodyOf (now (line .entry))) i ⌝ }
+{
+    frame::byte(line, i) as usize
+}
+
+// The text whose length is at index at.
+fn span_at(line: &[u8], at: usize) -> Span
+    requires { ⌜ at < 1024 ⌝ }
+    ensures { λ r. ⌜ r ≡ spanOf (bodyOf (now (line .entry))) at ⌝ }
+{
+    Span {
+        at: at + 1,
+        length: length_at(line, at),
+    }
+}
+
+// The layout of the entry whose class is at index at.
+pub(crate) fn layout_at(line: &[u8], at: usize, words: usize) -> Layout
+    requires { ⌜ (words ≤ setWords) × (at < 256) ⌝ }
+    ensures { λ r. ⌜ r ≡ layoutOf words (bodyOf (now (line .entry))) at ⌝ }
+{
+    let class = frame::byte(line, at);
+    let name = span_at(line, at + 1 + value_size(class, words));
+    let abbreviation = span_at(line, name.at + name.length);
+    Layout {
+        class,
+        name,
+        abbreviation,
+    }
+}
+
+fn value_from(class: u8, b: u8) -> Value
+    ensures { λ r. ⌜ r ≡ valueFrom class b ⌝ }
+{
+    if class == 1 {
+        return Value::Hierarchy(b);
+    }
+    if class == 2 {
+        return Value::Category(frame::wide(b));
+    }
+    Value::WholeLabel
+}
+
+// The label of an entry of a class, its value at index at.
+fn label_from(line: &[u8], class: u8, at: usize, words: usize) -> Label
+    requires { ⌜ (class ≡ 3 → at + labelSize words ≤ length (now line)) ⌝ }
+    ensures { λ r. ⌜ r ≡ labelFrom words (bodyOf (now (line .entry))) class at ⌝ }
+{
+    if class == 3 {
+        return label_at(line, at, words);
+    }
+    label::zero()
+}
+
+// Byte k of a text of n bytes that begins at index at, and 0 past its end.
+fn text_byte(line: &[u8], at: usize, n: usize, k: usize) -> u8
+    requires { ⌜ at + k < 2 ^ 64 ⌝ }
+    ensures { λ r. ⌜ r ≡ textByte (bodyOf (now (line .entry))) at n k ⌝ }
+{
+    if k < n {
+        return frame::byte(line, at + k);
+    }
+    0
+}
+
+// Such a text in all of out.
+fn copy_text(line: &[u8], at: usize, n: usize, out: &mut [u8])
+    requires { ⌜ (at < 1024) × (length (now out) < 1024) ⌝ }
+    ensures { λ _. ⌜ now (out .exit) ≡ textFrom (length (now (out .entry))) (bodyOf (now (line .entry))) at n ⌝ }
+{
+    let mut k = 0;
+    while k < out.len() {
+        out[k] = text_byte(line, at, n, k);
+        k += 1;
+    }
+}
+
+// The entry of a layout, its value at index at.
+pub(crate) fn entry_from(line: &[u8], at: usize, p: Layout, words: usize) -> Entry
+    requires { ⌜ (p .class ≡ 3 → at + labelSize words ≤ length (now line)) × (p .name .at < 1024) × (p .abbreviation .at < 1024) ⌝ }
+    ensures { λ r. ⌜ r ≡ entryFrom words (bodyOf (now (line .entry))) at p ⌝ }
+{
+    let name = p.name;
+    let abbreviation = p.abbreviation;
+    let mut n = [0u8; MAX_NAME];
+    copy_text(line, name.at, name.length, &mut n);
+    let mut a = [0u8; MAX_ABBREVIATION];
+    copy_text(line, abbreviation.at, abbreviation.length, &mut a);
+    Entry {
+        value: value_from(p.class, frame::byte(line, at)),
+        label: label_from(line, p.class, at, words),
+        name: Name {
+            bytes: n,
+            length: name.length,
+        },
+        abbreviation: Abbreviation {
+            bytes: a,
+            length: abbreviation.length,
+        },
+    }
+}
+
+// Every entry has what its type says.
+pub(crate) fn typed(e: Entry)
+    ensures { λ _. ⌜ TypedEntry e ⌝ }
+{}
