@@ -16,7 +16,7 @@ use Rattle.label.proofs.IndexLaws.{le-or-lt, tabulate-at, tabulate-length}
 use Rattle.range.specs.Range
 use Rattle.range.specs.declared.Range.{Range}
 use Rattle.hexline.specs.Body.{byteAt, categoryByte, labelAt, labelBytes, labelSize, numberOf, rangeAt, rangeBytes, rangeSize, wordFrom}
-use Rattle.hexline.proofs.FrameLaws.{Bytes}
+use Rattle.frame.proofs.FrameLaws.{Bytes}
 use Rattle.hexline.proofs.NumberLaws.{number-digit, number-only}
 
 -- ---- bytes at an index

@@ -10,7 +10,7 @@ use lib.Seq.{length-take-le, take-suc, take-suc-set}
 use Rattle.label.specs.Index.{tabulate}
 use Rattle.label.specs.declared.Label.{Label}
 use Rattle.hexline.specs.Body.{Appended, byteAt, categoryByte, labelBytes, numberOf}
-use Rattle.hexline.proofs.FrameLaws.{Bytes}
+use Rattle.frame.proofs.FrameLaws.{Bytes}
 use Rattle.hexline.proofs.NumberLaws.{number-bound}
 
 -- the bytes past the lowest of a word leave room for one more

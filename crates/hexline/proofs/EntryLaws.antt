@@ -19,7 +19,7 @@ use Rattle.hexline.specs.declared.entry.Layout.{Layout}
 use Rattle.hexline.specs.declared.entry.Value.{Value}
 use Rattle.hexline.specs.declared.entry.Value.the-variants.{Hierarchy, Category, WholeLabel}
 use Rattle.hexline.proofs.BodyLaws.{label-length}
-use Rattle.hexline.proofs.FrameLaws.{Bytes}
+use Rattle.frame.proofs.FrameLaws.{Bytes}
 use Rattle.hexline.proofs.BodyLoops.{appended-both}
 
 -- ---- what a valid entry has

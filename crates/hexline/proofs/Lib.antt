@@ -1,8 +1,7 @@
-pub mod FrameLaws
-pub mod FrameLoops
 pub mod NumberLaws
 pub mod BodyLaws
 pub mod BodyLoops
 pub mod RegionsLaws
 pub mod EntryLaws
 pub mod LineLaws
+pub mod KindLaws

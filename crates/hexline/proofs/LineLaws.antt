@@ -1,6 +1,7 @@
 -- The laws of lines by their kind, and the ways in which their readers and writers end. Assumes nothing.
 use mathlib.Core.Bool.{Bool, true, false, _&&_}
 use mathlib.Core.List.{List}
+use mathlib.Core.Logic.{_↔_}
 use mathlib.Core.Option.{none}
 use mathlib.Core.Path.{_≡_, refl, sym, ap, _∙_}
 use Prim.Native.Nat.{ℕ, _+_, _*_, _≤_, _<_}
@@ -18,9 +19,9 @@ use Rattle.label.proofs.AnswerLaws.{answers-grant, answers-refusal}
 use Rattle.label.proofs.BoolLaws.{first-true, not-so, second-true, three-true}
 use Rattle.hexline.specs.Body.{byteAt, labelSize, rangeSize}
 use Rattle.hexline.specs.Entry.{layoutOf, maxAbbreviation, maxName, past, valueSize}
-use Rattle.hexline.specs.Frame.{bodyOf, frameAnswerOf, frameOf, framedOf, maxBody, readOf}
+use Rattle.frame.specs.Frame.{bodyOf, frameAnswerOf, frameOf, framedOf, maxBody, readOf}
 use Rattle.hexline.specs.Regions.{presentBelow}
-use Rattle.hexline.proofs.FrameLaws.{Bytes, reads-back, reads-exactly}
+use Rattle.frame.proofs.FrameLaws.{Bytes, reads-back, reads-exactly}
 use Rattle.hexline.specs.Line.{contentsOf, entryForm, formOf, kindOf, lineOf, tupleForm}
 
 -- ---- how a reader ends: a line that is no frame or has another form, contents that are not valid, or a grant
@@ -79,6 +80,22 @@ module _ {A : Type 0} (form : List ℕ → Bool) (contents : List ℕ → A) (va
       go : (f : Bool) → require f 22 (contentsOf form contents valid (bodyOf line)) ≡ granted x → valid x ≡ true
       go true r = taken (bodyOf line) (form (bodyOf line)) (valid (contents (bodyOf line))) refl refl r .2
       go false r = let no : _≡_ {A = ℕ} 0 1 = cc r in absurd (omega arith)
+
+-- the writer makes a line of x exactly if the reader gives x for that line
+pub line-exact : {A : Type 0} (form : List ℕ → Bool) (contents : List ℕ → A) (valid : A → Bool) (body : A → List ℕ) (x : A)
+    → (valid x ≡ true → Bytes (body x)) → (valid x ≡ true → form (body x) ≡ true) → (valid x ≡ true → contents (body x) ≡ x)
+    → ((bs : List ℕ) → Bytes bs → form bs ≡ true → bs ≡ body (contents bs))
+    → (line : List ℕ) → (lineOf (valid x) (body x) ≡ granted line) ↔ (readOf (contentsOf form contents valid) line ≡ granted x)
+line-exact form contents valid body x small formed same forth line = (to (valid x) refl, from)
+  where
+    to : (v : Bool) → valid x ≡ v → lineOf (valid x) (body x) ≡ granted line → readOf (contentsOf form contents valid) line ≡ granted x
+    to true v e =
+        let l : frameOf (body x) ≡ line = cc (rw v at e) in
+        rw l at (line-back form contents valid body x (small v) (formed v) (same v) v)
+    to false v e = let no : _≡_ {A = ℕ} 0 1 = cc (rw v at e) in absurd (omega arith)
+
+    from : readOf (contentsOf form contents valid) line ≡ granted x → lineOf (valid x) (body x) ≡ granted line
+    from e = let t = line-only form contents valid body x forth line e in rw (t .1) (ap granted (sym (t .0)))
 
 pub form-length : (bs : List ℕ) (n kind : ℕ) → formOf bs n kind ≡ true → length bs ≡ n
 unfolding formOf

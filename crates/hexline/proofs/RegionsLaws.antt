@@ -25,7 +25,7 @@ use Rattle.range.proofs.TupleLaws.{range-of, valid-absent, valid-region}
 use Rattle.hexline.specs.Body.{Appended, numberOf, rangeAt, rangeBytes, rangeSize}
 use Rattle.hexline.specs.Regions.{presenceOf, presentAt, presentBelow, regionAt, regionBytes, regionsBytes, tupleAt}
 use Rattle.hexline.proofs.BodyLaws.{Holds, Within, bytes-append, holds-first, holds-second, part, parts-join, range-back, range-bytes, range-forth, range-length}
-use Rattle.hexline.proofs.FrameLaws.{Bytes}
+use Rattle.frame.proofs.FrameLaws.{Bytes}
 use Rattle.hexline.proofs.NumberLaws.{number-bound, number-digit, number-only}
 
 -- ---- one region

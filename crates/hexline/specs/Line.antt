@@ -16,7 +16,7 @@ use Rattle.range.specs.declared.tuple.Tuple.{Tuple}
 use Rattle.hexline.specs.Body.{byteAt, labelAt, labelBytes, labelSize, lineWords, rangeAt, rangeBytes, rangeSize}
 use Rattle.hexline.specs.Entry
 use Rattle.hexline.specs.Entry.{past, entryBytes, entryFrom, layoutOf, maxAbbreviation, maxName}
-use Rattle.hexline.specs.Frame.{bodyOf, frameOf, framedOf, readOf}
+use Rattle.frame.specs.Frame.{bodyOf, frameOf, framedOf, readOf}
 use Rattle.hexline.specs.Regions.{presenceOf, presentBelow, regionsBytes, tupleAt}
 use Rattle.hexline.specs.declared.entry.Entry.{Entry}
 use Rattle.hexline.specs.declared.Kind.{Kind}

@@ -1,5 +1,4 @@
 // Labels and ranges as the bytes of a body. A set of categories has its first `words` words there.
-use crate::frame;
 use label::Label;
 use label::words::WORDS;
 use range::Range;
@@ -7,7 +6,7 @@ ghost use mathlib.Core.Path.{_≡_};
 ghost use Prim.Native.Nat.{_+_, _*_, _<_, _≤_};
 ghost use lib.ListN.{length};
 ghost use Rattle.label.specs.Words.{words as setWords};
-ghost use Rattle.hexline.specs.Frame.{bodyOf};
+ghost use Rattle.frame.specs.Frame.{bodyOf};
 ghost use Rattle.hexline.specs.Body.{Appended, byteAt, categoryByte, labelAt, labelBytes, labelSize, numberOf, rangeAt, rangeBytes, rangeSize, wordFrom};
 
 // How many words a set has in lines of kinds 01 to 04.
@@ -56,7 +55,7 @@ fn word_at(line: &[u8], at: usize) -> u64
     let mut k = 8;
     while 0 < k {
         k -= 1;
-        w = w * 256 + frame::wide(frame::byte(line, at + k));
+        w = w * 256 + frame::byte(line, at + k) as u64;
     }
     w
 }

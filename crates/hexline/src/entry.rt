@@ -2,7 +2,6 @@
 // handed over by value; bytes past a length are zeros, and so is the label where the class has none.
 use crate::body::label_at;
 use crate::body::put_label;
-use crate::frame;
 use label::Label;
 use label::MAX_HIERARCHY;
 use label::answer::Outcome;
@@ -13,7 +12,7 @@ ghost use mathlib.Core.Bool.{true};
 ghost use lib.ListN.{length, take};
 ghost use Rattle.label.specs.Index.{every};
 ghost use Rattle.label.specs.Words.{words as setWords};
-ghost use Rattle.hexline.specs.Frame.{bodyOf};
+ghost use Rattle.frame.specs.Frame.{bodyOf};
 ghost use Rattle.hexline.specs.Body.{Appended, byteAt, labelSize};
 ghost use Rattle.hexline.specs.Entry.{TypedEntry, classOf, entryBytes, entryFrom, entrySize, isLetter, isNameByte, labelFrom, layoutOf, maxAbbreviation, maxName, nameByteAt, nameByteOk, nameOf, spanOf, textByte, textBytes, textFrom, validOf, valueBytes, valueFrom, valueOk, valueSize, zeroEntry};
 
@@ -291,7 +290,7 @@ fn value_from(class: u8, b: u8) -> Value
         return Value::Hierarchy(b);
     }
     if class == 2 {
-        return Value::Category(frame::wide(b));
+        return Value::Category(b as u64);
     }
     Value::WholeLabel
 }

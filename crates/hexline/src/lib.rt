@@ -2,7 +2,6 @@
 // with its LF; each refuses what document 01 refuses, and a refusal writes nothing.
 mod body;
 pub mod entry;
-pub mod frame;
 mod regions;
 
 use crate::body::LINE_WORDS;
@@ -43,7 +42,7 @@ ghost use Rattle.range.specs.Tuple as tuples;
 ghost use Rattle.hexline.specs.Body.{lineWords};
 ghost use Rattle.hexline.specs.Entry as entries;
 ghost use Rattle.hexline.specs.Entry.{layoutOf};
-ghost use Rattle.hexline.specs.Frame.{bodyOf};
+ghost use Rattle.frame.specs.Frame.{bodyOf};
 ghost use Rattle.hexline.specs.Line.{entryForm, entryLineOf, formOf, kindAnswerOf, kindOf, labelLineOf, rangeLineOf, readEntryOf, readLabelOf, readRangeOf, readTupleOf, tupleForm, tupleLineOf};
 
 // The longest body is a full tuple's: kind, presence, six labels.

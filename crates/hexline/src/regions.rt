@@ -11,7 +11,7 @@ ghost use Prim.Native.Nat.{_+_, _*_, _<_, _≤_};
 ghost use lib.ListN.{length};
 ghost use Rattle.label.specs.Region.{regions};
 ghost use Rattle.label.specs.Words.{bit, words as setWords};
-ghost use Rattle.hexline.specs.Frame.{bodyOf};
+ghost use Rattle.frame.specs.Frame.{bodyOf};
 ghost use Rattle.hexline.specs.Body.{Appended, rangeSize};
 ghost use Rattle.hexline.specs.Regions.{presenceOf, presentAt, presentBelow, regionAt, regionBytes, regionsBytes, tupleAt};
 

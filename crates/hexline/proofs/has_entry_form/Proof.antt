@@ -1,9 +1,9 @@
 use native.Mathlib.Omega.{arith}
 use Rattle.hexline.specs.Body.{lineWords}
-use Rattle.hexline.specs.Frame.{bodyOf}
+use Rattle.frame.specs.Frame.{bodyOf}
 use Rattle.hexline.specs.Line.{entryForm}
 use Rattle.hexline.proofs.EntryLaws.{layout-small}
-use Rattle.hexline.proofs.FrameLaws.{body-small}
+use Rattle.frame.proofs.FrameLaws.{body-small}
 use borrow.Author.Needs.{needs}
 use Rattle.hexline.proofs.has_entry_form.Statement.{statement}
 use Rattle.hexline.proofs.has_entry_form.Tie as tie

@@ -6,7 +6,7 @@ use Rattle.label.specs.Index.{tabulate}
 use Rattle.label.specs.Label.{labelOf}
 use Rattle.label.specs.Words.{words as setWords}
 use Rattle.label.proofs.IndexLaws.{fill-done, fill-step}
-use Rattle.hexline.specs.Frame.{bodyOf}
+use Rattle.frame.specs.Frame.{bodyOf}
 use Rattle.hexline.specs.Body.{labelAt, wordFrom}
 use borrow.Author.Needs.{needs}
 use Rattle.hexline.proofs.body.label_at.Statement.{statement}

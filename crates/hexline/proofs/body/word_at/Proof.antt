@@ -1,9 +1,9 @@
 use mathlib.Core.Path.{_≡_, refl, ap, ap₂, _∙_}
 use Prim.Native.Nat.{ℕ, _≤_, _+_, _*_, _-_}
 use native.Mathlib.Omega.{arith}
-use Rattle.hexline.specs.Frame.{bodyOf}
+use Rattle.frame.specs.Frame.{bodyOf}
 use Rattle.hexline.specs.Body.{byteAt, numberOf}
-use Rattle.hexline.proofs.FrameLaws.{body-small}
+use Rattle.frame.proofs.FrameLaws.{body-small}
 use Rattle.hexline.proofs.NumberLaws.{number-next}
 use Rattle.hexline.proofs.BodyLoops.{word-room}
 use borrow.Author.Needs.{needs}
@@ -35,28 +35,28 @@ add-byte c = search needs
 byte-requires : tie.Need-byte-requires Inv-loop μ-loop
 byte-requires c κs = search needs
 
-wide-requires : tie.Need-wide-requires Inv-loop μ-loop
-wide-requires c κs = search needs
+cast-w : tie.Need-cast-w Inv-loop μ-loop
+cast-w c = search needs
 
 add-w : tie.Need-add-w Inv-loop μ-loop
 add-w c =
-    let h = c .before .before .before in
+    let h = c .before .before in
     let line = h .before .before .args .line .now in
     let at = h .before .before .args .at in
     let room = word-room (bodyOf line) (body-small line) (at + h .loop .k) (8 - h .loop .k) (omega arith) in
-    record { fits = omega (arith, h .loop .inv .1, c .wide .ensures, c .before .byte .ensures, body-small line (at + (h .loop .k - 1))) }
+    record { fits = omega (arith, h .loop .inv .1, c .byte .ensures, body-small line (at + (h .loop .k - 1))) }
 
 loop-less : tie.Need-loop-less Inv-loop μ-loop
 loop-less c = search needs
 
 loop-again : tie.Need-loop-again Inv-loop μ-loop
 loop-again c =
-    let h = c .before .before .before in
+    let h = c .before .before in
     let at = h .before .before .args .at in
     let f = byteAt (bodyOf (h .before .before .args .line .now)) in
     let k = h .loop .k in (
       search needs,
-      ap (λ (b : ℕ). h .loop .w * 256 + b) (c .wide .ensures ∙ c .before .byte .ensures)
+      ap (λ (b : ℕ). h .loop .w * 256 + b) (c .byte .ensures)
           ∙ number-next 256 f (at + (k - 1)) (8 - k) (h .loop .w) (h .loop .inv .1 ∙ ap (λ (i : ℕ). numberOf 256 f i (8 - k)) (omega arith))
           ∙ ap (λ (n : ℕ). numberOf 256 f (at + (k - 1)) n) (omega arith),
     )
@@ -77,7 +77,7 @@ word-at-spec =
     mul-w
     add-byte
     byte-requires
-    wide-requires
+    cast-w
     add-w
     loop-less
     loop-again

@@ -4,7 +4,7 @@ use native.Mathlib.Omega.{arith}
 use lib.ListN.{length, take}
 use Rattle.label.specs.Index.{tabulate}
 use Rattle.label.proofs.IndexLaws.{fill-done, fill-step}
-use Rattle.hexline.specs.Frame.{bodyOf}
+use Rattle.frame.specs.Frame.{bodyOf}
 use Rattle.hexline.specs.Entry.{textByte, textFrom}
 use borrow.Author.Needs.{needs}
 use Rattle.hexline.proofs.entry.copy_text.Statement.{statement}

@@ -8,16 +8,13 @@ returns : tie.Need-returns
 unfolding valueFrom
 returns c = rw (eq-eqb _ _ (c .if1 .taken))
 
-wide-requires : tie.Need-wide-requires
-wide-requires c κs = search needs
-
 returns-2 : tie.Need-returns-2
 unfolding valueFrom
-returns-2 c = rw (ne-eqb _ _ (c .before .before .if1 .left), eq-eqb _ _ (c .before .if2 .taken), c .wide .ensures)
+returns-2 c = rw (ne-eqb _ _ (c .before .if1 .left), eq-eqb _ _ (c .if2 .taken))
 
 returns-3 : tie.Need-returns-3
 unfolding valueFrom
 returns-3 c = rw (ne-eqb _ _ (c .before .if1 .left), ne-eqb _ _ (c .if2 .left))
 
 pub value-from-spec : {M : Type 1} → statement M
-value-from-spec = tie.close (tie.spec returns wide-requires returns-2 returns-3)
+value-from-spec = tie.close (tie.spec returns returns-2 returns-3)

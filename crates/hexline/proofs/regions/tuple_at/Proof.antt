@@ -6,7 +6,7 @@ use Rattle.label.specs.Index.{tabulate}
 use Rattle.label.specs.Region.{regions}
 use Rattle.label.proofs.IndexLaws.{fill-done, fill-step}
 use Rattle.range.specs.Tuple.{tupleOf}
-use Rattle.hexline.specs.Frame.{bodyOf}
+use Rattle.frame.specs.Frame.{bodyOf}
 use Rattle.hexline.specs.Regions.{regionAt, tupleAt}
 use borrow.Author.Needs.{needs}
 use Rattle.hexline.proofs.regions.tuple_at.Statement.{statement}

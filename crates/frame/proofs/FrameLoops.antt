@@ -11,8 +11,8 @@ use lib.ListN.{drop, drop-of-length-le, getD, length, set, take, length-append, 
 use lib.Seq.{drop-cons, getD-take, length-take-le, take-all, take-suc}
 use Rattle.label.specs.Buffer.{overlay}
 use Rattle.label.proofs.BufferLaws.{overlay-length, overlay-step}
-use Rattle.hexline.specs.Frame.{bodyOf, bytesOf, checkOf, digitOf, digitsOf, frameOf, framedOf, isDigit, spelledOf, sumOf}
-use Rattle.hexline.proofs.FrameLaws.{bytes-length, digits-append, digits-length, sum-take}
+use Rattle.frame.specs.Frame.{bodyOf, bytesOf, checkOf, digitOf, digitsOf, frameOf, framedOf, isDigit, spelledOf, sumOf}
+use Rattle.frame.proofs.FrameLaws.{bytes-length, digits-append, digits-length, sum-take}
 
 -- ---- whether a line is spelled in digits, from index i on
 

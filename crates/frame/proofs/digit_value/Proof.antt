@@ -2,9 +2,9 @@ use borrow.Author.Needs.{needs}
 use mathlib.Core.Path.{_≡_, sym, _∙_}
 use native.Mathlib.Omega.{arith}
 use borrow.Author.Tests.{not-false, not-true}
-use Rattle.hexline.proofs.FrameLaws.{high-value, low-value, no-digit, value-small}
-use Rattle.hexline.proofs.frame.digit_value.Statement.{statement}
-use Rattle.hexline.proofs.frame.digit_value.Tie as tie
+use Rattle.frame.proofs.FrameLaws.{high-value, low-value, no-digit, value-small}
+use Rattle.frame.proofs.digit_value.Statement.{statement}
+use Rattle.frame.proofs.digit_value.Tie as tie
 
 is-digit-requires : tie.Need-is-digit-requires
 is-digit-requires c κs = search needs

@@ -4,11 +4,11 @@ use Prim.Native.Nat.{_≤_, _+_, _-_}
 use native.Mathlib.Omega.{arith}
 use lib.ListN.{drop, getD, length}
 use borrow.Author.Tests.{not-false, not-true}
-use Rattle.hexline.specs.Frame.{isDigit, spelledOf}
-use Rattle.hexline.proofs.FrameLoops.{spelled-last, spelled-next, spelled-none}
+use Rattle.frame.specs.Frame.{isDigit, spelledOf}
+use Rattle.frame.proofs.FrameLoops.{spelled-last, spelled-next, spelled-none}
 use borrow.Author.Needs.{needs}
-use Rattle.hexline.proofs.frame.spelled.Statement.{statement}
-use Rattle.hexline.proofs.frame.spelled.Tie as tie
+use Rattle.frame.proofs.spelled.Statement.{statement}
+use Rattle.frame.proofs.spelled.Tie as tie
 
 abbrev Inv-loop : tie.InvT-loop
 Inv-loop line i₀ i = (i ≤ length line) × (spelledOf line ≡ spelledOf (drop i line))

@@ -1,9 +1,9 @@
 use mathlib.Core.Path.{sym}
 use native.Mathlib.Omega.{arith}
-use Rattle.hexline.proofs.FrameLaws.{body-length}
+use Rattle.frame.proofs.FrameLaws.{body-length}
 use borrow.Author.Needs.{needs}
-use Rattle.hexline.proofs.frame.body_length.Statement.{statement}
-use Rattle.hexline.proofs.frame.body_length.Tie as tie
+use Rattle.frame.proofs.body_length.Statement.{statement}
+use Rattle.frame.proofs.body_length.Tie as tie
 
 sub-result : tie.Need-sub-result
 sub-result c = search needs

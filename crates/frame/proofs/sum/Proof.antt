@@ -2,12 +2,12 @@ use mathlib.Core.Path.{_≡_, refl, ap, _∙_}
 use Prim.Native.Nat.{ℕ, _≤_, _+_, _-_, _/_, _%_}
 use native.Mathlib.Omega.{arith}
 use lib.ListN.{getD, length, take}
-use Rattle.hexline.specs.Frame.{bytesOf, sumOf}
-use Rattle.hexline.proofs.FrameLaws.{bytes-length}
-use Rattle.hexline.proofs.FrameLoops.{sum-done, sum-next}
+use Rattle.frame.specs.Frame.{bytesOf, sumOf}
+use Rattle.frame.proofs.FrameLaws.{bytes-length}
+use Rattle.frame.proofs.FrameLoops.{sum-done, sum-next}
 use borrow.Author.Needs.{needs}
-use Rattle.hexline.proofs.frame.sum.Statement.{statement}
-use Rattle.hexline.proofs.frame.sum.Tie as tie
+use Rattle.frame.proofs.sum.Statement.{statement}
+use Rattle.frame.proofs.sum.Tie as tie
 
 abbrev Inv-loop : tie.InvT-loop
 Inv-loop line s₀ i₀ s i = (i ≤ length line / 2) × (s ≡ sumOf (take i (bytesOf line)) % 256)
@@ -22,8 +22,8 @@ loop-holds c = (search needs, refl)
 byte-at-requires : tie.Need-byte-at-requires Inv-loop μ-loop
 byte-at-requires c κs = search needs
 
-wide-requires : tie.Need-wide-requires Inv-loop μ-loop
-wide-requires c κs = search needs
+cast-s : tie.Need-cast-s Inv-loop μ-loop
+cast-s c = search needs
 
 add-s : tie.Need-add-s Inv-loop μ-loop
 add-s c = search needs
@@ -36,11 +36,12 @@ loop-less c = search needs
 
 loop-again : tie.Need-loop-again Inv-loop μ-loop
 loop-again c =
-    let h = c .before .before .before in
+    let h = c .before .before in
     let bs = bytesOf (h .before .before .args .line .now) in
-    let n = bytes-length (h .before .before .args .line .now) in
-    let e : c .wide .result ≡ getD bs (h .loop .i) 0 = c .wide .ensures ∙ c .before .byte-at .ensures in
-    (search needs, ap (λ (b : ℕ). (h .loop .s + b) % 256) e ∙ sum-next bs (h .loop .i) (h .loop .s) (omega arith) (h .loop .inv .1))
+    let n = bytes-length (h .before .before .args .line .now) in (
+      search needs,
+      ap (λ (b : ℕ). (h .loop .s + b) % 256) (c .byte-at .ensures) ∙ sum-next bs (h .loop .i) (h .loop .s) (omega arith) (h .loop .inv .1),
+    )
 
 cast-result : tie.Need-cast-result Inv-loop μ-loop
 cast-result c = search needs
@@ -61,7 +62,7 @@ sum-spec =
     μ-loop
     loop-holds
     byte-at-requires
-    wide-requires
+    cast-s
     add-s
     add-i
     loop-less

@@ -1,9 +1,9 @@
 use mathlib.Core.Path.{sym, ap₂, _∙_}
 use Prim.Native.Nat.{ℕ, _+_, _*_}
-use Rattle.hexline.proofs.FrameLaws.{bytes-at}
+use Rattle.frame.proofs.FrameLaws.{bytes-at}
 use borrow.Author.Needs.{needs}
-use Rattle.hexline.proofs.frame.byte_at.Statement.{statement}
-use Rattle.hexline.proofs.frame.byte_at.Tie as tie
+use Rattle.frame.proofs.byte_at.Statement.{statement}
+use Rattle.frame.proofs.byte_at.Tie as tie
 
 mul-digit-value : tie.Need-mul-digit-value
 mul-digit-value c = search needs

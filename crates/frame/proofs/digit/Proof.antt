@@ -1,8 +1,8 @@
 use borrow.Author.Needs.{needs}
 use mathlib.Core.Path.{sym}
-use Rattle.hexline.proofs.FrameLaws.{spell-high, spell-low}
-use Rattle.hexline.proofs.frame.digit.Statement.{statement}
-use Rattle.hexline.proofs.frame.digit.Tie as tie
+use Rattle.frame.proofs.FrameLaws.{spell-high, spell-low}
+use Rattle.frame.proofs.digit.Statement.{statement}
+use Rattle.frame.proofs.digit.Tie as tie
 
 add-result : tie.Need-add-result
 add-result c = search needs

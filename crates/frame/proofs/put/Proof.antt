@@ -1,6 +1,6 @@
 use borrow.Author.Needs.{needs}
-use Rattle.hexline.proofs.frame.put.Statement.{statement}
-use Rattle.hexline.proofs.frame.put.Tie as tie
+use Rattle.frame.proofs.put.Statement.{statement}
+use Rattle.frame.proofs.put.Tie as tie
 
 digit-requires : tie.Need-digit-requires
 digit-requires c κs = search needs

@@ -5,11 +5,11 @@ use native.Mathlib.Omega.{arith}
 use lib.ListN.{getD, length, set, take}
 use lib.Seq.{take-all}
 use Rattle.label.specs.Buffer.{overlay}
-use Rattle.hexline.specs.Frame.{digitOf, digitsOf, sumOf}
-use Rattle.hexline.proofs.FrameLoops.{digits-fit, digits-next, sum-done, sum-next}
+use Rattle.frame.specs.Frame.{digitOf, digitsOf, sumOf}
+use Rattle.frame.proofs.FrameLoops.{digits-fit, digits-next, sum-done, sum-next}
 use borrow.Author.Needs.{needs}
-use Rattle.hexline.proofs.frame.spell.Statement.{statement}
-use Rattle.hexline.proofs.frame.spell.Tie as tie
+use Rattle.frame.proofs.spell.Statement.{statement}
+use Rattle.frame.proofs.spell.Tie as tie
 
 abbrev Inv-loop : tie.InvT-loop
 Inv-loop body out₀ s₀ i₀ out s i =
@@ -35,14 +35,14 @@ put-requires c κs =
     let l = ap length (h .loop .inv .1) ∙ digits-fit _ _ (h .loop .i) (omega arith) p in
     omega arith
 
-shared-slice-read-wide : tie.Need-shared-slice-read-wide Inv-loop μ-loop
-shared-slice-read-wide c = search needs
+shared-slice-read-s : tie.Need-shared-slice-read-s Inv-loop μ-loop
+shared-slice-read-s c = search needs
 
-wide-requires : tie.Need-wide-requires Inv-loop μ-loop
-wide-requires c κs = search needs
+cast-s : tie.Need-cast-s Inv-loop μ-loop
+cast-s c = omega (arith, c .shared-slice-known3 .given (c .before .before .before .before .before .before .before .loop .i))
 
 add-s : tie.Need-add-s Inv-loop μ-loop
-add-s c = record { fits = omega (arith, c .wide .ensures, c .before .shared-slice-known3 .given (c .before .before .before .before .before .before .before .before .loop .i)) }
+add-s c = record { fits = omega (arith, c .shared-slice-known3 .given (c .before .before .before .before .before .before .before .loop .i)) }
 
 add-i : tie.Need-add-i Inv-loop μ-loop
 add-i c = search needs
@@ -52,14 +52,14 @@ loop-less c = search needs
 
 loop-again : tie.Need-loop-again Inv-loop μ-loop
 loop-again c =
-    let p = c .before .before .before .before in
+    let p = c .before .before .before in
     let h = p .before .before .before .before in
     let body = h .before .before .before .args .body .now in
     let out = h .before .before .before .args .out .now in
     let i = h .loop .i in (
       search needs,
       p .put .ensures ∙ ap (λ (l : List ℕ). set (set l (2 * i) (digitOf (getD body i 0 / 16))) (2 * i + 1) (digitOf (getD body i 0 % 16))) (h .loop .inv .1) ∙ digits-next body out i (omega arith) (h .before .before .before .pre),
-      ap (λ (b : ℕ). (h .loop .s + b) % 256) (c .wide .ensures) ∙ sum-next body i (h .loop .s) (omega arith) (h .loop .inv .2),
+      sum-next body i (h .loop .s) (omega arith) (h .loop .inv .2),
     )
 
 same-length : tie.Need-same-length Inv-loop μ-loop
@@ -86,8 +86,8 @@ spell-spec =
     mul-put
     shared-slice-read-put
     put-requires
-    shared-slice-read-wide
-    wide-requires
+    shared-slice-read-s
+    cast-s
     add-s
     add-i
     loop-less

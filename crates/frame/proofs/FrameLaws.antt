@@ -13,7 +13,7 @@ use borrow.Author.Tests.{eq-eqb, eqb-false, eqb-true, le-leb, le-ltb, leb-true, 
 use Rattle.label.specs.Answer.{Answer, granted, refused, require}
 use Rattle.label.proofs.BoolLaws.{both, either, first-true, not-so, or-first, or-second, second-true, three-true}
 use Rattle.label.proofs.IndexLaws.{le-or-lt}
-use Rattle.hexline.specs.Frame.{bodyOf, bytesOf, checkOf, digitOf, digitsOf, frameOf, framedOf, isDigit, readOf, spelledOf, sumOf, valueOf}
+use Rattle.frame.specs.Frame.{bodyOf, bytesOf, checkOf, digitOf, digitsOf, frameOf, framedOf, isDigit, readOf, spelledOf, sumOf, valueOf}
 
 -- ---- digits
 

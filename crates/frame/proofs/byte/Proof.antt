@@ -1,9 +1,9 @@
 use mathlib.Core.Path.{sym, _∙_}
 use native.Mathlib.Omega.{arith}
-use Rattle.hexline.proofs.FrameLoops.{body-at, body-past}
+use Rattle.frame.proofs.FrameLoops.{body-at, body-past}
 use borrow.Author.Needs.{needs}
-use Rattle.hexline.proofs.frame.byte.Statement.{statement}
-use Rattle.hexline.proofs.frame.byte.Tie as tie
+use Rattle.frame.proofs.byte.Statement.{statement}
+use Rattle.frame.proofs.byte.Tie as tie
 
 returns : tie.Need-returns
 returns c = sym (body-past _ _ (omega arith))

@@ -6,7 +6,7 @@ ghost use mathlib.Core.Path.{_≡_};
 ghost use Prim.Native.Nat.{_+_, _*_, _<_, _≤_, _/_, _%_};
 ghost use lib.ListN.{getD, length, set};
 ghost use Rattle.label.specs.Buffer.{WrittenTo, overlay};
-ghost use Rattle.hexline.specs.Frame.{bodyOf, bytesOf, digitOf, digitsOf, frameAnswerOf, framedOf, isDigit, spelledOf, sumOf, valueOf};
+ghost use Rattle.frame.specs.Frame.{bodyOf, bytesOf, digitOf, digitsOf, frameAnswerOf, framedOf, isDigit, spelledOf, sumOf, valueOf};
 
 // A longer body is not written.
 pub const MAX_BODY: usize = 65536;
@@ -91,16 +91,10 @@ fn sum(line: &[u8]) -> u8
     let mut s: u64 = 0;
     let mut i = 0;
     while i < line.len() / 2 {
-        s = (s + wide(byte_at(line, i))) % 256;
+        s = (s + byte_at(line, i) as u64) % 256;
         i += 1;
     }
     (s % 256) as u8
-}
-
-pub(crate) fn wide(b: u8) -> u64
-    ensures { λ r. ⌜ r ≡ b ⌝ }
-{
-    b as u64
 }
 
 // Whether a line is the frame of some body.
@@ -132,7 +126,7 @@ fn spell(body: &[u8], out: &mut [u8]) -> u64
     let mut i = 0;
     while i < body.len() {
         put(out, 2 * i, body[i]);
-        s = (s + wide(body[i])) % 256;
+        s = (s + body[i] as u64) % 256;
         i += 1;
     }
     s

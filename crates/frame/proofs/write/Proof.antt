@@ -7,12 +7,12 @@ use borrow.Author.Tests.{le-leb, lt-leb}
 use Rattle.label.specs.declared.errno.Errno.the-variants.{Invalid}
 use Rattle.label.proofs.AnswerLaws.{passed, stopped}
 use Rattle.label.proofs.BufferLaws.{overlay-length, too-short, writes, writes-nothing}
-use Rattle.hexline.specs.Frame.{digitOf, digitsOf, frameOf, maxBody}
-use Rattle.hexline.proofs.FrameLaws.{digits-length, frame-length}
-use Rattle.hexline.proofs.FrameLoops.{check-of, frame-more}
+use Rattle.frame.specs.Frame.{digitOf, digitsOf, frameOf, maxBody}
+use Rattle.frame.proofs.FrameLaws.{digits-length, frame-length}
+use Rattle.frame.proofs.FrameLoops.{check-of, frame-more}
 use borrow.Author.Needs.{needs}
-use Rattle.hexline.proofs.frame.write.Statement.{statement}
-use Rattle.hexline.proofs.frame.write.Tie as tie
+use Rattle.frame.proofs.write.Statement.{statement}
+use Rattle.frame.proofs.write.Tie as tie
 
 returns : tie.Need-returns
 returns c = writes-nothing Invalid _ _ _ (stopped _ 22 _ (lt-leb _ maxBody (c .if1 .taken))) refl

@@ -1,7 +1,7 @@
-use Rattle.hexline.specs.Frame.{isDigit}
+use Rattle.frame.specs.Frame.{isDigit}
 use borrow.Author.Needs.{needs}
-use Rattle.hexline.proofs.frame.is_digit.Statement.{statement}
-use Rattle.hexline.proofs.frame.is_digit.Tie as tie
+use Rattle.frame.proofs.is_digit.Statement.{statement}
+use Rattle.frame.proofs.is_digit.Tie as tie
 
 returns : tie.Need-returns
 unfolding isDigit

@@ -1,9 +1,9 @@
 use mathlib.Core.Path.{sym, _∙_}
 use borrow.Author.Tests.{not-false, not-true}
-use Rattle.hexline.proofs.FrameLoops.{framed-of, unframed}
+use Rattle.frame.proofs.FrameLoops.{framed-of, unframed}
 use borrow.Author.Needs.{needs}
-use Rattle.hexline.proofs.frame.framed.Statement.{statement}
-use Rattle.hexline.proofs.frame.framed.Tie as tie
+use Rattle.frame.proofs.framed.Statement.{statement}
+use Rattle.frame.proofs.framed.Tie as tie
 
 spelled-requires : tie.Need-spelled-requires
 spelled-requires c κs = search needs

@@ -1,0 +1,127 @@
+-- The two laws of each kind, as one: the writer makes a line of some contents exactly if the reader gives these contents for that line.
+-- So what is written reads back, and an accepted line is, byte for byte, the one that the writer makes. Each is proved over the kind's
+-- number and the words that a set has in it, for contents whose categories stand in these, and then stated for kinds 01 to 04, where they
+-- all do. Assumes nothing.
+use mathlib.Core.Bool.{true}
+use mathlib.Core.List.{List, [], _∷_, _++_}
+use mathlib.Core.Logic.{_↔_}
+use mathlib.Core.Path.{_≡_, refl, sym, ap, ap₂, _∙_}
+use Prim.Native.Nat.{ℕ, zero, suc, _+_, _*_, _≤_, _<_}
+use native.Mathlib.Omega.{arith}
+use lib.ListN.{getD, length, take, List·getD-eq-default}
+use lib.Seq.{take-all, take-suc}
+use borrow.Author.Tests.{eq-eqb, lt-ltb}
+use Rattle.label.specs.Answer.{granted}
+use Rattle.label.specs.Label
+use Rattle.label.specs.Region.{regions}
+use Rattle.label.specs.Words.{words}
+use Rattle.label.specs.declared.Label.{Label}
+use Rattle.label.proofs.BoolLaws.{both}
+use Rattle.range.specs.Range
+use Rattle.range.specs.Tuple
+use Rattle.range.specs.declared.Range.{Range}
+use Rattle.range.specs.declared.tuple.Tuple.{Tuple}
+use Rattle.frame.specs.Frame.{readOf}
+use Rattle.frame.proofs.FrameLaws.{Bytes}
+use Rattle.hexline.specs.Body.{byteAt, labelAt, labelBytes, labelSize, lineWords, rangeAt, rangeBytes, rangeSize}
+use Rattle.hexline.specs.Line.{contentsOf, formOf, labelBody, labelForm, labelIn, labelLineOf, lineOf, rangeBody, rangeForm, rangeIn, rangeLineOf, readLabelOf, readRangeOf, readTupleOf, tupleBody, tupleForm, tupleIn, tupleLineOf}
+use Rattle.hexline.specs.Regions.{presenceOf, presentBelow, regionsBytes, tupleAt}
+use Rattle.hexline.proofs.BodyLaws.{Holds, Within, holds-second, holds-self, label-back, label-bytes, label-forth, label-length, part, parts-join, range-back, range-bytes, range-forth, range-length}
+use Rattle.hexline.proofs.LineLaws.{form-kind, form-length, line-exact, tuple-form-parts}
+use Rattle.hexline.proofs.RegionsLaws.{WithinTuple, presence-forth, presence-size, presence-small, regions-bytes, regions-forth, tuple-back}
+
+-- ---- bodies that begin with a kind
+
+cons-bytes : (b : ℕ) (bs : List ℕ) → b < 256 → Bytes bs → Bytes (b ∷ bs)
+cons-bytes b bs h small zero = h
+cons-bytes b bs h small (suc i) = small i
+
+form-of : (bs : List ℕ) (n kind : ℕ) → length bs ≡ n → byteAt bs 0 ≡ kind → formOf bs n kind ≡ true
+unfolding formOf
+form-of bs n kind e k = both (eq-eqb (length bs) n e) (eq-eqb (byteAt bs 0) kind k)
+
+-- a list is its first byte and the part after it
+first-part : (n : ℕ) (bs : List ℕ) → length bs ≡ 1 + n → bs ≡ byteAt bs 0 ∷ part 1 n bs
+first-part n [] e = absurd (omega arith)
+first-part n (b ∷ bs) e = ap (λ (l : List ℕ). b ∷ l) (sym (take-all n bs (omega arith)))
+
+kind-part : (bs : List ℕ) (n kind : ℕ) → formOf bs (1 + n) kind ≡ true → bs ≡ kind ∷ part 1 n bs
+kind-part bs n kind f = first-part n bs (form-length bs (1 + n) kind f) ∙ ap (λ (k : ℕ). k ∷ part 1 n bs) (form-kind bs (1 + n) kind f)
+
+-- every category of a label of the code's type stands in as many words as it has
+all-within : (l : Label) → Label.Typed l → Within words l
+all-within l t j h = let n = t .length-is in List·getD-eq-default (l .categories) 0 (omega arith)
+
+-- ---- labels
+
+module _ (kind w : ℕ) (k : kind < 256) (fits : w ≤ words) where
+  label-exact : (l : Label) → Label.Typed l → Within w l → (line : List ℕ)
+      → (lineOf (Label.validOf l) (labelBody kind w l) ≡ granted line) ↔ (readOf (contentsOf (labelForm kind w) (labelIn w) Label.validOf) line ≡ granted l)
+  unfolding labelBody labelForm
+  label-exact l t within =
+      line-exact (labelForm kind w) (labelIn w) Label.validOf (labelBody kind w) l
+      (λ v. cons-bytes kind (labelBytes w l) k (label-bytes w l (t .hierarchy)))
+      (λ v. let n = label-length w l in form-of (kind ∷ labelBytes w l) (1 + labelSize w) kind (omega arith) refl)
+      (λ v. label-back w (kind ∷ labelBytes w l) 1 l (holds-second (kind ∷ labelBytes w l) 0 1 (kind ∷ []) (labelBytes w l) refl (holds-self (kind ∷ labelBytes w l))) t within)
+      (λ bs small f. let n = form-length bs (1 + labelSize w) kind f in
+      kind-part bs (labelSize w) kind f ∙ ap (λ (xs : List ℕ). kind ∷ xs) (sym (label-forth w bs 1 small fits (omega arith))))
+
+  -- ---- ranges
+
+  range-exact : (x : Range) → Range.TypedRange x → Within w (x .low) → Within w (x .high) → (line : List ℕ)
+      → (lineOf (Range.validOf x) (rangeBody kind w x) ≡ granted line) ↔ (readOf (contentsOf (rangeForm kind w) (rangeIn w) Range.validOf) line ≡ granted x)
+  unfolding rangeBody rangeForm
+  range-exact x t low high =
+      line-exact (rangeForm kind w) (rangeIn w) Range.validOf (rangeBody kind w) x
+      (λ v. cons-bytes kind (rangeBytes w x) k (range-bytes w x t))
+      (λ v. let n = range-length w x in form-of (kind ∷ rangeBytes w x) (1 + rangeSize w) kind (omega arith) refl)
+      (λ v. range-back w (kind ∷ rangeBytes w x) 1 x (holds-second (kind ∷ rangeBytes w x) 0 1 (kind ∷ []) (rangeBytes w x) refl (holds-self (kind ∷ rangeBytes w x))) t low high)
+      (λ bs small f. let n = form-length bs (1 + rangeSize w) kind f in
+      kind-part bs (rangeSize w) kind f ∙ ap (λ (xs : List ℕ). kind ∷ xs) (sym (range-forth w bs 1 small fits (omega arith))))
+
+  -- ---- tuples
+
+  tuple-forth : (bs : List ℕ) → Bytes bs → tupleForm kind w bs ≡ true → bs ≡ tupleBody kind w (tupleIn w bs)
+  unfolding tupleBody
+  tuple-forth bs small f =
+      let p = byteAt bs 1 in
+      let n = presentBelow p regions * rangeSize w in
+      let t = tuple-form-parts kind w bs f in
+      let e = t .1 in
+      let second : part 1 (1 + n) bs ≡ p ∷ part 2 n bs = sym (parts-join 1 1 n bs) ∙ ap (λ (xs : List ℕ). xs ++ part 2 n bs) (one-part bs (omega arith)) in
+      first-part (1 + n) bs (omega arith) ∙ ap₂ (λ (b : ℕ) (xs : List ℕ). b ∷ xs) (t .2) second
+      ∙ ap₂ (λ (b : ℕ) (xs : List ℕ). kind ∷ b ∷ xs) (sym (presence-forth w bs p 2 (t .0))) (sym (regions-forth w bs p 2 small fits (omega arith) regions (omega arith)))
+    where
+      one-part : (xs : List ℕ) → 1 < length xs → part 1 1 xs ≡ byteAt xs 1 ∷ []
+      one-part [] h = absurd (omega arith)
+      one-part (x ∷ []) h = absurd (omega arith)
+      one-part (x ∷ y ∷ xs) h = refl
+
+  tuple-exact : (t : Tuple) → Tuple.TypedTuple t → WithinTuple w t → (line : List ℕ)
+      → (lineOf (Tuple.validOf t) (tupleBody kind w t) ≡ granted line) ↔ (readOf (contentsOf (tupleForm kind w) (tupleIn w) Tuple.validOf) line ≡ granted t)
+  unfolding tupleBody tupleForm
+  tuple-exact t ty within =
+      let body = kind ∷ presenceOf t ∷ regionsBytes w t regions in
+      line-exact (tupleForm kind w) (tupleIn w) Tuple.validOf (tupleBody kind w) t
+      (λ v. let p = presence-small t in
+      cons-bytes kind (presenceOf t ∷ regionsBytes w t regions) k (cons-bytes (presenceOf t) (regionsBytes w t regions) (omega arith) (regions-bytes w t ty regions (omega arith))))
+      (λ v. let n = presence-size w t in
+      both (lt-ltb (presenceOf t) 8 (presence-small t)) (form-of body (presentBelow (presenceOf t) regions * rangeSize w + 2) kind (omega arith) refl))
+      (λ v. tuple-back w t body 2 ty within v (holds-second body 0 2 (kind ∷ presenceOf t ∷ []) (regionsBytes w t regions) refl (holds-self body)))
+      tuple-forth
+
+-- ---- kinds 01 to 03
+
+-- a label's line
+pub label-line : (l : Label) → Label.Typed l → (line : List ℕ) → (labelLineOf l ≡ granted line) ↔ (readLabelOf line ≡ granted l)
+label-line l t = label-exact 1 lineWords (omega arith) (omega arith) l t (all-within l t)
+
+-- a range's line
+pub range-line : (x : Range) → Range.TypedRange x → (line : List ℕ) → (rangeLineOf x ≡ granted line) ↔ (readRangeOf line ≡ granted x)
+range-line x t = range-exact 2 lineWords (omega arith) (omega arith) x t (all-within (x .low) (t .low)) (all-within (x .high) (t .high))
+
+-- a tuple's line
+pub tuple-line : (t : Tuple) → Tuple.TypedTuple t → (line : List ℕ) → (tupleLineOf t ≡ granted line) ↔ (readTupleOf line ≡ granted t)
+tuple-line t ty =
+    tuple-exact 3 lineWords (omega arith) (omega arith) t ty
+    (λ r l. (all-within (Tuple.rangeAt t r .range .low) (ty .range r l .low), all-within (Tuple.rangeAt t r .range .high) (ty .range r l .high)))
