@@ -5,8 +5,8 @@ use mathlib.Core.Path.{_≡_, refl, sym, ap, ap₂, _∙_}
 use Prim.Native.Nat.{ℕ, zero, suc, _+_, _*_, _/_, _%_, _^_, _≤_, _<_}
 use native.Mathlib.Nat.{add-zero, mod-lt, zero-lt-suc}
 use native.Mathlib.Omega.{arith}
-use lib.ListN.{drop, getD, length, take, length-append, length-drop, List·getD-append, List·getD-eq-default}
-use lib.Seq.{ext-getD, getD-append-add, getD-drop, getD-take, length-take-le, drop-drop, take-add}
+use lib.ListN.{drop, getD, length, take, length-append, length-drop, length-take, List·getD-append, List·getD-eq-default}
+use lib.Seq.{drop-cons, ext-getD, getD-append-add, getD-drop, getD-take, length-take-le, take-all, drop-drop, take-add}
 use borrow.Author.Tests.{le-ltb, lt-ltb}
 use Rattle.label.specs.Index.{tabulate}
 use Rattle.label.specs.Label
@@ -46,15 +46,34 @@ part-length i n bs h = let d = length-drop i bs in length-take-le n (drop i bs) 
 pub part-at : (i n k : ℕ) (bs : List ℕ) → k < n → getD (part i n bs) k 0 ≡ getD bs (i + k) 0
 part-at i n k bs h = getD-take n (drop i bs) k 0 h ∙ getD-drop i bs k 0
 
+pub one-part : (bs : List ℕ) (i : ℕ) → i < length bs → part i 1 bs ≡ byteAt bs i ∷ []
+one-part bs i h = ap (take 1) (drop-cons bs i 0 h)
+
 -- a list that bs has from index i on is that part of it
 pub part-is : (i n : ℕ) (bs xs : List ℕ) → i + n ≤ length bs → length xs ≡ n → ((k : ℕ) → k < n → getD xs k 0 ≡ getD bs (i + k) 0) → xs ≡ part i n bs
 part-is i n bs xs h e at =
     ext-getD 0 xs (part i n bs) (e ∙ sym (part-length i n bs h)) (λ k l. at k (omega arith) ∙ sym (part-at i n k bs (omega arith)))
 
+-- a list is its first byte and the part after it
+pub first-part : (n : ℕ) (bs : List ℕ) → length bs ≡ 1 + n → bs ≡ byteAt bs 0 ∷ part 1 n bs
+first-part n [] e = absurd (omega arith)
+first-part n (b ∷ bs) e = ap (λ (l : List ℕ). b ∷ l) (sym (take-all n bs (omega arith)))
+
+pub cons-bytes : (b : ℕ) (bs : List ℕ) → b < 256 → Bytes bs → Bytes (b ∷ bs)
+cons-bytes b bs h small zero = h
+cons-bytes b bs h small (suc i) = small i
+
 pub bytes-append : (xs ys : List ℕ) → Bytes xs → Bytes ys → Bytes (xs ++ ys)
 bytes-append [] ys hx hy i = hy i
 bytes-append (x ∷ xs) ys hx hy zero = hx 0
 bytes-append (x ∷ xs) ys hx hy (suc i) = bytes-append xs ys (λ j. hx (suc j)) hy i
+
+pub bytes-take : (n : ℕ) (xs : List ℕ) → Bytes xs → Bytes (take n xs)
+bytes-take n xs h i =
+    ⊎-elim
+    (λ l. let e = length-take n xs in let z = List·getD-eq-default (take n xs) 0 {n = i} (omega arith) in omega arith)
+    (λ l. let e = getD-take n xs i 0 l in omega (arith, h i))
+    (le-or-lt n i)
 
 pub bytes-tabulate : (f : ℕ → ℕ) (n : ℕ) → ((i : ℕ) → f i < 256) → Bytes (tabulate f n)
 bytes-tabulate f n h i =

@@ -1,24 +1,29 @@
 -- The laws of alias entries and their bytes. Assumes nothing.
 use mathlib.Core.Bool.{Bool, true, false, cond, _&&_, _||_}
-use mathlib.Core.List.{List, [], _∷_}
+use mathlib.Core.List.{List, [], _∷_, _++_}
+use mathlib.Core.Logic.{⊎-elim}
 use mathlib.Core.Path.{_≡_, refl, sym, ap, ap₂, _∙_}
-use Prim.Native.Nat.{ℕ, _+_, _*_, _≤_, _<_}
+use Prim.Native.Nat.{ℕ, zero, suc, _+_, _*_, _≤_, _<_}
+use native.Mathlib.Nat.{add-zero}
 use native.Mathlib.Omega.{arith}
 use lib.Dec.{eqb, leb, ltb}
-use lib.ListN.{getD, length, take}
-use borrow.Author.Tests.{leb-true, ltb-true}
-use Rattle.label.specs.Index.{every}
+use lib.ListN.{getD, length, take, List·getD-eq-default}
+use lib.Seq.{ext-getD, getD-take, length-take-le}
+use borrow.Author.Tests.{eqb-true, le-ltb, leb-true, lt-ltb, ltb-true}
+use Rattle.label.specs.Index.{every, tabulate}
 use Rattle.label.specs.Label
 use Rattle.label.specs.Words.{words}
 use Rattle.label.specs.declared.Label.{Label}
 use Rattle.label.proofs.BoolLaws.{first-true, second-true, three-true}
+use Rattle.label.proofs.IndexLaws.{every-at, le-or-lt, tabulate-at, tabulate-length}
+use Rattle.label.proofs.LabelLaws.{equal-exact}
 use Rattle.hexline.specs.Body.{Appended, byteAt, labelSize}
-use Rattle.hexline.specs.Entry.{classOf, entryBytes, isLetter, layoutOf, nameByteAt, nameOf, textBytes, validOf, valueBytes, valueOk, valueSize}
+use Rattle.hexline.specs.Entry.{classOf, entryBytes, isLetter, labelFrom, layoutOf, nameByteAt, nameByteOk, nameOf, textByte, textBytes, textFrom, validOf, valueBytes, valueFrom, valueOk, valueSize}
 use Rattle.hexline.specs.declared.entry.Entry.{Entry}
 use Rattle.hexline.specs.declared.entry.Layout.{Layout}
 use Rattle.hexline.specs.declared.entry.Value.{Value}
 use Rattle.hexline.specs.declared.entry.Value.the-variants.{Hierarchy, Category, WholeLabel}
-use Rattle.hexline.proofs.BodyLaws.{label-length}
+use Rattle.hexline.proofs.BodyLaws.{Holds, Within, cons-bytes, label-back, label-bytes, label-forth, label-length, one-part, part, part-is, parts-join}
 use Rattle.frame.proofs.FrameLaws.{Bytes}
 use Rattle.hexline.proofs.BodyLoops.{appended-both}
 
@@ -88,3 +93,96 @@ pub entry-joined : {a b c d f : List ℕ} {i j k m n : ℕ} (w : ℕ) (e : Entry
     → Appended a i (entryBytes w e) n f
 unfolding entryBytes
 entry-joined w e p q r s = appended-both (appended-both (appended-both p q) r) s
+
+-- ---- texts
+
+text-byte : (bs : List ℕ) (i n k : ℕ) → k < n → textByte bs i n k ≡ byteAt bs (i + k)
+unfolding textByte
+text-byte bs i n k l = rw (lt-ltb k n l)
+
+pub text-length : (bs : List ℕ) (n : ℕ) → n ≤ length bs → length (textBytes bs n) ≡ 1 + n
+text-length bs n h = let t = length-take-le n bs h in omega arith
+
+-- past a name stand zeros
+pub name-zero : (bs : List ℕ) (n : ℕ) → nameOf bs n ≡ true → (k : ℕ) → n ≤ k → byteAt bs k ≡ 0
+unfolding nameOf nameByteOk
+name-zero bs n e k h = ⊎-elim (λ l. List·getD-eq-default bs 0 l) (λ l. eqb-true (byteAt bs k) 0 (rw (le-ltb k n h) at (here l))) (le-or-lt (length bs) k)
+  where
+    here : k < length bs → nameByteAt bs n k ≡ true
+    here l =
+        every-at (nameByteAt bs n) (length bs) k
+        (three-true (leb n (length bs)) (eqb n 0 || isLetter (byteAt bs 0)) (every (nameByteAt bs n) (length bs)) e .2) l
+
+-- the bytes of a text read back as the text
+pub text-back : (most : ℕ) (bs : List ℕ) (i n : ℕ) (xs : List ℕ) → length xs ≡ most → n ≤ most → Holds bs i (take n xs) → ((k : ℕ) → n ≤ k → byteAt xs k ≡ 0)
+    → textFrom most bs i n ≡ xs
+unfolding textFrom textByte
+text-back most bs i n xs e h here zeros =
+    ext-getD 0 (tabulate (λ k. cond (ltb k n) (byteAt bs (i + k)) 0) most) xs (tabulate-length (λ k. cond (ltb k n) (byteAt bs (i + k)) 0) most ∙ sym e)
+    (λ k l. tabulate-at (λ k. cond (ltb k n) (byteAt bs (i + k)) 0) most k 0 (omega (arith, tabulate-length (λ k. cond (ltb k n) (byteAt bs (i + k)) 0) most)) ∙ at-index k)
+  where
+    size : length (take n xs) ≡ n
+    size = length-take-le n xs (omega arith)
+
+    at-index : (k : ℕ) → cond (ltb k n) (byteAt bs (i + k)) 0 ≡ byteAt xs k
+    at-index k =
+        ⊎-elim (λ l. rw (le-ltb k n l) (sym (zeros k l)))
+        (λ l. rw (lt-ltb k n l) (here k (omega (arith, size)) ∙ getD-take n xs k 0 l)) (le-or-lt n k)
+
+-- a text that is read is written as the bytes that it was read from
+pub text-forth : (most : ℕ) (bs : List ℕ) (i : ℕ) → byteAt bs i ≤ most → i + 1 + byteAt bs i ≤ length bs
+    → textBytes (textFrom most bs (i + 1) (byteAt bs i)) (byteAt bs i) ≡ part i (1 + byteAt bs i) bs
+unfolding textFrom
+text-forth most bs i h room =
+    ap₂ _++_ (sym (one-part bs i (omega arith)))
+    (part-is (i + 1) n bs (take n (tabulate f most)) room (length-take-le n (tabulate f most) (omega (arith, tabulate-length f most))) at-index)
+    ∙ parts-join i 1 n bs
+  where
+    n : ℕ
+    n = byteAt bs i
+
+    f : ℕ → ℕ
+    f = textByte bs (i + 1) n
+
+    byte : (k : ℕ) → k < n → f k ≡ byteAt bs (i + 1 + k)
+    byte k l = text-byte bs (i + 1) n k l
+
+    at-index : (k : ℕ) → k < n → getD (take n (tabulate f most)) k 0 ≡ getD bs (i + 1 + k) 0
+    at-index k l = getD-take n (tabulate f most) k 0 l ∙ tabulate-at f most k 0 (omega arith) ∙ byte k l
+
+-- ---- values
+
+pub value-size : (w : ℕ) (v : Value) (l : Label) → valueSize w (classOf v) ≡ length (valueBytes w v l)
+unfolding valueSize valueBytes
+value-size w (Hierarchy h) l = refl
+value-size w (Category c) l = refl
+value-size w WholeLabel l = sym (label-length w l)
+
+pub value-bytes : (w : ℕ) (v : Value) (l : Label) → Label.Typed l → valueOk v l ≡ true → Bytes (valueBytes w v l)
+unfolding valueBytes
+value-bytes w (Hierarchy h) l t e = cons-bytes h [] (let s = hierarchy-small h l e in omega arith) (λ i. omega arith)
+value-bytes w (Category c) l t e = cons-bytes c [] (category-small c l e) (λ i. omega arith)
+value-bytes w WholeLabel l t e = label-bytes w l (t .hierarchy)
+
+no-label : (l : Label) → Label.Typed l → Label.equalOf l Label.zeroLabel ≡ true → Label.zeroLabel ≡ l
+no-label l t e = sym (equal-exact l Label.zeroLabel (t .length-is) .0 e)
+
+-- the bytes of a value read back as the value and its label
+pub value-back : (w : ℕ) (bs : List ℕ) (i : ℕ) (v : Value) (l : Label) → Label.Typed l → Within w l → valueOk v l ≡ true → Holds bs i (valueBytes w v l)
+    → (valueFrom (classOf v) (byteAt bs i) ≡ v) × (labelFrom w bs (classOf v) i ≡ l)
+unfolding valueBytes valueFrom labelFrom valueOk
+value-back w bs i (Hierarchy h) l t within e here =
+    (ap Hierarchy (ap (byteAt bs) (sym (add-zero i)) ∙ here 0 (omega arith)), no-label l t (second-true (leb h 199) (Label.equalOf l Label.zeroLabel) e))
+value-back w bs i (Category c) l t within e here =
+    (ap Category (ap (byteAt bs) (sym (add-zero i)) ∙ here 0 (omega arith)), no-label l t (second-true (ltb c 256) (Label.equalOf l Label.zeroLabel) e))
+value-back w bs i WholeLabel l t within e here = (refl, label-back w bs i l here t within)
+
+-- a value that is read is written as the bytes that it was read from
+pub value-forth : (w : ℕ) (bs : List ℕ) (class i : ℕ) → Bytes bs → w ≤ words → 1 ≤ class → class ≤ 3 → i + valueSize w class ≤ length bs
+    → (classOf (valueFrom class (byteAt bs i)) ≡ class) × (valueBytes w (valueFrom class (byteAt bs i)) (labelFrom w bs class i) ≡ part i (valueSize w class) bs)
+unfolding valueBytes valueFrom labelFrom valueSize
+value-forth w bs zero i small fits low high room = absurd (omega arith)
+value-forth w bs (suc zero) i small fits low high room = (refl, sym (one-part bs i (omega arith)))
+value-forth w bs (suc (suc zero)) i small fits low high room = (refl, sym (one-part bs i (omega arith)))
+value-forth w bs (suc (suc (suc zero))) i small fits low high room = (refl, label-forth w bs i small fits room)
+value-forth w bs (suc (suc (suc (suc class)))) i small fits low high room = absurd (omega arith)

@@ -24,26 +24,16 @@ use Rattle.range.specs.declared.tuple.Tuple.{Tuple}
 use Rattle.frame.specs.Frame.{readOf}
 use Rattle.frame.proofs.FrameLaws.{Bytes}
 use Rattle.hexline.specs.Body.{byteAt, labelAt, labelBytes, labelSize, lineWords, rangeAt, rangeBytes, rangeSize}
-use Rattle.hexline.specs.Line.{contentsOf, formOf, labelBody, labelForm, labelIn, labelLineOf, lineOf, rangeBody, rangeForm, rangeIn, rangeLineOf, readLabelOf, readRangeOf, readTupleOf, tupleBody, tupleForm, tupleIn, tupleLineOf}
+use Rattle.hexline.specs.Entry.{TypedEntry}
+use Rattle.hexline.specs.Line.{contentsOf, entryLineOf, formOf, labelBody, labelForm, labelIn, labelLineOf, lineOf, rangeBody, rangeForm, rangeIn, rangeLineOf, readEntryOf, readLabelOf, readRangeOf, readTupleOf, tupleBody, tupleForm, tupleIn, tupleLineOf}
 use Rattle.hexline.specs.Regions.{presenceOf, presentBelow, regionsBytes, tupleAt}
-use Rattle.hexline.proofs.BodyLaws.{Holds, Within, holds-second, holds-self, label-back, label-bytes, label-forth, label-length, part, parts-join, range-back, range-bytes, range-forth, range-length}
-use Rattle.hexline.proofs.LineLaws.{form-kind, form-length, line-exact, tuple-form-parts}
+use Rattle.hexline.specs.declared.entry.Entry.{Entry}
+use Rattle.hexline.proofs.BodyLaws.{Holds, Within, cons-bytes, first-part, holds-second, holds-self, label-back, label-bytes, label-forth, label-length, one-part, part, parts-join, range-back, range-bytes, range-forth, range-length}
+use Rattle.hexline.proofs.EntryKindLaws.{entry-exact}
+use Rattle.hexline.proofs.LineLaws.{form-kind, form-length, form-of, line-exact, tuple-form-parts}
 use Rattle.hexline.proofs.RegionsLaws.{WithinTuple, presence-forth, presence-size, presence-small, regions-bytes, regions-forth, tuple-back}
 
 -- ---- bodies that begin with a kind
-
-cons-bytes : (b : ℕ) (bs : List ℕ) → b < 256 → Bytes bs → Bytes (b ∷ bs)
-cons-bytes b bs h small zero = h
-cons-bytes b bs h small (suc i) = small i
-
-form-of : (bs : List ℕ) (n kind : ℕ) → length bs ≡ n → byteAt bs 0 ≡ kind → formOf bs n kind ≡ true
-unfolding formOf
-form-of bs n kind e k = both (eq-eqb (length bs) n e) (eq-eqb (byteAt bs 0) kind k)
-
--- a list is its first byte and the part after it
-first-part : (n : ℕ) (bs : List ℕ) → length bs ≡ 1 + n → bs ≡ byteAt bs 0 ∷ part 1 n bs
-first-part n [] e = absurd (omega arith)
-first-part n (b ∷ bs) e = ap (λ (l : List ℕ). b ∷ l) (sym (take-all n bs (omega arith)))
 
 kind-part : (bs : List ℕ) (n kind : ℕ) → formOf bs (1 + n) kind ≡ true → bs ≡ kind ∷ part 1 n bs
 kind-part bs n kind f = first-part n bs (form-length bs (1 + n) kind f) ∙ ap (λ (k : ℕ). k ∷ part 1 n bs) (form-kind bs (1 + n) kind f)
@@ -88,14 +78,9 @@ module _ (kind w : ℕ) (k : kind < 256) (fits : w ≤ words) where
       let n = presentBelow p regions * rangeSize w in
       let t = tuple-form-parts kind w bs f in
       let e = t .1 in
-      let second : part 1 (1 + n) bs ≡ p ∷ part 2 n bs = sym (parts-join 1 1 n bs) ∙ ap (λ (xs : List ℕ). xs ++ part 2 n bs) (one-part bs (omega arith)) in
+      let second : part 1 (1 + n) bs ≡ p ∷ part 2 n bs = sym (parts-join 1 1 n bs) ∙ ap (λ (xs : List ℕ). xs ++ part 2 n bs) (one-part bs 1 (omega arith)) in
       first-part (1 + n) bs (omega arith) ∙ ap₂ (λ (b : ℕ) (xs : List ℕ). b ∷ xs) (t .2) second
       ∙ ap₂ (λ (b : ℕ) (xs : List ℕ). kind ∷ b ∷ xs) (sym (presence-forth w bs p 2 (t .0))) (sym (regions-forth w bs p 2 small fits (omega arith) regions (omega arith)))
-    where
-      one-part : (xs : List ℕ) → 1 < length xs → part 1 1 xs ≡ byteAt xs 1 ∷ []
-      one-part [] h = absurd (omega arith)
-      one-part (x ∷ []) h = absurd (omega arith)
-      one-part (x ∷ y ∷ xs) h = refl
 
   tuple-exact : (t : Tuple) → Tuple.TypedTuple t → WithinTuple w t → (line : List ℕ)
       → (lineOf (Tuple.validOf t) (tupleBody kind w t) ≡ granted line) ↔ (readOf (contentsOf (tupleForm kind w) (tupleIn w) Tuple.validOf) line ≡ granted t)
@@ -110,7 +95,7 @@ module _ (kind w : ℕ) (k : kind < 256) (fits : w ≤ words) where
       (λ v. tuple-back w t body 2 ty within v (holds-second body 0 2 (kind ∷ presenceOf t ∷ []) (regionsBytes w t regions) refl (holds-self body)))
       tuple-forth
 
--- ---- kinds 01 to 03
+-- ---- kinds 01 to 04
 
 -- a label's line
 pub label-line : (l : Label) → Label.Typed l → (line : List ℕ) → (labelLineOf l ≡ granted line) ↔ (readLabelOf line ≡ granted l)
@@ -125,3 +110,7 @@ pub tuple-line : (t : Tuple) → Tuple.TypedTuple t → (line : List ℕ) → (t
 tuple-line t ty =
     tuple-exact 3 lineWords (omega arith) (omega arith) t ty
     (λ r l. (all-within (Tuple.rangeAt t r .range .low) (ty .range r l .low), all-within (Tuple.rangeAt t r .range .high) (ty .range r l .high)))
+
+-- an alias entry's line
+pub entry-line : (e : Entry) → TypedEntry e → (line : List ℕ) → (entryLineOf e ≡ granted line) ↔ (readEntryOf line ≡ granted e)
+entry-line e t = entry-exact 4 lineWords (omega arith) (omega arith) e t (all-within (e .label) (t .label))

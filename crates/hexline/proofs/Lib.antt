@@ -4,4 +4,5 @@ pub mod BodyLoops
 pub mod RegionsLaws
 pub mod EntryLaws
 pub mod LineLaws
+pub mod EntryKindLaws
 pub mod KindLaws

@@ -16,7 +16,7 @@ use Rattle.label.specs.declared.answer.Outcome.the-variants.{Granted, Refused}
 use Rattle.label.specs.declared.answer.Written.{Written}
 use Rattle.label.specs.declared.errno.Errno.the-variants.{Invalid}
 use Rattle.label.proofs.AnswerLaws.{answers-grant, answers-refusal}
-use Rattle.label.proofs.BoolLaws.{first-true, not-so, second-true, three-true}
+use Rattle.label.proofs.BoolLaws.{both, first-true, not-so, second-true, three-true}
 use Rattle.hexline.specs.Body.{byteAt, labelSize, rangeSize}
 use Rattle.hexline.specs.Entry.{layoutOf, maxAbbreviation, maxName, past, valueSize}
 use Rattle.frame.specs.Frame.{bodyOf, frameAnswerOf, frameOf, framedOf, maxBody, readOf}
@@ -96,6 +96,10 @@ line-exact form contents valid body x small formed same forth line = (to (valid 
 
     from : readOf (contentsOf form contents valid) line ≡ granted x → lineOf (valid x) (body x) ≡ granted line
     from e = let t = line-only form contents valid body x forth line e in rw (t .1) (ap granted (sym (t .0)))
+
+pub form-of : (bs : List ℕ) (n kind : ℕ) → length bs ≡ n → byteAt bs 0 ≡ kind → formOf bs n kind ≡ true
+unfolding formOf
+form-of bs n kind e k = both (eq-eqb (length bs) n e) (eq-eqb (byteAt bs 0) kind k)
 
 pub form-length : (bs : List ℕ) (n kind : ℕ) → formOf bs n kind ≡ true → length bs ≡ n
 unfolding formOf
