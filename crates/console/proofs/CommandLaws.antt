@@ -1,0 +1,92 @@
+-- Fields and the numbers in them, as a loop over a line's body meets them. Assumes nothing.
+use mathlib.Core.Bool.{Bool, true, false, cond}
+use mathlib.Core.List.{List, [], _∷_, _++_, append-assoc, append-nil}
+use mathlib.Core.Option.{Option, none, some}
+use mathlib.Core.Path.{_≡_, refl, sym, ap, _∙_}
+use Prim.Native.Nat.{ℕ, zero, suc, _+_, _-_, _≤_, _<_}
+use native.Mathlib.Numerals.{add-one}
+use native.Mathlib.Omega.{arith}
+use lib.Dec.{eqb, leb}
+use lib.ListN.{drop, getD, length, replicate, set, take, drop-of-length-le, length-append, take-append-drop}
+use lib.Seq.{drop-cons, drop-drop, drop-set-lt, length-take-le, take-suc-set}
+use borrow.Author.Tests.{le-leb, lt-leb}
+use Rattle.console.specs.Bytes.{blank, indexOf}
+use Rattle.console.specs.Command.{after, before, bodyCommandOf, firstOf, invalid, most, numberOf, numbersOf, ofNumbers, onFirst, othersOf, split}
+use Rattle.console.specs.declared.command.Command.{Command}
+
+-- the fields behind the first, from the b that ends it
+abbrev pub fieldsFrom : ℕ → List ℕ → List (List ℕ)
+fieldsFrom b [] = []
+fieldsFrom b (x ∷ xs) = split b xs
+
+-- the first field ends at the first b
+pub split-first : (b : ℕ) (xs : List ℕ) → split b xs ≡ take (indexOf b xs) xs ∷ fieldsFrom b (drop (indexOf b xs) xs)
+unfolding split indexOf
+split-first b [] = refl
+split-first b (x ∷ xs) = pick (eqb x b) (split-first b xs)
+  where
+    pick : (t : Bool) → split b xs ≡ take (indexOf b xs) xs ∷ fieldsFrom b (drop (indexOf b xs) xs)
+        → cond t ([] ∷ split b xs) (onFirst x (split b xs)) ≡ take (cond t zero (suc (indexOf b xs))) (x ∷ xs) ∷ fieldsFrom b (drop (cond t zero (suc (indexOf b xs))) (x ∷ xs))
+    pick true ih = refl
+    pick false ih = ap (onFirst x) ih
+
+-- the command whose numbers so far are ns, with the fields that the bytes xs begin before them
+abbrev pub commandFrom : List ℕ → List ℕ → Command
+commandFrom ns xs = ofNumbers (after ns (numbersOf (fieldsFrom blank xs)))
+
+after-nil : (o : Option (List ℕ)) → after [] o ≡ o
+after-nil none = refl
+after-nil (some ns) = refl
+
+after-after : (ns ms : List ℕ) (o : Option (List ℕ)) → after ns (after ms o) ≡ after (ns ++ ms) o
+after-after ns ms none = refl
+after-after ns ms (some ls) = ap some (sym (append-assoc ns ms ls))
+
+too-many : (ns : List ℕ) (n : Option ℕ) (o : Option (List ℕ)) → length ns ≡ most → ofNumbers (after ns (before n o)) ≡ invalid
+too-many ns none o h = refl
+too-many ns (some n) none h = refl
+too-many ns (some n) (some ms) h =
+    let l : leb (length (ns ++ n ∷ ms)) most ≡ false = lt-leb (length (ns ++ n ∷ ms)) most (omega (arith, length-append ns (n ∷ ms))) in rw l
+
+module _ (body : List ℕ) where
+  pub body-start : bodyCommandOf body ≡ commandFrom [] (drop (indexOf blank body) body)
+  unfolding bodyCommandOf
+  body-start = rw (split-first blank body, after-nil)
+
+  module _ (at : ℕ) (h : at < length body) where
+    -- the field that begins behind the blank at index at
+    abbrev rest : List ℕ
+    rest = drop (at + 1) body
+
+    abbrev size : ℕ
+    size = indexOf blank rest
+
+    one-field : (ns : List ℕ) → commandFrom ns (drop at body) ≡ ofNumbers (after ns (before (numberOf (take size rest)) (numbersOf (fieldsFrom blank (drop size rest)))))
+    unfolding numbersOf
+    one-field ns = rw (drop-cons body at 0 h, ← add-one at, split-first blank rest)
+
+    pub body-full : (ns : List ℕ) → length ns ≡ most → commandFrom ns (drop at body) ≡ invalid
+    body-full ns e = one-field ns ∙ too-many ns (numberOf (take size rest)) (numbersOf (fieldsFrom blank (drop size rest))) e
+
+    pub body-bad : (ns : List ℕ) → numberOf (take size rest) ≡ none → commandFrom ns (drop at body) ≡ invalid
+    body-bad ns e = rw (one-field ns, e)
+
+    pub body-next : (ns : List ℕ) (n : ℕ) → numberOf (take size rest) ≡ some n → commandFrom ns (drop at body) ≡ commandFrom (ns ++ (n ∷ [])) (drop (at + 1 + size) body)
+    body-next ns n e = rw (one-field ns, e, after-after ns (n ∷ []), drop-drop size (at + 1) body)
+
+  pub body-end : (at : ℕ) (numbers : List ℕ) (count : ℕ) → length body ≤ at → length numbers ≡ most → count ≤ most → drop count numbers ≡ replicate (most - count) 0
+      → commandFrom (take count numbers) (drop at body) ≡ record { valid = true; count = count; numbers = numbers }
+  unfolding numbersOf
+  body-end at numbers count h l m z =
+      let e : length (take count numbers) ≡ count = length-take-le count numbers (omega arith) in
+      let w : take count numbers ++ replicate (most - count) 0 ≡ numbers = rw (← z) (take-append-drop count numbers) in
+      rw (drop-of-length-le body h, append-nil, e, le-leb count most m, w)
+
+-- the zeros past the count after one more number
+pub zeros-next : (numbers : List ℕ) (count n : ℕ) → count < most → drop count numbers ≡ replicate (most - count) 0 → drop (count + 1) (set numbers count n) ≡ replicate (most - (count + 1)) 0
+zeros-next numbers count n h e =
+    let k : most - count ≡ suc (most - (count + 1)) = omega arith in
+    drop-set-lt (count + 1) numbers count n (omega arith) ∙ sym (drop-drop 1 count numbers) ∙ rw (e, k)
+
+pub numbers-next : (numbers : List ℕ) (count n : ℕ) → count < length numbers → take (count + 1) (set numbers count n) ≡ take count numbers ++ (n ∷ [])
+numbers-next numbers count n h = rw (add-one) (take-suc-set numbers count n h)

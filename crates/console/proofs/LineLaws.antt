@@ -1,0 +1,123 @@
+-- What every piece of a line has, whatever the chunk and the buffer. Assumes nothing.
+use mathlib.Core.Bool.{Bool, true, false, cond, not, _&&_}
+use mathlib.Core.List.{List}
+use mathlib.Core.Path.{_≡_, refl, sym, ap, _∙_}
+use Prim.Native.Nat.{ℕ, _+_, _≤_, _<_}
+use native.Mathlib.Omega.{arith}
+use lib.Dec.{leb, ltb}
+use lib.ListN.{drop, length, take, length-drop, length-take}
+use lib.Seq.{length-take-le, take-all}
+use borrow.Author.Tests.{le-ltb, leb-true, lt-ltb, ltb-false, ltb-true}
+use Rattle.label.proofs.BoolLaws.{second-true}
+use Rattle.console.specs.Bytes.{Put, indexOf, lf, putAt}
+use Rattle.console.specs.Lines.{Taken, bufferOf, fitsOf, held, piece, pieceBy, pieceOf, skipped}
+use Rattle.console.specs.declared.lines.Line.{Line}
+use Rattle.console.specs.declared.lines.Line.the-variants.{More, Whole, Bad}
+use Rattle.console.specs.declared.lines.Partial.{Partial}
+use Rattle.console.specs.declared.lines.Piece.{Piece}
+use Rattle.console.proofs.ByteLaws.{index-le, put-length}
+
+-- what fits is within the buffer
+pub fits-within : (p : Partial) (n size : ℕ) → fitsOf p n size ≡ true → p .length + (n + 1) ≤ size
+unfolding fitsOf
+fits-within p n size e = leb-true (p .length + (n + 1)) size (second-true (not (p .long)) (leb (p .length + (n + 1)) size) e)
+
+-- of a piece whose bytes, k before the LF, are among the L from index `from` on
+next-within : (t f : Bool) (from k n L : ℕ) → ltb k L ≡ t → k ≤ L → pieceBy t f (from + k) n .next ≤ from + L
+next-within true true from k n L e h = let l = ltb-true k L e in omega arith
+next-within true false from k n L e h = let l = ltb-true k L e in omega arith
+next-within false true from k n L e h = omega arith
+next-within false false from k n L e h = omega arith
+
+next-past : (t f : Bool) (from k n L : ℕ) → ltb k L ≡ t → 0 < L → from < pieceBy t f (from + k) n .next
+next-past true true from k n L e h = omega arith
+next-past true false from k n L e h = omega arith
+next-past false true from k n L e h = let l = ltb-false k L e in omega arith
+next-past false false from k n L e h = let l = ltb-false k L e in omega arith
+
+whole-within : (t f : Bool) (next n size m : ℕ) → (f ≡ true → n + 1 ≤ size) → pieceBy t f next n .line ≡ Whole m → m ≤ size
+whole-within true true next n size m h e = let d : n + 1 ≡ m = cc in let l = h refl in omega arith
+whole-within true false next n size m h e = let z : _≡_ {A = ℕ} 0 1 = cc in absurd (omega arith)
+whole-within false true next n size m h e = let z : _≡_ {A = ℕ} 0 1 = cc in absurd (omega arith)
+whole-within false false next n size m h e = let z : _≡_ {A = ℕ} 0 1 = cc in absurd (omega arith)
+
+module _ (chunk : List ℕ) (from : ℕ) (buffer : List ℕ) (p : Partial) where
+  abbrev rest : List ℕ
+  rest = drop from chunk
+
+  abbrev k : ℕ
+  k = indexOf lf rest
+
+  abbrev fit : Bool
+  fit = fitsOf p k (length buffer)
+
+  piece-within : from ≤ length chunk → pieceOf rest from (length buffer) p .next ≤ length chunk
+  unfolding pieceOf
+  piece-within h =
+      let d = length-drop from chunk in
+      let w = next-within (ltb k (length rest)) fit from k (p .length + k) (length rest) refl (index-le lf rest) in omega arith
+
+  piece-progress : from < length chunk → from < pieceOf rest from (length buffer) p .next
+  unfolding pieceOf
+  piece-progress h = let d = length-drop from chunk in next-past (ltb k (length rest)) fit from k (p .length + k) (length rest) refl (omega arith)
+
+  piece-whole : (m : ℕ) → pieceOf rest from (length buffer) p .line ≡ Whole m → m ≤ length buffer
+  unfolding pieceOf
+  piece-whole m e =
+      whole-within (ltb k (length rest)) fit (from + k) (p .length + k) (length buffer) m (λ (f : fit ≡ true). let w = fits-within p k (length buffer) f in omega arith) e
+
+  buffer-length : length (bufferOf rest buffer p) ≡ length buffer
+  unfolding bufferOf
+  buffer-length = pick fit refl
+    where
+      pick : (t : Bool) → fit ≡ t → length (cond t (putAt buffer (p .length) (take (k + 1) rest)) buffer) ≡ length buffer
+      pick true e =
+          let w = fits-within p k (length buffer) e in
+          let l = length-take (k + 1) rest in put-length buffer (p .length) (take (k + 1) rest) (omega arith)
+      pick false e = refl
+
+  -- the rest follows from the two equations
+  taken : (r : Piece) (after : List ℕ) → r ≡ pieceOf rest from (length buffer) p → after ≡ bufferOf rest buffer p → Taken chunk from buffer p r after
+  taken r after e f = record {
+    piece-is = e;
+    buffer-is = f;
+    same-length = rw f buffer-length;
+    within = λ h. rw e (piece-within h);
+    progress = λ h. rw e (piece-progress h);
+    whole = λ m h. piece-whole m (rw e at h);
+  }
+
+pieces : {m n : ℕ} {q p : Partial} {k l : Line} → m ≡ n → q ≡ p → k ≡ l → piece m q k ≡ piece n p l
+pieces e f g = cc
+
+-- the four ways that `take` ends. xs are the bytes from index `from` on, n of them before the first LF, and b says that n + 1 fit in the buffer
+module _ (chunk : List ℕ) (from : ℕ) (buffer : List ℕ) (p : Partial) (xs : List ℕ) (n : ℕ) (b : Bool)
+    (bytes : xs ≡ drop from chunk) (index : n ≡ indexOf lf xs) (room : b ≡ leb (p .length + (n + 1)) (length buffer)) where
+  pub room-for : (not (p .long) && b) ≡ true → p .length + (n + 1) ≤ length buffer
+  room-for e = leb-true (p .length + (n + 1)) (length buffer) (sym room ∙ second-true (not (p .long)) b e)
+
+  by-tests : (t f : Bool) (r : Piece) (after : List ℕ) → ltb n (length xs) ≡ t → (not (p .long) && b) ≡ f → r ≡ pieceBy t f (from + n) (p .length + n)
+      → after ≡ cond f (putAt buffer (p .length) (take (n + 1) xs)) buffer → Taken chunk from buffer p r after
+  unfolding pieceOf bufferOf fitsOf
+  by-tests t f r after d e g h =
+      taken chunk from buffer p r after (rw (← bytes, ← index, d, ← room, e) g) (rw (← bytes, ← index, ← room, e) h)
+
+  pub taken-whole : n < length xs → (not (p .long) && b) ≡ true → (q : Partial) (r : ℕ) (after : List ℕ) → q ≡ held 0 → Put buffer (p .length) (take (n + 1) xs) r after
+      → Taken chunk from buffer p (piece (from + (n + 1)) q (Whole r)) after
+  taken-whole l e q r after z h =
+      let s = length-take-le (n + 1) xs (omega arith) in
+      let w : r ≡ p .length + n + 1 = h .past ∙ omega arith in
+      by-tests true true (piece (from + (n + 1)) q (Whole r)) after (lt-ltb n (length xs) l) e (pieces (omega arith) z (ap Whole w)) (h .written)
+
+  pub taken-bad : n < length xs → (not (p .long) && b) ≡ false → (q : Partial) → q ≡ held 0 → Taken chunk from buffer p (piece (from + (n + 1)) q Bad) buffer
+  taken-bad l e q z = by-tests true false (piece (from + (n + 1)) q Bad) buffer (lt-ltb n (length xs) l) e (pieces (omega arith) z refl) refl
+
+  pub taken-more : length xs ≤ n → (not (p .long) && b) ≡ true → (r : ℕ) (after : List ℕ) → Put buffer (p .length) xs r after → Taken chunk from buffer p (piece (from + n) (held r) More) after
+  taken-more l e r after h =
+      let i = index-le lf xs in
+      let s : take (n + 1) xs ≡ xs = take-all (n + 1) xs (omega arith) in
+      let w : r ≡ p .length + n = h .past ∙ omega arith in
+      by-tests false true (piece (from + n) (held r) More) after (le-ltb n (length xs) l) e (pieces refl (ap held w) refl) (rw s (h .written))
+
+  pub taken-long : length xs ≤ n → (not (p .long) && b) ≡ false → Taken chunk from buffer p (piece (from + n) skipped More) buffer
+  taken-long l e = by-tests false false (piece (from + n) skipped More) buffer (le-ltb n (length xs) l) e refl refl

@@ -1,0 +1,100 @@
+// Lines out of chunks: a line is kept in a lent buffer until its LF comes. A line that does not fit with its LF is skipped to its LF, and is
+// answered as one bad line.
+use crate::bytes;
+use crate::bytes::LF;
+ghost use mathlib.Core.Path.{_≡_};
+ghost use Rattle.console.specs.Lines.{Taken, held, lastOf};
+
+// What the bytes so far make.
+pub enum Line {
+    // No line yet.
+    More,
+    // A line of that many bytes, its LF the last of them, at the front of the buffer.
+    Whole(usize),
+    // A line that did not fit, or that has no LF.
+    Bad,
+}
+
+// What is held of a line between chunks.
+pub struct Partial {
+    // How many bytes stand at the front of the buffer.
+    pub length: usize,
+    // The line does not fit: its other bytes are skipped.
+    pub long: bool,
+}
+
+pub struct Piece {
+    // The index of the chunk to go on from.
+    pub next: usize,
+    pub partial: Partial,
+    pub line: Line,
+}
+
+// Nothing is held.
+pub fn start() -> Partial
+    ensures { λ r. ⌜ r ≡ held 0 ⌝ }
+{
+    Partial {
+        length: 0,
+        long: false,
+    }
+}
+
+// Takes bytes of the chunk from index from on, up to and with the first LF. Where there is no LF it takes them all.
+pub fn take(chunk: &[u8], from: usize, buffer: &mut [u8], partial: Partial) -> Piece
+    ensures { λ r. ⌜ Taken (now (chunk .entry)) from (now (buffer .entry)) partial r (now (buffer .exit)) ⌝ }
+{
+    let length = partial.length;
+    let long = partial.long;
+    let rest = bytes::rest(chunk, from);
+    let n = bytes::index_of(LF, rest);
+    let fits = !long & bytes::fits(buffer.len(), length, n + 1);
+    let none = start();
+    if n < rest.len() {
+        let end = n + 1;
+        if fits {
+            let size = bytes::put(buffer, length, &rest[..end]);
+            return Piece {
+                next: from + end,
+                partial: none,
+                line: Line::Whole(size),
+            };
+        }
+        return Piece {
+            next: from + end,
+            partial: none,
+            line: Line::Bad,
+        };
+    }
+    if fits {
+        let size = bytes::put(buffer, length, rest);
+        let more = Partial {
+            length: size,
+            long: false,
+        };
+        return Piece {
+            next: from + n,
+            partial: more,
+            line: Line::More,
+        };
+    }
+    let skipped = Partial {
+        length: 0,
+        long: true,
+    };
+    Piece {
+        next: from + n,
+        partial: skipped,
+        line: Line::More,
+    }
+}
+
+// At the end of the input: a line that has no LF is bad.
+pub fn last(partial: Partial) -> Line
+    ensures { λ r. ⌜ r ≡ lastOf partial ⌝ }
+{
+    if partial.long | (0 < partial.length) {
+        return Line::Bad;
+    }
+    Line::More
+}
