@@ -11,7 +11,7 @@ use lib.ListN.{drop, getD, length, set, take, drop-of-length-le, length-append, 
 use lib.Seq.{append-snoc, drop-append-add, drop-at, drop-cons, drop-drop, length-paste, length-take-le, paste, set-split, take-at, take-length, take-set-le}
 use borrow.Author.Tests.{eq-eqb, eqb-true, le-leb, leb-true, ne-eqb}
 use Rattle.label.proofs.BoolLaws.{first-true, not-so, same-truth, second-true}
-use Rattle.console.specs.Bytes.{indexOf, putAt, sameBytes}
+use Rattle.console.specs.Bytes.{Put, indexOf, putAt, sameBytes}
 
 -- ---- indexOf
 
@@ -90,6 +90,13 @@ module _ (out : List ℕ) (at : ℕ) where
       rest =
           let k : at + length (cs ++ bs) ≡ at + length cs + length bs = simp length-append (omega arith) in
           rw (k, append-assoc (take at out) cs bs)
+
+  pub puts : {cs bs : List ℕ} {r s : ℕ} {mid after : List ℕ} → at + length cs ≤ length out → Put out at cs r mid → Put mid r bs s after → Put out at (cs ++ bs) s after
+  puts {cs} {bs} {r} {s} {mid} {after} h e f =
+      let l = length-append cs bs in
+      let p = e .past in
+      let q = f .past in
+      record { past = omega arith; written = f .written ∙ rw (e .written, e .past) (put-put cs bs h) }
 
   -- the last byte put first
   pub put-last : (bs : List ℕ) (b : ℕ) → at + length bs < length out → putAt out at (bs ++ (b ∷ [])) ≡ putAt (set out (at + length bs) b) at bs

@@ -10,8 +10,8 @@ use lib.Dec.{eqb, leb}
 use lib.ListN.{drop, getD, length, replicate, set, take, drop-of-length-le, length-append, take-append-drop}
 use lib.Seq.{drop-cons, drop-drop, drop-set-lt, length-take-le, take-suc-set}
 use borrow.Author.Tests.{le-leb, lt-leb}
-use Rattle.console.specs.Bytes.{blank, indexOf}
-use Rattle.console.specs.Command.{after, before, bodyCommandOf, firstOf, invalid, most, numberOf, numbersOf, ofNumbers, onFirst, othersOf, split}
+use Rattle.console.specs.Bytes.{blank, indexOf, lf}
+use Rattle.console.specs.Command.{after, before, bodyCommandOf, bodyOf, invalid, most, numberOf, numbersOf, ofNumbers, onFirst, split, wordOf}
 use Rattle.console.specs.declared.command.Command.{Command}
 
 -- the fields behind the first, from the b that ends it
@@ -29,6 +29,11 @@ split-first b (x ∷ xs) = pick (eqb x b) (split-first b xs)
         → cond t ([] ∷ split b xs) (onFirst x (split b xs)) ≡ take (cond t zero (suc (indexOf b xs))) (x ∷ xs) ∷ fieldsFrom b (drop (cond t zero (suc (indexOf b xs))) (x ∷ xs))
     pick true ih = refl
     pick false ih = ap (onFirst x) ih
+
+-- the word, from the two indexes that end it
+pub word-from : (line : List ℕ) (end n : ℕ) → end ≡ indexOf lf line → n ≡ indexOf blank (take end line) → take n (take end line) ≡ wordOf line
+unfolding wordOf bodyOf
+word-from line end n e f = rw (split-first blank (take (indexOf lf line) line), f, e)
 
 -- the command whose numbers so far are ns, with the fields that the bytes xs begin before them
 abbrev pub commandFrom : List ℕ → List ℕ → Command

@@ -1,25 +1,38 @@
 -- What every append has. Assumes nothing.
 use mathlib.Core.Bool.{Bool, true, false, cond}
 use mathlib.Core.List.{List}
+use mathlib.Core.Option.{Option}
 use mathlib.Core.Path.{_≡_, refl, sym, ap, _∙_}
 use Prim.Native.Nat.{ℕ, _+_, _≤_}
 use native.Mathlib.Omega.{arith}
 use lib.Dec.{leb}
-use lib.ListN.{length}
-use borrow.Author.Tests.{le-leb, leb-true}
+use lib.ListN.{length, length-append}
+use borrow.Author.Tests.{leb-true}
 use Rattle.console.specs.Bytes.{Put, putAt}
-use Rattle.console.specs.Text.{Appended, appendedOf, pastOf}
+use Rattle.console.specs.Text.{Appended, appendedOf, carriedText, decimalOf, errorWord, pastOf, refusalText}
 use Rattle.console.proofs.ByteLaws.{put-length}
 
-module _ (out : List ℕ) (at : ℕ) (bs : List ℕ) where
-  -- bytes that fit and were put
-  pub appended : (r : ℕ) (after : List ℕ) → leb (at + length bs) (length out) ≡ true → Put out at bs r after → Appended out at bs r after
+-- b says whether the k bytes of bs fit
+module _ (out : List ℕ) (at : ℕ) (bs : List ℕ) (k : ℕ) (b : Bool) (count : k ≡ length bs) (room : b ≡ leb (at + k) (length out)) where
+  pub room-for : b ≡ true → at + length bs ≤ length out
+  room-for t = let h = leb-true (at + k) (length out) (sym room ∙ t) in omega arith
+
+  tested : leb (at + length bs) (length out) ≡ b
+  tested = rw (← count) (sym room)
+
+  -- bytes that were put
+  pub appended : b ≡ true → (r : ℕ) (after : List ℕ) → Put out at bs r after → Appended out at bs r after
   unfolding pastOf appendedOf
-  appended r after t e =
-      let h = leb-true (at + length bs) (length out) t in
-      record { past = rw t (e .past); written = rw t (e .written); same-length = rw (e .written) (put-length out at bs h); within = λ l. rw (e .past) h }
+  appended t r after e =
+      let h = room-for t in
+      let f = tested ∙ t in
+      record { past = rw f (e .past); written = rw f (e .written); same-length = rw (e .written) (put-length out at bs h); within = λ l. rw (e .past) h }
 
   -- bytes that do not fit
-  pub left-out : leb (at + length bs) (length out) ≡ false → Appended out at bs at out
+  pub left-out : b ≡ false → Appended out at bs at out
   unfolding pastOf appendedOf
-  left-out t = record { past = rw t; written = rw t; same-length = refl; within = λ l. l }
+  left-out t = let f = tested ∙ t in record { past = rw f; written = rw f; same-length = refl; within = λ l. l }
+
+pub refusal-length : (n : ℕ) (carried : Option ℕ) → length (refusalText n carried) ≡ 6 + length (decimalOf n) + length (carriedText carried) + 1
+unfolding refusalText errorWord
+refusal-length n carried = simp length-append (omega arith)

@@ -1,9 +1,7 @@
 use borrow.Author.Needs.{needs}
-use mathlib.Core.Path.{_≡_, sym, _∙_}
-use Prim.Native.Nat.{_+_}
+use mathlib.Core.Path.{refl}
 use lib.ListN.{length}
-use borrow.Author.Tests.{leb-true}
-use Rattle.console.proofs.TextLaws.{appended, left-out}
+use Rattle.console.proofs.TextLaws.{appended, left-out, room-for}
 use borrow.Author.Needs.{needs}
 use Rattle.console.proofs.text.append.Statement.{statement}
 use Rattle.console.proofs.text.append.Tie as tie
@@ -14,16 +12,25 @@ fits-requires c κs = search needs
 put-requires : tie.Need-put-requires
 put-requires c κs =
     let f = c .before .before in
-    let a = f .before .before .before .args in leb-true (a .at + length (a .text .now)) (length (a .out .now)) (sym (f .fits2 .ensures) ∙ c .before .if1 .taken)
+    let a = f .before .before .before .args in
+    room-for (a .out .now) (a .at) (a .text .now) (length (a .text .now)) (f .fits2 .result) refl (f .fits2 .ensures) (c .before .if1 .taken)
 
 same-length : tie.Need-same-length
 same-length c = search needs
 
 returns : tie.Need-returns
-returns c = ?
+returns c =
+    let p = c .before .before in
+    let t = p .before .before in
+    let f = t .before in
+    let a = f .before .before .before .args in
+    appended (a .out .now) (a .at) (a .text .now) (length (a .text .now)) (f .fits2 .result) refl (f .fits2 .ensures) (t .if1 .taken) (p .put .result) (p .put .last .0) (p .put .ensures)
 
 returns-2 : tie.Need-returns-2
-returns-2 c = ?
+returns-2 c =
+    let f = c .before in
+    let a = f .before .before .before .args in
+    left-out (a .out .now) (a .at) (a .text .now) (length (a .text .now)) (f .fits2 .result) refl (f .fits2 .ensures) (c .if1 .left)
 
 pub append-spec : {M : Type 1} → statement M
 append-spec = tie.close (tie.spec fits-requires put-requires same-length returns returns-2)
