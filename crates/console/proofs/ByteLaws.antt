@@ -37,6 +37,17 @@ module _ (b : ℕ) where
       pick true h = omega arith
       pick false h = omega arith
 
+  -- behind a list with no b in it
+  pub index-append : (xs ys : List ℕ) → indexOf b xs ≡ length xs → indexOf b (xs ++ ys) ≡ length xs + indexOf b ys
+  unfolding indexOf
+  index-append [] ys e = omega arith
+  index-append (x ∷ xs) ys e = pick (eqb x b) e (index-append xs ys)
+    where
+      pick : (t : Bool) → cond t zero (suc (indexOf b xs)) ≡ suc (length xs) → (indexOf b xs ≡ length xs → indexOf b (xs ++ ys) ≡ length xs + indexOf b ys)
+          → cond t zero (suc (indexOf b (xs ++ ys))) ≡ suc (length xs) + indexOf b ys
+      pick true f ih = absurd (omega arith)
+      pick false f ih = let l = ih (omega arith) in omega arith
+
   -- a loop that has found no b so far: it stops at b, goes on, or ends
   pub index-hit : (xs : List ℕ) (i : ℕ) → i < length xs → getD xs i 0 ≡ b → i + indexOf b (drop i xs) ≡ i
   index-hit xs i h e = rw (drop-cons xs i 0 h, index-first (getD xs i 0) (drop (suc i) xs) e) (add-zero i)
@@ -80,8 +91,8 @@ module _ (out : List ℕ) (at : ℕ) where
       let e : length p ≡ at + length cs = simp (length-append) (omega (arith, length-take-le at out (omega arith))) in
       let f : take (at + length cs) (p ++ drop (at + length cs) out) ≡ p = take-at p (drop (at + length cs) out) (at + length cs) e in
       let g : drop (at + length cs + length bs) (p ++ drop (at + length cs) out) ≡ drop (at + length cs + length bs) out =
-          ap (λ (n : ℕ). drop (n + length bs) (p ++ drop (at + length cs) out)) (sym e) ∙ drop-append-add p (drop (at + length cs) out) (length bs)
-          ∙ drop-drop (length bs) (at + length cs) out in
+      ap (λ (n : ℕ). drop (n + length bs) (p ++ drop (at + length cs) out)) (sym e) ∙ drop-append-add p (drop (at + length cs) out) (length bs)
+      ∙ drop-drop (length bs) (at + length cs) out in
       ap (λ (l : List ℕ). l ++ bs ++ drop (at + length cs + length bs) (p ++ drop (at + length cs) out)) f
       ∙ ap (λ (l : List ℕ). p ++ bs ++ l) g
       ∙ rest
@@ -105,7 +116,7 @@ module _ (out : List ℕ) (at : ℕ) where
       let k : ℕ = at + length bs in
       let e : take at (set out k b) ≡ take at out = take-set-le at out k b (omega arith) in
       let f : drop k (set out k b) ≡ b ∷ drop (suc k) out =
-          rw (set-split out k b h) (drop-at (take k out) (b ∷ drop (suc k) out) k (length-take-le k out (omega arith))) in
+      rw (set-split out k b h) (drop-at (take k out) (b ∷ drop (suc k) out) k (length-take-le k out (omega arith))) in
       let g : at + length (bs ++ (b ∷ [])) ≡ suc k = simp length-append (omega arith) in
       rw (e, f, g, ← append-assoc (take at out) bs (b ∷ [])) (append-snoc (take at out ++ bs) b (drop (suc k) out))
 

@@ -9,9 +9,9 @@ use native.Mathlib.Omega.{arith}
 use lib.Dec.{eqb, leb}
 use lib.ListN.{drop, getD, length, replicate, set, take, drop-of-length-le, length-append, take-append-drop}
 use lib.Seq.{drop-cons, drop-drop, drop-set-lt, length-take-le, take-suc-set}
-use borrow.Author.Tests.{le-leb, lt-leb}
+use borrow.Author.Tests.{eq-eqb, le-leb, lt-leb, ne-eqb}
 use Rattle.console.specs.Bytes.{blank, indexOf, lf}
-use Rattle.console.specs.Command.{after, before, bodyCommandOf, bodyOf, invalid, most, numberOf, numbersOf, ofNumbers, onFirst, split, wordOf}
+use Rattle.console.specs.Command.{after, before, bodyCommandOf, bodyOf, commandOf, endedOf, invalid, most, numberOf, numbersOf, ofNumbers, onFirst, split, wordOf}
 use Rattle.console.specs.declared.command.Command.{Command}
 
 -- the fields behind the first, from the b that ends it
@@ -58,26 +58,22 @@ module _ (body : List ℕ) where
   unfolding bodyCommandOf
   body-start = rw (split-first blank body, after-nil)
 
-  module _ (at : ℕ) (h : at < length body) where
-    -- the field that begins behind the blank at index at
-    abbrev rest : List ℕ
-    rest = drop (at + 1) body
-
-    abbrev size : ℕ
-    size = indexOf blank rest
-
-    one-field : (ns : List ℕ) → commandFrom ns (drop at body) ≡ ofNumbers (after ns (before (numberOf (take size rest)) (numbersOf (fieldsFrom blank (drop size rest)))))
+  -- the field behind the blank at index at: xs are the bytes from there on, n of them before the next blank
+  module _ (at : ℕ) (h : at < length body) (xs : List ℕ) (n : ℕ) (bytes : xs ≡ drop (at + 1) body) (index : n ≡ indexOf blank xs) where
+    one-field : (ns : List ℕ) → commandFrom ns (drop at body) ≡ ofNumbers (after ns (before (numberOf (take n xs)) (numbersOf (fieldsFrom blank (drop n xs)))))
     unfolding numbersOf
-    one-field ns = rw (drop-cons body at 0 h, ← add-one at, split-first blank rest)
+    one-field ns = rw (drop-cons body at 0 h, ← add-one at, ← bytes, split-first blank xs, ← index)
 
-    pub body-full : (ns : List ℕ) → length ns ≡ most → commandFrom ns (drop at body) ≡ invalid
-    body-full ns e = one-field ns ∙ too-many ns (numberOf (take size rest)) (numbersOf (fieldsFrom blank (drop size rest))) e
+    pub body-bad : (ns : List ℕ) → numberOf (take n xs) ≡ none → commandFrom ns (drop at body) ≡ invalid
+    body-bad ns e = one-field ns ∙ rw e
 
-    pub body-bad : (ns : List ℕ) → numberOf (take size rest) ≡ none → commandFrom ns (drop at body) ≡ invalid
-    body-bad ns e = rw (one-field ns, e)
+    pub body-next : (ns : List ℕ) (v : ℕ) → numberOf (take n xs) ≡ some v → commandFrom ns (drop at body) ≡ commandFrom (ns ++ (v ∷ [])) (drop (at + 1 + n) body)
+    body-next ns v e = one-field ns ∙ rw (e, after-after ns (v ∷ []), ← drop-drop n (at + 1) body, ← bytes)
 
-    pub body-next : (ns : List ℕ) (n : ℕ) → numberOf (take size rest) ≡ some n → commandFrom ns (drop at body) ≡ commandFrom (ns ++ (n ∷ [])) (drop (at + 1 + size) body)
-    body-next ns n e = rw (one-field ns, e, after-after ns (n ∷ []), drop-drop size (at + 1) body)
+  pub body-full : (at : ℕ) → at < length body → (ns : List ℕ) → length ns ≡ most → commandFrom ns (drop at body) ≡ invalid
+  body-full at h ns e =
+      let xs = drop (at + 1) body in
+      let n = indexOf blank xs in one-field at h xs n refl refl ns ∙ too-many ns (numberOf (take n xs)) (numbersOf (fieldsFrom blank (drop n xs))) e
 
   pub body-end : (at : ℕ) (numbers : List ℕ) (count : ℕ) → length body ≤ at → length numbers ≡ most → count ≤ most → drop count numbers ≡ replicate (most - count) 0
       → commandFrom (take count numbers) (drop at body) ≡ record { valid = true; count = count; numbers = numbers }
@@ -95,3 +91,13 @@ zeros-next numbers count n h e =
 
 pub numbers-next : (numbers : List ℕ) (count n : ℕ) → count < length numbers → take (count + 1) (set numbers count n) ≡ take count numbers ++ (n ∷ [])
 numbers-next numbers count n h = rw (add-one) (take-suc-set numbers count n h)
+
+-- the line's first LF, and whether it is the last byte
+module _ (line : List ℕ) (end : ℕ) (e : end ≡ indexOf lf line) where
+  pub line-ended : end + 1 ≡ length line → commandOf line ≡ bodyCommandOf (take end line)
+  unfolding commandOf endedOf bodyOf
+  line-ended h = rw (← e, eq-eqb (end + 1) (length line) h)
+
+  pub line-invalid : (end + 1 ≡ length line → ⊥) → commandOf line ≡ invalid
+  unfolding commandOf endedOf
+  line-invalid h = rw (← e, ne-eqb (end + 1) (length line) h)

@@ -114,7 +114,7 @@ decimal-first = by-digits (λ (n : ℕ). getD (decimalOf n) 0 0 ≡ digit 0 → 
     more : (n : ℕ) → 10 ≤ n → (getD (decimalOf (n / 10)) 0 0 ≡ digit 0 → n / 10 ≡ 0) → getD (decimalOf n) 0 0 ≡ digit 0 → n ≡ 0
     more n h ih e =
         let f : getD (decimalOf n) 0 0 ≡ getD (decimalOf (n / 10)) 0 0 =
-            rw (decimal-more n h) (List·getD-append (decimalOf (n / 10)) (digit (n % 10) ∷ []) 0 0 (decimal-some (n / 10))) in
+        rw (decimal-more n h) (List·getD-append (decimalOf (n / 10)) (digit (n % 10) ∷ []) 0 0 (decimal-some (n / 10))) in
         let g = ih (sym f ∙ e) in absurd (omega arith)
 
 -- what is printed is read as the number that it was

@@ -71,7 +71,7 @@ fn parse_body(body: &[u8]) -> Command
         if count == MAX_NUMBERS {
             return invalid();
         }
-        let rest = &body[at + 1..];
+        let rest = bytes::rest(body, at + 1);
         let n = bytes::index_of(BLANK, rest);
         let Number::Value(value) = read_number(&rest[..n]) else {
             return invalid();

@@ -51,7 +51,7 @@ returns c =
     let l = refusal-length (a .number) (carriedOf (a .carried)) in
     let h = s .pre in
     puts (a .out .now) (a .at) (simp length-append (omega arith))
-        (puts (a .out .now) (a .at) (simp length-append (omega arith)) (puts (a .out .now) (a .at) (omega arith) (w .put .ensures) (d .put-decimal .ensures)) (k .put-carried .ensures)) (e .put2 .ensures)
+    (puts (a .out .now) (a .at) (simp length-append (omega arith)) (puts (a .out .now) (a .at) (omega arith) (w .put .ensures) (d .put-decimal .ensures)) (k .put-carried .ensures)) (e .put2 .ensures)
 
 pub put-refusal-spec : {M : Type 1} → statement M
 put-refusal-spec =
