@@ -2,7 +2,7 @@
 use mathlib.Core.Bool.{Bool, true, false, cond, not, _&&_}
 use mathlib.Core.List.{List}
 use mathlib.Core.Path.{_≡_, refl, sym, ap, _∙_}
-use Prim.Native.Nat.{ℕ, _+_, _≤_, _<_}
+use Prim.Native.Nat.{ℕ, _+_, _≤_, _<_, max, min}
 use native.Mathlib.Omega.{arith}
 use lib.Dec.{leb, ltb}
 use lib.ListN.{drop, length, take, length-drop, length-take}
@@ -29,11 +29,11 @@ next-within true false from k n L e h = let l = ltb-true k L e in omega arith
 next-within false true from k n L e h = omega arith
 next-within false false from k n L e h = omega arith
 
-next-past : (t f : Bool) (from k n L : ℕ) → ltb k L ≡ t → 0 < L → from < pieceBy t f (from + k) n .next
-next-past true true from k n L e h = omega arith
-next-past true false from k n L e h = omega arith
-next-past false true from k n L e h = let l = ltb-false k L e in omega arith
-next-past false false from k n L e h = let l = ltb-false k L e in omega arith
+next-past : (t f : Bool) (from k n L : ℕ) → ltb k L ≡ t → from + min 1 L ≤ pieceBy t f (from + k) n .next
+next-past true true from k n L e = omega arith
+next-past true false from k n L e = omega arith
+next-past false true from k n L e = let l = ltb-false k L e in omega arith
+next-past false false from k n L e = let l = ltb-false k L e in omega arith
 
 whole-within : (t f : Bool) (next n size m : ℕ) → (f ≡ true → n + 1 ≤ size) → pieceBy t f next n .line ≡ Whole m → m ≤ size
 whole-within true true next n size m h e = let d : n + 1 ≡ m = cc in let l = h refl in omega arith
@@ -51,15 +51,17 @@ module _ (chunk : List ℕ) (from : ℕ) (buffer : List ℕ) (p : Partial) where
   abbrev fit : Bool
   fit = fitsOf p k (length buffer)
 
-  piece-within : from ≤ length chunk → pieceOf rest from (length buffer) p .next ≤ length chunk
+  piece-within : pieceOf rest from (length buffer) p .next ≤ max from (length chunk)
   unfolding pieceOf
-  piece-within h =
+  piece-within =
       let d = length-drop from chunk in
       let w = next-within (ltb k (length rest)) fit from k (p .length + k) (length rest) refl (index-le lf rest) in omega arith
 
-  piece-progress : from < length chunk → from < pieceOf rest from (length buffer) p .next
+  piece-progress : min (from + 1) (length chunk) ≤ pieceOf rest from (length buffer) p .next
   unfolding pieceOf
-  piece-progress h = let d = length-drop from chunk in next-past (ltb k (length rest)) fit from k (p .length + k) (length rest) refl (omega arith)
+  piece-progress =
+      let d = length-drop from chunk in
+      let w = next-past (ltb k (length rest)) fit from k (p .length + k) (length rest) refl in omega arith
 
   piece-whole : (m : ℕ) → pieceOf rest from (length buffer) p .line ≡ Whole m → m ≤ length buffer
   unfolding pieceOf
@@ -78,14 +80,18 @@ module _ (chunk : List ℕ) (from : ℕ) (buffer : List ℕ) (p : Partial) where
 
   -- the rest follows from the two equations
   taken : (r : Piece) (after : List ℕ) → r ≡ pieceOf rest from (length buffer) p → after ≡ bufferOf rest buffer p → Taken chunk from buffer p r after
-  taken r after e f = record {
-    piece-is = e;
-    buffer-is = f;
-    same-length = rw f buffer-length;
-    within = λ h. rw e (piece-within h);
-    progress = λ h. rw e (piece-progress h);
-    whole = λ m h. piece-whole m (rw e at h);
-  }
+  taken r after e f =
+      let g : length after ≡ length buffer = rw f buffer-length in
+      let w : (m : ℕ) → r .line ≡ Whole m → m ≤ length after = λ m h. rw g (piece-whole m (rw e at h)) in
+      record {
+        piece-is = e;
+        buffer-is = f;
+        same-length = g;
+        within = rw e piece-within;
+        progress = rw e piece-progress;
+        whole = w;
+        counted = λ m h. sym (length-take-le m after (w m h));
+      }
 
 pieces : {m n : ℕ} {q p : Partial} {k l : Line} → m ≡ n → q ≡ p → k ≡ l → piece m q k ≡ piece n p l
 pieces e f g = cc

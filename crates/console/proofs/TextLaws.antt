@@ -6,7 +6,7 @@ use mathlib.Core.Path.{_≡_, refl, sym, ap, _∙_}
 use Prim.Native.Nat.{ℕ, _+_, _≤_}
 use native.Mathlib.Omega.{arith}
 use lib.Dec.{leb}
-use lib.ListN.{length, length-append}
+use lib.ListN.{length, length-append, length-take}
 use borrow.Author.Tests.{leb-true}
 use Rattle.console.specs.Bytes.{Put, putAt}
 use Rattle.console.specs.Text.{Appended, appendedOf, carriedText, decimalOf, errorWord, pastOf, refusalText}
@@ -26,12 +26,13 @@ module _ (out : List ℕ) (at : ℕ) (bs : List ℕ) (k : ℕ) (b : Bool) (count
   appended t r after e =
       let h = room-for t in
       let f = tested ∙ t in
-      record { past = rw f (e .past); written = rw f (e .written); same-length = rw (e .written) (put-length out at bs h); within = λ l. rw (e .past) h }
+      let g : length after ≡ length out = rw (e .written) (put-length out at bs h) in
+      let p = e .past in record { past = rw f p; written = rw f (e .written); same-length = g; within = omega arith; counted = length-take r after }
 
   -- bytes that do not fit
   pub left-out : b ≡ false → Appended out at bs at out
   unfolding pastOf appendedOf
-  left-out t = let f = tested ∙ t in record { past = rw f; written = rw f; same-length = refl; within = λ l. l }
+  left-out t = let f = tested ∙ t in record { past = rw f; written = rw f; same-length = refl; within = omega arith; counted = length-take at out }
 
 pub refusal-length : (n : ℕ) (carried : Option ℕ) → length (refusalText n carried) ≡ 6 + length (decimalOf n) + length (carriedText carried) + 1
 unfolding refusalText errorWord

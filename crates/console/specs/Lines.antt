@@ -2,7 +2,7 @@
 use mathlib.Core.Bool.{Bool, true, false, not, _&&_, _||_, cond}
 use mathlib.Core.List.{List}
 use mathlib.Core.Path.{_≡_}
-use Prim.Native.Nat.{ℕ, _+_, _≤_, _<_}
+use Prim.Native.Nat.{ℕ, _+_, _≤_, max, min}
 use lib.Dec.{leb, ltb}
 use lib.ListN.{drop, length, take}
 use Rattle.console.specs.Bytes.{indexOf, lf, putAt}
@@ -46,11 +46,13 @@ bufferOf rest buffer p = cond (fitsOf p (indexOf lf rest) (length buffer)) (putA
 unfoldable pub lastOf : Partial → Line
 lastOf p = cond (p .long || ltb 0 (p .length)) Bad More
 
--- r and the buffer `after` are what `take` makes
+-- r and the buffer `after` are what `take` makes. The rest follows, and is stated for callers: next is past `from` and no further than the end
+-- of the chunk, unless `from` is not in it, and a whole line is within the buffer
 pub record Taken (chunk : List ℕ) (from : ℕ) (buffer : List ℕ) (p : Partial) (r : Piece) (after : List ℕ) : Type 0 where
   pub piece-is : r ≡ pieceOf (drop from chunk) from (length buffer) p
   pub buffer-is : after ≡ bufferOf (drop from chunk) buffer p
   pub same-length : length after ≡ length buffer
-  pub within : from ≤ length chunk → r .next ≤ length chunk
-  pub progress : from < length chunk → from < r .next
-  pub whole : (n : ℕ) → r .line ≡ Whole n → n ≤ length buffer
+  pub within : r .next ≤ max from (length chunk)
+  pub progress : min (from + 1) (length chunk) ≤ r .next
+  pub whole : (n : ℕ) → r .line ≡ Whole n → n ≤ length after
+  pub counted : (n : ℕ) → r .line ≡ Whole n → n ≡ length (take n after)

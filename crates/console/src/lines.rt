@@ -3,6 +3,7 @@
 use crate::bytes;
 use crate::bytes::LF;
 ghost use mathlib.Core.Path.{_≡_};
+ghost use lib.ListN.{take};
 ghost use Rattle.console.specs.Lines.{Taken, held, lastOf};
 
 // What the bytes so far make.
@@ -87,6 +88,16 @@ pub fn take(chunk: &[u8], from: usize, buffer: &mut [u8], partial: Partial) -> P
         partial: skipped,
         line: Line::More,
     }
+}
+
+// The first n bytes of the buffer, or all of it where it has fewer: the bytes of a whole line, with no bound for the caller to prove.
+pub fn front(buffer: &[u8], n: usize) -> &[u8]
+    ensures { λ r. ⌜ now r ≡ take n (now (buffer .entry)) ⌝ }
+{
+    if n <= buffer.len() {
+        return &buffer[..n];
+    }
+    buffer
 }
 
 // At the end of the input: a line that has no LF is bad.
