@@ -7,7 +7,7 @@ use native.Mathlib.Nat.{add-zero}
 use native.Mathlib.Numerals.{add-one}
 use native.Mathlib.Omega.{arith}
 use lib.Dec.{eqb, leb}
-use lib.ListN.{drop, getD, length, set, take, drop-of-length-le, length-append, length-drop, take-append-drop}
+use lib.ListN.{drop, getD, length, set, take, drop-of-length-le, length-append, take-append-drop}
 use lib.Seq.{append-snoc, drop-append-add, drop-at, drop-cons, drop-drop, length-paste, length-take-le, paste, set-split, take-at, take-length, take-set-le}
 use borrow.Author.Tests.{eq-eqb, eqb-true, le-leb, leb-true, ne-eqb}
 use Rattle.label.proofs.BoolLaws.{first-true, not-so, same-truth, second-true}

@@ -7,11 +7,11 @@ use Prim.Native.Nat.{ℕ, zero, suc, _+_, _-_, _≤_, _<_}
 use native.Mathlib.Numerals.{add-one}
 use native.Mathlib.Omega.{arith}
 use lib.Dec.{eqb, leb}
-use lib.ListN.{drop, getD, length, replicate, set, take, drop-of-length-le, length-append, take-append-drop}
+use lib.ListN.{drop, length, replicate, set, take, drop-of-length-le, length-append, take-append-drop}
 use lib.Seq.{drop-cons, drop-drop, drop-set-lt, length-take-le, take-suc-set}
 use borrow.Author.Tests.{eq-eqb, le-leb, lt-leb, ne-eqb}
 use Rattle.console.specs.Bytes.{blank, indexOf, lf}
-use Rattle.console.specs.Command.{after, before, bodyCommandOf, bodyOf, commandOf, endedOf, invalid, most, numberOf, numbersOf, ofNumbers, onFirst, split, wordOf}
+use Rattle.console.specs.Command.{bodyCommandOf, bodyOf, commandOf, consOf, endedOf, invalid, most, numberOf, numbersOf, ofNumbers, onFirst, split, wordOf}
 use Rattle.console.specs.declared.command.Command.{Command}
 
 -- the fields behind the first, from the b that ends it
@@ -35,23 +35,28 @@ pub word-from : (line : List ℕ) (end n : ℕ) → end ≡ indexOf lf line → 
 unfolding wordOf bodyOf
 word-from line end n e f = rw (split-first blank (take (indexOf lf line) line), f, e)
 
--- the command whose numbers so far are ns, with the fields that the bytes xs begin before them
-abbrev pub commandFrom : List ℕ → List ℕ → Command
-commandFrom ns xs = ofNumbers (after ns (numbersOf (fieldsFrom blank xs)))
+-- the numbers ns before others, if there are others
+abbrev pub after : List ℕ → Option (List ℕ) → Option (List ℕ)
+after ns none = none
+after ns (some ms) = some (ns ++ ms)
 
 after-nil : (o : Option (List ℕ)) → after [] o ≡ o
 after-nil none = refl
 after-nil (some ns) = refl
 
-after-after : (ns ms : List ℕ) (o : Option (List ℕ)) → after ns (after ms o) ≡ after (ns ++ ms) o
-after-after ns ms none = refl
-after-after ns ms (some ls) = ap some (sym (append-assoc ns ms ls))
+after-cons : (ns : List ℕ) (v : ℕ) (o : Option (List ℕ)) → after ns (consOf (some v) o) ≡ after (ns ++ (v ∷ [])) o
+after-cons ns v none = refl
+after-cons ns v (some ms) = ap some (sym (append-assoc ns (v ∷ []) ms))
 
-too-many : (ns : List ℕ) (n : Option ℕ) (o : Option (List ℕ)) → length ns ≡ most → ofNumbers (after ns (before n o)) ≡ invalid
+too-many : (ns : List ℕ) (n : Option ℕ) (o : Option (List ℕ)) → length ns ≡ most → ofNumbers (after ns (consOf n o)) ≡ invalid
 too-many ns none o h = refl
 too-many ns (some n) none h = refl
 too-many ns (some n) (some ms) h =
     let l : leb (length (ns ++ n ∷ ms)) most ≡ false = lt-leb (length (ns ++ n ∷ ms)) most (omega (arith, length-append ns (n ∷ ms))) in rw l
+
+-- the command whose numbers so far are ns, where the other fields begin in the bytes xs
+abbrev pub commandFrom : List ℕ → List ℕ → Command
+commandFrom ns xs = ofNumbers (after ns (numbersOf (fieldsFrom blank xs)))
 
 module _ (body : List ℕ) where
   pub body-start : bodyCommandOf body ≡ commandFrom [] (drop (indexOf blank body) body)
@@ -60,7 +65,7 @@ module _ (body : List ℕ) where
 
   -- the field behind the blank at index at: xs are the bytes from there on, n of them before the next blank
   module _ (at : ℕ) (h : at < length body) (xs : List ℕ) (n : ℕ) (bytes : xs ≡ drop (at + 1) body) (index : n ≡ indexOf blank xs) where
-    one-field : (ns : List ℕ) → commandFrom ns (drop at body) ≡ ofNumbers (after ns (before (numberOf (take n xs)) (numbersOf (fieldsFrom blank (drop n xs)))))
+    one-field : (ns : List ℕ) → commandFrom ns (drop at body) ≡ ofNumbers (after ns (consOf (numberOf (take n xs)) (numbersOf (fieldsFrom blank (drop n xs)))))
     unfolding numbersOf
     one-field ns = rw (drop-cons body at 0 h, ← add-one at, ← bytes, split-first blank xs, ← index)
 
@@ -68,7 +73,7 @@ module _ (body : List ℕ) where
     body-bad ns e = one-field ns ∙ rw e
 
     pub body-next : (ns : List ℕ) (v : ℕ) → numberOf (take n xs) ≡ some v → commandFrom ns (drop at body) ≡ commandFrom (ns ++ (v ∷ [])) (drop (at + 1 + n) body)
-    body-next ns v e = one-field ns ∙ rw (e, after-after ns (v ∷ []), ← drop-drop n (at + 1) body, ← bytes)
+    body-next ns v e = one-field ns ∙ rw (e, after-cons ns v, ← drop-drop n (at + 1) body, ← bytes)
 
   pub body-full : (at : ℕ) → at < length body → (ns : List ℕ) → length ns ≡ most → commandFrom ns (drop at body) ≡ invalid
   body-full at h ns e =

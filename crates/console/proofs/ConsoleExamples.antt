@@ -7,7 +7,7 @@ use Prim.Native.Nat.{ℕ, _-_, _^_}
 use lib.ListN.{replicate}
 use Rattle.label.specs.declared.errno.Errno.the-variants.{TooBig, Invalid}
 use Rattle.console.specs.Bytes.{blank, indexOf, lf, putAt, sameBytes}
-use Rattle.console.specs.Command.{bodyCommandOf, bodyOf, commandOf, digits, endedOf, invalid, numberFrom, numberOf, numbersOf, split, valueFrom, withNumbers, wordOf}
+use Rattle.console.specs.Command.{bodyCommandOf, bodyOf, commandOf, digits, endedOf, invalid, numberOf, numbersOf, split, valueFrom, withNumbers, wordOf}
 use Rattle.console.specs.Lines.{bufferOf, fitsOf, held, lastOf, piece, pieceOf, skipped}
 use Rattle.console.specs.Text.{appendedOf, carriedText, decimalIn, decimalOf, errorText, errorWord, pastOf, refusalText}
 use Rattle.console.specs.declared.lines.Line.the-variants.{More, Whole, Bad}
@@ -74,7 +74,7 @@ ends = (refl, refl, refl)
 
 -- `abc 007 12`, LF
 two-numbers : commandOf (abc ++ (blank ∷ 48 ∷ 48 ∷ 55 ∷ blank ∷ 49 ∷ 50 ∷ lf ∷ [])) ≡ withNumbers (7 ∷ 12 ∷ [])
-unfolding commandOf bodyCommandOf bodyOf endedOf indexOf split numbersOf numberOf numberFrom digits valueFrom
+unfolding commandOf bodyCommandOf bodyOf endedOf indexOf split numbersOf numberOf digits valueFrom
 two-numbers = refl
 
 -- no numbers
@@ -84,16 +84,16 @@ word-alone = refl
 
 -- five numbers, and six
 five-numbers : commandOf (97 ∷ blank ∷ 49 ∷ blank ∷ 49 ∷ blank ∷ 49 ∷ blank ∷ 49 ∷ blank ∷ 49 ∷ lf ∷ []) ≡ withNumbers (replicate 5 1)
-unfolding commandOf bodyCommandOf bodyOf endedOf indexOf split numbersOf numberOf numberFrom digits valueFrom
+unfolding commandOf bodyCommandOf bodyOf endedOf indexOf split numbersOf numberOf digits valueFrom
 five-numbers = refl
 
 six-numbers : commandOf (97 ∷ blank ∷ 49 ∷ blank ∷ 49 ∷ blank ∷ 49 ∷ blank ∷ 49 ∷ blank ∷ 49 ∷ blank ∷ 49 ∷ lf ∷ []) ≡ invalid
-unfolding commandOf bodyCommandOf bodyOf endedOf indexOf split numbersOf numberOf numberFrom digits valueFrom
+unfolding commandOf bodyCommandOf bodyOf endedOf indexOf split numbersOf numberOf digits valueFrom
 six-numbers = refl
 
 -- two blanks, a blank at the end, a letter, no LF, an LF inside
 two-blanks : commandOf (97 ∷ blank ∷ blank ∷ 49 ∷ lf ∷ []) ≡ invalid
-unfolding commandOf bodyCommandOf bodyOf endedOf indexOf split numbersOf numberOf numberFrom digits valueFrom
+unfolding commandOf bodyCommandOf bodyOf endedOf indexOf split numbersOf numberOf digits valueFrom
 two-blanks = refl
 
 blank-last : commandOf (97 ∷ blank ∷ lf ∷ []) ≡ invalid
@@ -101,7 +101,7 @@ unfolding commandOf bodyCommandOf bodyOf endedOf indexOf split numbersOf numberO
 blank-last = refl
 
 letter : commandOf (97 ∷ blank ∷ 49 ∷ 97 ∷ lf ∷ []) ≡ invalid
-unfolding commandOf bodyCommandOf bodyOf endedOf indexOf split numbersOf numberOf numberFrom digits
+unfolding commandOf bodyCommandOf bodyOf endedOf indexOf split numbersOf numberOf digits
 letter = refl
 
 no-lf : commandOf (97 ∷ blank ∷ 49 ∷ []) ≡ invalid
@@ -117,11 +117,11 @@ abbrev all-but-last : List ℕ
 all-but-last = 49 ∷ 56 ∷ 52 ∷ 52 ∷ 54 ∷ 55 ∷ 52 ∷ 52 ∷ 48 ∷ 55 ∷ 51 ∷ 55 ∷ 48 ∷ 57 ∷ 53 ∷ 53 ∷ 49 ∷ 54 ∷ 49 ∷ []
 
 largest : numberOf (48 ∷ all-but-last ++ (53 ∷ [])) ≡ some (2 ^ 64 - 1)
-unfolding numberOf numberFrom digits valueFrom
+unfolding numberOf digits valueFrom
 largest = refl
 
 too-large : numberOf (all-but-last ++ (54 ∷ [])) ≡ none
-unfolding numberOf numberFrom digits valueFrom
+unfolding numberOf digits valueFrom
 too-large = refl
 
 -- the word ends at a blank, at the LF, or at the end

@@ -6,15 +6,14 @@ use mathlib.Core.Path.{_≡_, refl, sym, ap, _∙_}
 use Prim.Native.Nat.{ℕ, zero, suc, _+_, _-_, _*_, _/_, _%_, _^_, _≤_, _<_}
 use native.Mathlib.Nat.{pow-suc}
 use native.Mathlib.Omega.{arith}
-use lib.Dec.{leb, ltb}
+use lib.Dec.{ltb}
 use lib.ListN.{getD, length, length-append, List·getD-append}
 use borrow.Author.Tests.{le-leb, le-ltb, lt-ltb, ltb-false}
-use Rattle.label.proofs.BoolLaws.{both}
 use Rattle.label.proofs.IndexLaws.{le-or-lt}
 use mathlib.Core.Logic.{_⊎_, inl, inr}
-use Rattle.console.specs.Command.{digits, numberFrom, numberOf, valueFrom}
+use Rattle.console.specs.Command.{digits, numberOf, valueFrom, valueOf}
 use Rattle.console.specs.Text.{decimalIn, decimalOf, digit}
-use Rattle.console.proofs.NumberLaws.{digits-append, number-start, value-append}
+use Rattle.console.proofs.NumberLaws.{digits-append, numberFrom, number-start, value-append}
 
 -- how many steps are allowed makes no difference, if there are enough
 steps : (j k n : ℕ) → n < j → n < k → decimalIn j n ≡ decimalIn k n
@@ -53,17 +52,17 @@ module _ (P : ℕ → Type 0) (one : (n : ℕ) → n < 10 → P n) (more : (n : 
   by-digits n = below (suc n) n (omega arith)
 
 -- read back, they give the number
-pub decimal-value : (n : ℕ) → valueFrom 0 (decimalOf n) ≡ n
+pub decimal-value : (n : ℕ) → valueOf (decimalOf n) ≡ n
 unfolding valueFrom
-decimal-value = by-digits (λ (n : ℕ). valueFrom 0 (decimalOf n) ≡ n) one more
+decimal-value = by-digits (λ (n : ℕ). valueOf (decimalOf n) ≡ n) one more
   where
     last : (v d : ℕ) → valueFrom v (digit d ∷ []) ≡ v * 10 + d
     last v d = omega arith
 
-    one : (n : ℕ) → n < 10 → valueFrom 0 (decimalOf n) ≡ n
+    one : (n : ℕ) → n < 10 → valueOf (decimalOf n) ≡ n
     one n h = rw (decimal-one n h, last) (omega arith)
 
-    more : (n : ℕ) → 10 ≤ n → valueFrom 0 (decimalOf (n / 10)) ≡ n / 10 → valueFrom 0 (decimalOf n) ≡ n
+    more : (n : ℕ) → 10 ≤ n → valueOf (decimalOf (n / 10)) ≡ n / 10 → valueOf (decimalOf n) ≡ n
     more n h ih = rw (decimal-more n h, value-append, ih, last) (omega arith)
 
 pub decimal-digits : (n : ℕ) → digits (decimalOf n) ≡ true

@@ -2,7 +2,7 @@
 use mathlib.Core.Bool.{Bool, true, false, cond, not, _&&_}
 use mathlib.Core.List.{List}
 use mathlib.Core.Path.{_≡_, refl, sym, ap, _∙_}
-use Prim.Native.Nat.{ℕ, _+_, _≤_, _<_, max, min}
+use Prim.Native.Nat.{ℕ, _+_, _-_, _≤_, _<_, max, min}
 use native.Mathlib.Omega.{arith}
 use lib.Dec.{leb, ltb}
 use lib.ListN.{drop, length, take, length-drop, length-take}
@@ -96,34 +96,44 @@ module _ (chunk : List ℕ) (from : ℕ) (buffer : List ℕ) (p : Partial) where
 pieces : {m n : ℕ} {q p : Partial} {k l : Line} → m ≡ n → q ≡ p → k ≡ l → piece m q k ≡ piece n p l
 pieces e f g = cc
 
--- the four ways that `take` ends. xs are the bytes from index `from` on, n of them before the first LF, and b says that n + 1 fit in the buffer
-module _ (chunk : List ℕ) (from : ℕ) (buffer : List ℕ) (p : Partial) (xs : List ℕ) (n : ℕ) (b : Bool)
-    (bytes : xs ≡ drop from chunk) (index : n ≡ indexOf lf xs) (room : b ≡ leb (p .length + (n + 1)) (length buffer)) where
+-- what `take` has found where its four ways part: xs are the bytes from index `from` on, n of them before the first LF, and b says that n + 1 fit
+-- behind those that are held
+pub record Tested (chunk : List ℕ) (from : ℕ) (buffer : List ℕ) (p : Partial) (xs : List ℕ) (n : ℕ) (b : Bool) : Type 0 where
+  pub bytes : xs ≡ drop from chunk
+  pub index : n ≡ indexOf lf xs
+  pub room : b ≡ leb (p .length + (n + 1)) (length buffer)
+
+module _ {chunk : List ℕ} {from : ℕ} {buffer : List ℕ} {p : Partial} {xs : List ℕ} {n : ℕ} {b : Bool} (s : Tested chunk from buffer p xs n b) where
   pub room-for : (not (p .long) && b) ≡ true → p .length + (n + 1) ≤ length buffer
-  room-for e = leb-true (p .length + (n + 1)) (length buffer) (sym room ∙ second-true (not (p .long)) b e)
+  room-for e = leb-true (p .length + (n + 1)) (length buffer) (sym (s .room) ∙ second-true (not (p .long)) b e)
+
+  pub bytes-length : length xs ≡ length chunk - from
+  bytes-length = ap length (s .bytes) ∙ length-drop from chunk
 
   by-tests : (t f : Bool) (r : Piece) (after : List ℕ) → ltb n (length xs) ≡ t → (not (p .long) && b) ≡ f → r ≡ pieceBy t f (from + n) (p .length + n)
       → after ≡ cond f (putAt buffer (p .length) (take (n + 1) xs)) buffer → Taken chunk from buffer p r after
   unfolding pieceOf bufferOf fitsOf
   by-tests t f r after d e g h =
-      taken chunk from buffer p r after (rw (← bytes, ← index, d, ← room, e) g) (rw (← bytes, ← index, ← room, e) h)
+      taken chunk from buffer p r after (rw (← s .bytes, ← s .index, d, ← s .room, e) g) (rw (← s .bytes, ← s .index, ← s .room, e) h)
 
-  pub taken-whole : n < length xs → (not (p .long) && b) ≡ true → (q : Partial) (r : ℕ) (after : List ℕ) → q ≡ held 0 → Put buffer (p .length) (take (n + 1) xs) r after
-      → Taken chunk from buffer p (piece (from + (n + 1)) q (Whole r)) after
-  taken-whole l e q r after z h =
-      let s = length-take-le (n + 1) xs (omega arith) in
-      let w : r ≡ p .length + n + 1 = h .past ∙ omega arith in
-      by-tests true true (piece (from + (n + 1)) q (Whole r)) after (lt-ltb n (length xs) l) e (pieces (omega arith) z (ap Whole w)) (h .written)
+  pub taken-whole : {r : Piece} {q : Partial} {size : ℕ} {after : List ℕ} → n < length xs → (not (p .long) && b) ≡ true → r ≡ piece (from + (n + 1)) q (Whole size) → q ≡ held 0
+      → Put buffer (p .length) (take (n + 1) xs) size after → Taken chunk from buffer p r after
+  taken-whole {r} {q} {size} {after} l e a z h =
+      let k = length-take-le (n + 1) xs (omega arith) in
+      let w : size ≡ p .length + n + 1 = h .past ∙ omega arith in
+      by-tests true true r after (lt-ltb n (length xs) l) e (a ∙ pieces (omega arith) z (ap Whole w)) (h .written)
 
-  pub taken-bad : n < length xs → (not (p .long) && b) ≡ false → (q : Partial) → q ≡ held 0 → Taken chunk from buffer p (piece (from + (n + 1)) q Bad) buffer
-  taken-bad l e q z = by-tests true false (piece (from + (n + 1)) q Bad) buffer (lt-ltb n (length xs) l) e (pieces (omega arith) z refl) refl
+  pub taken-bad : {r : Piece} {q : Partial} → n < length xs → (not (p .long) && b) ≡ false → r ≡ piece (from + (n + 1)) q Bad → q ≡ held 0 → Taken chunk from buffer p r buffer
+  taken-bad {r} l e a z = by-tests true false r buffer (lt-ltb n (length xs) l) e (a ∙ pieces (omega arith) z refl) refl
 
-  pub taken-more : length xs ≤ n → (not (p .long) && b) ≡ true → (r : ℕ) (after : List ℕ) → Put buffer (p .length) xs r after → Taken chunk from buffer p (piece (from + n) (held r) More) after
-  taken-more l e r after h =
+  pub taken-more : {r : Piece} {q : Partial} {size : ℕ} {after : List ℕ} → length xs ≤ n → (not (p .long) && b) ≡ true → r ≡ piece (from + n) q More → q ≡ held size
+      → Put buffer (p .length) xs size after → Taken chunk from buffer p r after
+  taken-more {r} {q} {size} {after} l e a z h =
       let i = index-le lf xs in
-      let s : take (n + 1) xs ≡ xs = take-all (n + 1) xs (omega arith) in
-      let w : r ≡ p .length + n = h .past ∙ omega arith in
-      by-tests false true (piece (from + n) (held r) More) after (le-ltb n (length xs) l) e (pieces refl (ap held w) refl) (rw s (h .written))
+      let k : take (n + 1) xs ≡ xs = take-all (n + 1) xs (omega arith) in
+      let j = s .index in
+      let w : size ≡ p .length + n = h .past ∙ omega arith in
+      by-tests false true r after (le-ltb n (length xs) l) e (a ∙ pieces refl (z ∙ ap held w) refl) (rw k (h .written))
 
-  pub taken-long : length xs ≤ n → (not (p .long) && b) ≡ false → Taken chunk from buffer p (piece (from + n) skipped More) buffer
-  taken-long l e = by-tests false false (piece (from + n) skipped More) buffer (le-ltb n (length xs) l) e refl refl
+  pub taken-long : {r : Piece} → length xs ≤ n → (not (p .long) && b) ≡ false → r ≡ piece (from + n) skipped More → Taken chunk from buffer p r buffer
+  taken-long {r} l e a = by-tests false false r buffer (le-ltb n (length xs) l) e a refl

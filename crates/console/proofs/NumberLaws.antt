@@ -1,9 +1,10 @@
 -- Digits that are read, one at a time. Assumes nothing.
-use mathlib.Core.Bool.{Bool, true, false, _&&_, and-false}
+use mathlib.Core.Bool.{true, false, cond, _&&_, and-false}
 use mathlib.Core.List.{List, [], _∷_, _++_}
 use mathlib.Core.Option.{Option, none, some}
-use mathlib.Core.Path.{_≡_, refl, sym, ap, _∙_}
+use mathlib.Core.Path.{_≡_, refl}
 use Prim.Native.Nat.{ℕ, suc, _+_, _-_, _*_, _^_, _≤_, _<_}
+use native.Mathlib.Nat.{pos-of-ne-zero}
 use native.Mathlib.Numerals.{add-one}
 use native.Mathlib.Omega.{arith}
 use lib.Dec.{leb, ltb}
@@ -11,7 +12,7 @@ use lib.ListN.{drop, getD, length, drop-of-length-le}
 use lib.Seq.{drop-cons}
 use borrow.Author.Tests.{le-leb, le-ltb, lt-leb, lt-ltb}
 use Rattle.label.proofs.BoolLaws.{both, first-true, second-true}
-use Rattle.console.specs.Command.{digits, numberFrom, numberOf, valueFrom}
+use Rattle.console.specs.Command.{digits, numberOf, valueFrom}
 
 -- ---- digits and their value
 
@@ -32,6 +33,10 @@ value-grows v [] = omega arith
 value-grows v (b ∷ bs) = let h = value-grows (v * 10 + (b - 48)) bs in omega arith
 
 -- ---- a number, with v read so far
+
+-- what the digits bs make of it
+unfoldable pub numberFrom : ℕ → List ℕ → Option ℕ
+numberFrom v bs = cond (digits bs && ltb (valueFrom v bs) (2 ^ 64)) (some (valueFrom v bs)) none
 
 pub number-large : (v : ℕ) (bs : List ℕ) → 2 ^ 64 ≤ v → numberFrom v bs ≡ none
 unfolding numberFrom
@@ -54,13 +59,11 @@ module _ (v b : ℕ) (bs : List ℕ) where
 
 pub number-none : (text : List ℕ) → length text ≡ 0 → numberOf text ≡ none
 unfolding numberOf
-number-none [] h = refl
-number-none (b ∷ bs) h = absurd (omega arith)
+number-none text h = rw h
 
 pub number-start : (text : List ℕ) → (length text ≡ 0 → ⊥) → numberOf text ≡ numberFrom 0 text
-unfolding numberOf
-number-start [] h = absurd (h refl)
-number-start (b ∷ bs) h = refl
+unfolding numberOf numberFrom
+number-start text h = rw (lt-ltb 0 (length text) (pos-of-ne-zero h))
 
 module _ (text : List ℕ) where
   -- a loop that reads text from the front

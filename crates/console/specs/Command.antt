@@ -24,34 +24,28 @@ unfoldable pub valueFrom : ℕ → List ℕ → ℕ
 valueFrom v [] = v
 valueFrom v (b ∷ bs) = valueFrom (v * 10 + (b - 48)) bs
 
--- the same as a number, where they are digits and the value is below 2 ^ 64
-unfoldable pub numberFrom : ℕ → List ℕ → Option ℕ
-numberFrom v bs = cond (digits bs && ltb (valueFrom v bs) (2 ^ 64)) (some (valueFrom v bs)) none
+abbrev pub valueOf : List ℕ → ℕ
+valueOf bs = valueFrom 0 bs
 
--- the number that a field is: one or more digits
+-- the number that a field is: one or more digits, with a value below 2 ^ 64
 unfoldable pub numberOf : List ℕ → Option ℕ
-numberOf [] = none
-numberOf (b ∷ bs) = numberFrom 0 (b ∷ bs)
+numberOf bs = cond (ltb 0 (length bs) && digits bs && ltb (valueOf bs) (2 ^ 64)) (some (valueOf bs)) none
 
 -- what the enum Number says
 abbrev pub numberAnswerOf : Number → Option ℕ
 numberAnswerOf (Value v) = some v
 numberAnswerOf Bad = none
 
--- the numbers ns before those of a list, if there is one
-abbrev pub after : List ℕ → Option (List ℕ) → Option (List ℕ)
-after ns none = none
-after ns (some ms) = some (ns ++ ms)
-
--- a number before a list of them, if there are both
-abbrev pub before : Option ℕ → Option (List ℕ) → Option (List ℕ)
-before none ms = none
-before (some n) ms = after (n ∷ []) ms
+-- a number and the numbers behind it, if there are both
+abbrev pub consOf : Option ℕ → Option (List ℕ) → Option (List ℕ)
+consOf none ns = none
+consOf (some n) none = none
+consOf (some n) (some ns) = some (n ∷ ns)
 
 -- the numbers that the fields are, if each is one
 unfoldable pub numbersOf : List (List ℕ) → Option (List ℕ)
 numbersOf [] = some []
-numbersOf (f ∷ fs) = before (numberOf f) (numbersOf fs)
+numbersOf (f ∷ fs) = consOf (numberOf f) (numbersOf fs)
 
 abbrev pub onFirst : ℕ → List (List ℕ) → List (List ℕ)
 onFirst x [] = []

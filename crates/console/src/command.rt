@@ -16,6 +16,9 @@ pub struct Command {
     pub numbers: [u64; MAX_NUMBERS],
 }
 
+// The largest number that a field can be.
+const LARGEST: u64 = 18446744073709551615;
+
 // What a field is.
 enum Number {
     Value(u64),
@@ -44,14 +47,14 @@ fn read_number(text: &[u8]) -> Number
     let mut i = 0;
     while i < text.len() {
         let b = text[i];
-        if b < 48 {
+        if b < b'0' {
             return Number::Bad;
         }
-        if 57 < b {
+        if b'9' < b {
             return Number::Bad;
         }
-        let d = (b - 48) as u64;
-        if value > (18446744073709551615 - d) / 10 {
+        let d = (b - b'0') as u64;
+        if value > (LARGEST - d) / 10 {
             return Number::Bad;
         }
         value = value * 10 + d;

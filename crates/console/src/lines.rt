@@ -4,7 +4,7 @@ use crate::bytes;
 use crate::bytes::LF;
 ghost use mathlib.Core.Path.{_≡_};
 ghost use lib.ListN.{take};
-ghost use Rattle.console.specs.Lines.{Taken, held, lastOf};
+ghost use Rattle.console.specs.Lines.{Taken, held, lastOf, piece};
 
 // What the bytes so far make.
 pub enum Line {
@@ -31,14 +31,31 @@ pub struct Piece {
     pub line: Line,
 }
 
+// The first bytes of a line are held.
+fn held(length: usize) -> Partial
+    ensures { λ r. ⌜ r ≡ held length ⌝ }
+{
+    Partial {
+        length,
+        long: false,
+    }
+}
+
+fn answer(next: usize, partial: Partial, line: Line) -> Piece
+    ensures { λ r. ⌜ r ≡ piece next partial line ⌝ }
+{
+    Piece {
+        next,
+        partial,
+        line,
+    }
+}
+
 // Nothing is held.
 pub fn start() -> Partial
     ensures { λ r. ⌜ r ≡ held 0 ⌝ }
 {
-    Partial {
-        length: 0,
-        long: false,
-    }
+    held(0)
 }
 
 // Takes bytes of the chunk from index from on, up to and with the first LF. Where there is no LF it takes them all.
@@ -50,44 +67,23 @@ pub fn take(chunk: &[u8], from: usize, buffer: &mut [u8], partial: Partial) -> P
     let rest = bytes::rest(chunk, from);
     let n = bytes::index_of(LF, rest);
     let fits = !long & bytes::fits(buffer.len(), length, n + 1);
-    let none = start();
     if n < rest.len() {
         let end = n + 1;
         if fits {
             let size = bytes::put(buffer, length, &rest[..end]);
-            return Piece {
-                next: from + end,
-                partial: none,
-                line: Line::Whole(size),
-            };
+            return answer(from + end, start(), Line::Whole(size));
         }
-        return Piece {
-            next: from + end,
-            partial: none,
-            line: Line::Bad,
-        };
+        return answer(from + end, start(), Line::Bad);
     }
     if fits {
         let size = bytes::put(buffer, length, rest);
-        let more = Partial {
-            length: size,
-            long: false,
-        };
-        return Piece {
-            next: from + n,
-            partial: more,
-            line: Line::More,
-        };
+        return answer(from + n, held(size), Line::More);
     }
     let skipped = Partial {
         length: 0,
         long: true,
     };
-    Piece {
-        next: from + n,
-        partial: skipped,
-        line: Line::More,
-    }
+    answer(from + n, skipped, Line::More)
 }
 
 // The first n bytes of the buffer, or all of it where it has fewer: the bytes of a whole line, with no bound for the caller to prove.

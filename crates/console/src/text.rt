@@ -3,7 +3,6 @@ use crate::bytes;
 use label::errno;
 use label::errno::Carried;
 use label::errno::Errno;
-ghost use mathlib.Core.Path.{_≡_};
 ghost use Prim.Native.Nat.{_+_, _≤_};
 ghost use lib.ListN.{length};
 ghost use Rattle.label.specs.Errno.{carriedOf};
@@ -43,10 +42,10 @@ fn put_decimal(out: &mut [u8], at: usize, n: u64) -> usize
     let mut left = n;
     while left >= 10 {
         i -= 1;
-        out[i] = 48 + (left % 10) as u8;
+        out[i] = b'0' + (left % 10) as u8;
         left = left / 10;
     }
-    out[at] = 48 + left as u8;
+    out[at] = b'0' + left as u8;
     end
 }
 

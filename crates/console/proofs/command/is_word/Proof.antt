@@ -6,7 +6,6 @@ use lib.ListN.{take}
 use lib.Seq.{length-take-le}
 use Rattle.console.specs.Bytes.{sameBytes}
 use Rattle.console.proofs.CommandLaws.{word-from}
-use borrow.Author.Needs.{needs}
 use Rattle.console.proofs.command.is_word.Statement.{statement}
 use Rattle.console.proofs.command.is_word.Tie as tie
 

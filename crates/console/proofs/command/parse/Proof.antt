@@ -2,7 +2,6 @@ use borrow.Author.Needs.{needs}
 use mathlib.Core.Path.{sym, _∙_}
 use lib.Seq.{length-take-le}
 use Rattle.console.proofs.CommandLaws.{line-ended, line-invalid}
-use borrow.Author.Needs.{needs}
 use Rattle.console.proofs.command.parse.Statement.{statement}
 use Rattle.console.proofs.command.parse.Tie as tie
 

@@ -2,7 +2,6 @@ use borrow.Author.Needs.{needs}
 use mathlib.Core.Path.{sym}
 use native.Mathlib.Omega.{arith}
 use lib.Seq.{length-take-le, take-all}
-use borrow.Author.Needs.{needs}
 use Rattle.console.proofs.lines.front.Statement.{statement}
 use Rattle.console.proofs.lines.front.Tie as tie
 

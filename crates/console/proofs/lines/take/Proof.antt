@@ -1,44 +1,24 @@
 use borrow.Author.Needs.{needs}
-use mathlib.Core.Bool.{Bool, true, not, _&&_}
 use mathlib.Core.List.{List}
-use mathlib.Core.Path.{_≡_, sym, ap, _∙_}
-use Prim.Native.Nat.{ℕ, _+_, _-_, _≤_}
+use mathlib.Core.Path.{sym}
+use Prim.Native.Nat.{ℕ, _+_}
 use native.Mathlib.Omega.{arith}
-use lib.ListN.{length, length-drop}
 use lib.Seq.{length-take-le}
-use Rattle.console.specs.declared.lines.Partial.{Partial}
-use Rattle.console.proofs.LineLaws.{room-for, taken-bad, taken-long, taken-more, taken-whole}
-use borrow.Author.Needs.{needs}
+use Rattle.console.proofs.LineLaws.{Tested, bytes-length, room-for, taken-bad, taken-long, taken-more, taken-whole}
 use Rattle.console.proofs.lines.take.Statement.{statement}
 use Rattle.console.proofs.lines.take.Tie as tie
 
--- where the four ways part: the arguments, the bytes from index `from` on, and how many of them stand before the first LF
-abbrev Chunk : tie.After-start → List ℕ
-Chunk s = s .before .before .before .before .before .before .args .chunk .now
+-- where the four ways part
+abbrev Rest : tie.After-fits2 → List ℕ
+Rest s = s .before .before .rest .result .now
 
-abbrev From : tie.After-start → ℕ
-From s = s .before .before .before .before .before .before .args .from
+abbrev N : tie.After-fits2 → ℕ
+N s = s .before .index-of .result
 
-abbrev Buffer : tie.After-start → List ℕ
-Buffer s = s .before .before .before .before .before .before .args .buffer .now
-
-abbrev Held : tie.After-start → Partial
-Held s = s .before .before .before .before .before .before .args .partial
-
-abbrev Rest : tie.After-start → List ℕ
-Rest s = s .before .before .before .rest .result .now
-
-abbrev N : tie.After-start → ℕ
-N s = s .before .before .index-of .result
-
-abbrev Room : tie.After-start → Bool
-Room s = s .before .fits2 .result
-
-rest-length : (s : tie.After-start) → length (Rest s) ≡ length (Chunk s) - From s
-rest-length s = ap length (s .before .before .before .rest .ensures) ∙ length-drop (From s) (Chunk s)
-
-room : (s : tie.After-start) → (not (Held s .long) && Room s) ≡ true → Held s .length + (N s + 1) ≤ length (Buffer s)
-room s = room-for (Chunk s) (From s) (Buffer s) (Held s) (Rest s) (N s) (Room s) (s .before .before .before .rest .ensures) (s .before .before .index-of .ensures .index) (s .before .fits2 .ensures)
+tested : (s : tie.After-fits2)
+    → Tested (s .before .before .before .before .before .args .chunk .now) (s .before .before .before .before .before .args .from)
+    (s .before .before .before .before .before .args .buffer .now) (s .before .before .before .before .before .args .partial) (Rest s) (N s) (s .fits2 .result)
+tested s = record { bytes = s .before .before .rest .ensures; index = s .before .index-of .ensures .index; room = s .fits2 .ensures }
 
 rest-requires : tie.Need-rest-requires
 rest-requires c κs = search needs
@@ -52,9 +32,6 @@ add-fits c = search needs
 fits-requires : tie.Need-fits-requires
 fits-requires c κs = search needs
 
-start-requires : tie.Need-start-requires
-start-requires c κs = search needs
-
 add-end : tie.Need-add-end
 add-end c = search needs
 
@@ -65,52 +42,69 @@ put-requires : tie.Need-put-requires
 put-requires c κs =
     let s = c .before .before .before .before in
     let l = length-take-le (N s + 1) (Rest s) (omega arith) in
-    let r = room s (c .before .before .if2 .taken) in omega arith
+    let r = room-for (tested s) (c .before .before .if2 .taken) in omega arith
 
-add-t25 : tie.Need-add-t25
-add-t25 c = let s = c .before .before .before .before .before .before .before in omega (arith, rest-length s)
+add-answer : tie.Need-add-answer
+add-answer c = omega (arith, bytes-length (tested (c .before .before .before .before .before .before .before)))
+
+start-requires : tie.Need-start-requires
+start-requires c κs = search needs
+
+answer-requires : tie.Need-answer-requires
+answer-requires c κs = search needs
 
 same-length : tie.Need-same-length
 same-length c = search needs
 
 returns : tie.Need-returns
 returns c =
-    let s = c .before .before .before .before .before .before .before in
-    let p = c .before .before in
-    taken-whole (Chunk s) (From s) (Buffer s) (Held s) (Rest s) (N s) (Room s) (s .before .before .before .rest .ensures) (s .before .before .index-of .ensures .index) (s .before .fits2 .ensures) (c .before .before .before .before .before .before .if1 .taken) (c .before .before .before .before .before .if2 .taken) (s .start .result) (p .put .result) (p .put .last .0) (s .start .ensures) (p .put .ensures)
+    let p = c .before .before .before .before in
+    let t = p .before .before .before in
+    taken-whole (tested (t .before .before)) (t .before .if1 .taken) (t .if2 .taken) (c .answer .ensures) (c .before .start .ensures) (p .put .ensures)
 
-add-t27 : tie.Need-add-t27
-add-t27 c = let s = c .before .before in omega (arith, rest-length s)
+add-answer-2 : tie.Need-add-answer-2
+add-answer-2 c = omega (arith, bytes-length (tested (c .before .before)))
+
+start-requires-2 : tie.Need-start-requires-2
+start-requires-2 c κs = search needs
+
+answer-requires-2 : tie.Need-answer-requires-2
+answer-requires-2 c κs = search needs
 
 returns-2 : tie.Need-returns-2
 returns-2 c =
-    let s = c .before .before in
-    taken-bad (Chunk s) (From s) (Buffer s) (Held s) (Rest s) (N s) (Room s) (s .before .before .before .rest .ensures) (s .before .before .index-of .ensures .index) (s .before .fits2 .ensures) (c .before .if1 .taken) (c .if2 .left) (s .start .result) (s .start .ensures)
+    let t = c .before .before in
+    taken-bad (tested (t .before .before)) (t .before .if1 .taken) (t .if2 .left) (c .answer2 .ensures) (c .before .start2 .ensures)
 
 put-requires-2 : tie.Need-put-requires-2
-put-requires-2 c κs =
-    let s = c .before .before .before in
-    let r = room s (c .before .if3 .taken) in omega arith
+put-requires-2 c κs = let r = room-for (tested (c .before .before .before)) (c .before .if3 .taken) in omega arith
 
-add-t31 : tie.Need-add-t31
-add-t31 c = let s = c .before .before .before .before .before .before in omega (arith, rest-length s)
+add-answer-3 : tie.Need-add-answer-3
+add-answer-3 c = omega (arith, bytes-length (tested (c .before .before .before .before .before .before)))
+
+held-requires : tie.Need-held-requires
+held-requires c κs = search needs
+
+answer-requires-3 : tie.Need-answer-requires-3
+answer-requires-3 c κs = search needs
 
 same-length-2 : tie.Need-same-length-2
 same-length-2 c = search needs
 
 returns-3 : tie.Need-returns-3
 returns-3 c =
-    let s = c .before .before .before .before .before .before in
-    let p = c .before .before in
-    taken-more (Chunk s) (From s) (Buffer s) (Held s) (Rest s) (N s) (Room s) (s .before .before .before .rest .ensures) (s .before .before .index-of .ensures .index) (s .before .fits2 .ensures) (c .before .before .before .before .before .if1 .left) (c .before .before .before .before .if3 .taken) (p .put2 .result) (p .put2 .last .0) (p .put2 .ensures)
+    let p = c .before .before .before .before in
+    let t = p .before .before in
+    taken-more (tested (t .before .before)) (t .before .if1 .left) (t .if3 .taken) (c .answer3 .ensures) (c .before .held .ensures) (p .put2 .ensures)
 
-add-t19 : tie.Need-add-t19
-add-t19 c = let s = c .before .before in omega (arith, rest-length s)
+add-answer-4 : tie.Need-add-answer-4
+add-answer-4 c = omega (arith, bytes-length (tested (c .before .before)))
+
+answer-requires-4 : tie.Need-answer-requires-4
+answer-requires-4 c κs = search needs
 
 returns-4 : tie.Need-returns-4
-returns-4 c =
-    let s = c .before .before in
-    taken-long (Chunk s) (From s) (Buffer s) (Held s) (Rest s) (N s) (Room s) (s .before .before .before .rest .ensures) (s .before .before .index-of .ensures .index) (s .before .fits2 .ensures) (c .before .if1 .left) (c .if3 .left)
+returns-4 c = let t = c .before in taken-long (tested (t .before .before)) (t .before .if1 .left) (t .if3 .left) (c .answer4 .ensures)
 
 pub take-spec : {M : Type 1} → statement M
 take-spec =
@@ -120,18 +114,24 @@ take-spec =
     index-of-requires
     add-fits
     fits-requires
-    start-requires
     add-end
     slice-aggregate-put
     put-requires
-    add-t25
+    add-answer
+    start-requires
+    answer-requires
     same-length
     returns
-    add-t27
+    add-answer-2
+    start-requires-2
+    answer-requires-2
     returns-2
     put-requires-2
-    add-t31
+    add-answer-3
+    held-requires
+    answer-requires-3
     same-length-2
     returns-3
-    add-t19
+    add-answer-4
+    answer-requires-4
     returns-4)

@@ -1,36 +1,30 @@
 use borrow.Author.Needs.{needs}
 use mathlib.Core.Path.{refl}
 use lib.ListN.{length}
-use Rattle.console.proofs.TextLaws.{appended, left-out, room-for}
-use borrow.Author.Needs.{needs}
+use Rattle.console.proofs.TextLaws.{Tested, appended, left-out, room-for}
 use Rattle.console.proofs.text.append.Statement.{statement}
 use Rattle.console.proofs.text.append.Tie as tie
+
+-- where the two ways part
+tested : (s : tie.After-fits2)
+    → Tested (s .before .before .before .args .out .now) (s .before .before .before .args .at) (s .before .before .before .args .text .now)
+    (length (s .before .before .before .args .text .now)) (s .fits2 .result)
+tested s = record { count = refl; room = s .fits2 .ensures }
 
 fits-requires : tie.Need-fits-requires
 fits-requires c κs = search needs
 
 put-requires : tie.Need-put-requires
-put-requires c κs =
-    let f = c .before .before in
-    let a = f .before .before .before .args in
-    room-for (a .out .now) (a .at) (a .text .now) (length (a .text .now)) (f .fits2 .result) refl (f .fits2 .ensures) (c .before .if1 .taken)
+put-requires c κs = room-for (tested (c .before .before)) (c .before .if1 .taken)
 
 same-length : tie.Need-same-length
 same-length c = search needs
 
 returns : tie.Need-returns
-returns c =
-    let p = c .before .before in
-    let t = p .before .before in
-    let f = t .before in
-    let a = f .before .before .before .args in
-    appended (a .out .now) (a .at) (a .text .now) (length (a .text .now)) (f .fits2 .result) refl (f .fits2 .ensures) (t .if1 .taken) (p .put .result) (p .put .last .0) (p .put .ensures)
+returns c = let t = c .before .before .before .before in appended (tested (t .before)) (t .if1 .taken) (c .before .before .put .ensures)
 
 returns-2 : tie.Need-returns-2
-returns-2 c =
-    let f = c .before in
-    let a = f .before .before .before .args in
-    left-out (a .out .now) (a .at) (a .text .now) (length (a .text .now)) (f .fits2 .result) refl (f .fits2 .ensures) (c .if1 .left)
+returns-2 c = left-out (tested (c .before)) (c .if1 .left)
 
 pub append-spec : {M : Type 1} → statement M
 append-spec = tie.close (tie.spec fits-requires put-requires same-length returns returns-2)

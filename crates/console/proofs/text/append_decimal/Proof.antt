@@ -1,9 +1,14 @@
 use borrow.Author.Needs.{needs}
 use Rattle.console.specs.Text.{decimalOf}
-use Rattle.console.proofs.TextLaws.{appended, left-out, room-for}
-use borrow.Author.Needs.{needs}
+use Rattle.console.proofs.TextLaws.{Tested, appended, left-out, room-for}
 use Rattle.console.proofs.text.append_decimal.Statement.{statement}
 use Rattle.console.proofs.text.append_decimal.Tie as tie
+
+-- where the two ways part
+tested : (s : tie.After-fits2)
+    → Tested (s .before .before .before .args .out .now) (s .before .before .before .args .at) (decimalOf (s .before .before .before .args .n))
+    (s .before .decimal-length .result) (s .fits2 .result)
+tested s = record { count = s .before .decimal-length .ensures .count; room = s .fits2 .ensures }
 
 decimal-length-requires : tie.Need-decimal-length-requires
 decimal-length-requires c κs = search needs
@@ -12,30 +17,16 @@ fits-requires : tie.Need-fits-requires
 fits-requires c κs = search needs
 
 put-decimal-requires : tie.Need-put-decimal-requires
-put-decimal-requires c κs =
-    let f = c .before .before in
-    let d = f .before .decimal-length in
-    let a = f .before .before .before .args in
-    room-for (a .out .now) (a .at) (decimalOf (a .n)) (d .result) (f .fits2 .result) (d .ensures .count) (f .fits2 .ensures) (c .before .if1 .taken)
+put-decimal-requires c κs = room-for (tested (c .before .before)) (c .before .if1 .taken)
 
 same-length : tie.Need-same-length
 same-length c = search needs
 
 returns : tie.Need-returns
-returns c =
-    let p = c .before .before in
-    let t = p .before .before in
-    let f = t .before in
-    let d = f .before .decimal-length in
-    let a = f .before .before .before .args in
-    appended (a .out .now) (a .at) (decimalOf (a .n)) (d .result) (f .fits2 .result) (d .ensures .count) (f .fits2 .ensures) (t .if1 .taken) (p .put-decimal .result) (p .put-decimal .last .0) (p .put-decimal .ensures)
+returns c = let t = c .before .before .before .before in appended (tested (t .before)) (t .if1 .taken) (c .before .before .put-decimal .ensures)
 
 returns-2 : tie.Need-returns-2
-returns-2 c =
-    let f = c .before in
-    let d = f .before .decimal-length in
-    let a = f .before .before .before .args in
-    left-out (a .out .now) (a .at) (decimalOf (a .n)) (d .result) (f .fits2 .result) (d .ensures .count) (f .fits2 .ensures) (c .if1 .left)
+returns-2 c = left-out (tested (c .before)) (c .if1 .left)
 
 pub append-decimal-spec : {M : Type 1} → statement M
 append-decimal-spec =

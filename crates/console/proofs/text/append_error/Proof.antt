@@ -3,27 +3,27 @@ use mathlib.Core.List.{List}
 use mathlib.Core.Path.{_≡_}
 use Prim.Native.Nat.{ℕ, _+_}
 use native.Mathlib.Omega.{arith}
-use lib.ListN.{length}
 use Rattle.label.specs.Errno.{carriedOf}
 use Rattle.console.specs.Text.{errorText, refusalText}
-use Rattle.console.proofs.TextLaws.{appended, left-out, refusal-length, room-for}
-use borrow.Author.Needs.{needs}
+use Rattle.console.proofs.TextLaws.{Tested, appended, left-out, refusal-length, room-for}
 use Rattle.console.proofs.text.append_error.Statement.{statement}
 use Rattle.console.proofs.text.append_error.Tie as tie
 
--- where the two ways part: the line to print, and its size
+-- where the two ways part: the line to print
 abbrev Line : tie.After-fits2 → List ℕ
-Line f = refusalText (f .before .before .before .before .number .result) (carriedOf (f .before .before .before .detail .result))
+Line s = refusalText (s .before .before .before .before .number .result) (carriedOf (s .before .before .before .detail .result))
 
-abbrev Size : tie.After-fits2 → ℕ
-Size f = 6 + f .before .before .decimal-length .result + f .before .carried-length .result + 1
-
-size-is : (f : tie.After-fits2) → Size f ≡ length (Line f)
-size-is f = omega (arith, refusal-length (f .before .before .before .before .number .result) (carriedOf (f .before .before .before .detail .result)))
-
-line-is : (f : tie.After-fits2) → errorText (f .before .before .before .before .before .before .args .e) ≡ Line f
+line-is : (s : tie.After-fits2) → errorText (s .before .before .before .before .before .before .args .e) ≡ Line s
 unfolding errorText
-line-is f = rw (← f .before .before .before .before .number .ensures, ← f .before .before .before .detail .ensures)
+line-is s = rw (← s .before .before .before .before .number .ensures, ← s .before .before .before .detail .ensures)
+
+tested : (s : tie.After-fits2)
+    → Tested (s .before .before .before .before .before .before .args .out .now) (s .before .before .before .before .before .before .args .at) (Line s)
+    (6 + s .before .before .decimal-length .result + s .before .carried-length .result + 1) (s .fits2 .result)
+tested s = record {
+  count = omega (arith, refusal-length (s .before .before .before .before .number .result) (carriedOf (s .before .before .before .detail .result)));
+  room = s .fits2 .ensures;
+}
 
 number-requires : tie.Need-number-requires
 number-requires c κs = search needs
@@ -53,27 +53,18 @@ fits-requires : tie.Need-fits-requires
 fits-requires c κs = search needs
 
 put-refusal-requires : tie.Need-put-refusal-requires
-put-refusal-requires c κs =
-    let f = c .before .before in
-    let a = f .before .before .before .before .before .before .args in
-    room-for (a .out .now) (a .at) (Line f) (Size f) (f .fits2 .result) (size-is f) (f .fits2 .ensures) (c .before .if1 .taken)
+put-refusal-requires c κs = room-for (tested (c .before .before)) (c .before .if1 .taken)
 
 same-length : tie.Need-same-length
 same-length c = search needs
 
 returns : tie.Need-returns
 returns c =
-    let p = c .before .before in
-    let t = p .before .before in
-    let f = t .before in
-    let a = f .before .before .before .before .before .before .args in
-    rw (line-is f) (appended (a .out .now) (a .at) (Line f) (Size f) (f .fits2 .result) (size-is f) (f .fits2 .ensures) (t .if1 .taken) (p .put-refusal .result) (p .put-refusal .last .0) (p .put-refusal .ensures))
+    let t = c .before .before .before .before in
+    rw (line-is (t .before)) (appended (tested (t .before)) (t .if1 .taken) (c .before .before .put-refusal .ensures))
 
 returns-2 : tie.Need-returns-2
-returns-2 c =
-    let f = c .before in
-    let a = f .before .before .before .before .before .before .args in
-    rw (line-is f) (left-out (a .out .now) (a .at) (Line f) (Size f) (f .fits2 .result) (size-is f) (f .fits2 .ensures) (c .if1 .left))
+returns-2 c = rw (line-is (c .before)) (left-out (tested (c .before)) (c .if1 .left))
 
 pub append-error-spec : {M : Type 1} → statement M
 append-error-spec =

@@ -7,7 +7,6 @@ use lib.ListN.{length}
 use Rattle.label.specs.Errno.{carriedOf}
 use Rattle.console.specs.Text.{carriedText, decimalOf}
 use Rattle.console.proofs.ByteLaws.{put-nil, puts}
-use borrow.Author.Needs.{needs}
 use Rattle.console.proofs.text.put_carried.Statement.{statement}
 use Rattle.console.proofs.text.put_carried.Tie as tie
 

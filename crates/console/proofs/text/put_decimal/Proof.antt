@@ -6,7 +6,7 @@ use lib.ListN.{length, length-set}
 use Rattle.console.specs.Bytes.{putAt}
 use Rattle.console.specs.Text.{decimalOf, digit}
 use Rattle.console.proofs.ByteLaws.{put-last, put-one}
-use Rattle.console.proofs.DecimalLaws.{decimal-more, decimal-one, decimal-some, length-more, length-one}
+use Rattle.console.proofs.DecimalLaws.{decimal-more, decimal-one, decimal-some, length-more}
 use Rattle.console.proofs.text.put_decimal.Statement.{statement}
 use Rattle.console.proofs.text.put_decimal.Tie as tie
 

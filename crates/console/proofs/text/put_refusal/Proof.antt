@@ -1,15 +1,10 @@
 use borrow.Author.Needs.{needs}
-use mathlib.Core.List.{List, [], _∷_, _++_}
-use mathlib.Core.Path.{_≡_}
-use Prim.Native.Nat.{ℕ, _+_}
 use native.Mathlib.Omega.{arith}
-use lib.ListN.{length, length-append}
+use lib.ListN.{length-append}
 use Rattle.label.specs.Errno.{carriedOf}
-use Rattle.console.specs.Bytes.{Put, lf}
-use Rattle.console.specs.Text.{carriedText, decimalOf, errorWord, refusalText}
+use Rattle.console.specs.Text.{errorWord, refusalText}
 use Rattle.console.proofs.ByteLaws.{puts}
 use Rattle.console.proofs.TextLaws.{refusal-length}
-use borrow.Author.Needs.{needs}
 use Rattle.console.proofs.text.put_refusal.Statement.{statement}
 use Rattle.console.proofs.text.put_refusal.Tie as tie
 
