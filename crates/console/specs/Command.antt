@@ -47,11 +47,12 @@ unfoldable pub numbersOf : List (List ℕ) → Option (List ℕ)
 numbersOf [] = some []
 numbersOf (f ∷ fs) = consOf (numberOf f) (numbersOf fs)
 
+-- x in front of the first field
 abbrev pub onFirst : ℕ → List (List ℕ) → List (List ℕ)
 onFirst x [] = []
 onFirst x (f ∷ fs) = (x ∷ f) ∷ fs
 
--- xs cut into fields at each b
+-- xs cut into fields at each b: one field more than there are b's
 unfoldable pub split : ℕ → List ℕ → List (List ℕ)
 split b [] = [] ∷ []
 split b (x ∷ xs) = cond (eqb x b) ([] ∷ split b xs) (onFirst x (split b xs))
@@ -82,14 +83,15 @@ invalid = record { valid = false; count = 0; numbers = replicate most 0 }
 abbrev pub withNumbers : List ℕ → Command
 withNumbers ns = record { valid = true; count = length ns; numbers = ns ++ replicate (most - length ns) 0 }
 
--- the command with those numbers, if there are as many as one may have
+-- the command with those numbers, if there are no more than a command may have
 abbrev pub ofNumbers : Option (List ℕ) → Command
 ofNumbers none = invalid
 ofNumbers (some ns) = cond (leb (length ns) most) (withNumbers ns) invalid
 
--- the fields after the first are its numbers
+-- the fields after the first, which is the word, are the numbers
 unfoldable pub bodyCommandOf : List ℕ → Command
 bodyCommandOf body = ofNumbers (numbersOf (othersOf (split blank body)))
 
+-- what a command line says
 unfoldable pub commandOf : List ℕ → Command
 commandOf line = cond (endedOf line) (bodyCommandOf (bodyOf line)) invalid

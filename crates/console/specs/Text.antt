@@ -14,12 +14,12 @@ use Rattle.console.specs.Bytes.{blank, lf, putAt}
 abbrev pub digit : ℕ → ℕ
 digit d = 48 + d
 
--- the decimal digits of n, where k steps are enough for them
+-- the decimal digits of n, by division by 10, where k steps are enough for them
 unfoldable pub decimalIn : ℕ → ℕ → List ℕ
 decimalIn zero n = []
 decimalIn (suc k) n = cond (ltb n 10) (digit n ∷ []) (decimalIn k (n / 10) ++ (digit (n % 10) ∷ []))
 
--- the decimal digits of n
+-- the decimal digits of n, for which n + 1 steps are enough (the laws `decimal-one` and `decimal-more` say it with no steps)
 unfoldable pub decimalOf : ℕ → List ℕ
 decimalOf n = decimalIn (suc n) n
 
@@ -36,6 +36,7 @@ carriedText (some n) = blank ∷ decimalOf n
 unfoldable pub refusalText : ℕ → Option ℕ → List ℕ
 refusalText n carried = errorWord ++ decimalOf n ++ carriedText carried ++ (lf ∷ [])
 
+-- the line that answers a refusal
 unfoldable pub errorText : Errno → List ℕ
 errorText e = refusalText (numberOf e) (detailOf e)
 

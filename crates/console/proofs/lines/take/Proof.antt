@@ -18,7 +18,7 @@ N s = s .before .index-of .result
 tested : (s : tie.After-fits2)
     → Tested (s .before .before .before .before .before .args .chunk .now) (s .before .before .before .before .before .args .from)
     (s .before .before .before .before .before .args .buffer .now) (s .before .before .before .before .before .args .partial) (Rest s) (N s) (s .fits2 .result)
-tested s = record { bytes = s .before .before .rest .ensures; index = s .before .index-of .ensures .index; room = s .fits2 .ensures }
+tested s = record { bytes = s .before .before .rest .ensures; index = s .before .index-of .ensures .index; room = search needs }
 
 rest-requires : tie.Need-rest-requires
 rest-requires c κs = search needs

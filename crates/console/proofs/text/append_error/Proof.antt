@@ -22,7 +22,7 @@ tested : (s : tie.After-fits2)
     (6 + s .before .before .decimal-length .result + s .before .carried-length .result + 1) (s .fits2 .result)
 tested s = record {
   count = omega (arith, refusal-length (s .before .before .before .before .number .result) (carriedOf (s .before .before .before .detail .result)));
-  room = s .fits2 .ensures;
+  room = search needs;
 }
 
 number-requires : tie.Need-number-requires
