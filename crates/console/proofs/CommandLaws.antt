@@ -1,0 +1,108 @@
+-- Fields and the numbers in them, as a loop over a line's body meets them. Assumes nothing.
+use mathlib.Core.Bool.{Bool, true, false, cond}
+use mathlib.Core.List.{List, [], _∷_, _++_, append-assoc, append-nil}
+use mathlib.Core.Option.{Option, none, some}
+use mathlib.Core.Path.{_≡_, refl, sym, ap, _∙_}
+use Prim.Native.Nat.{ℕ, zero, suc, _+_, _-_, _≤_, _<_}
+use native.Mathlib.Numerals.{add-one}
+use native.Mathlib.Omega.{arith}
+use lib.Dec.{eqb, leb}
+use lib.ListN.{drop, length, replicate, set, take, drop-of-length-le, length-append, take-append-drop}
+use lib.Seq.{drop-cons, drop-drop, drop-set-lt, length-take-le, take-suc-set}
+use borrow.Author.Tests.{eq-eqb, le-leb, lt-leb, ne-eqb}
+use Rattle.console.specs.Bytes.{blank, indexOf, lf}
+use Rattle.console.specs.Command.{bodyCommandOf, bodyOf, commandOf, consOf, endedOf, invalid, most, numberOf, numbersOf, ofNumbers, onFirst, split, wordOf}
+use Rattle.console.specs.declared.command.Command.{Command}
+
+-- the fields behind the first, from the b that ends it
+abbrev pub fieldsFrom : ℕ → List ℕ → List (List ℕ)
+fieldsFrom b [] = []
+fieldsFrom b (x ∷ xs) = split b xs
+
+-- the first field ends at the first b
+pub split-first : (b : ℕ) (xs : List ℕ) → split b xs ≡ take (indexOf b xs) xs ∷ fieldsFrom b (drop (indexOf b xs) xs)
+unfolding split indexOf
+split-first b [] = refl
+split-first b (x ∷ xs) = pick (eqb x b) (split-first b xs)
+  where
+    pick : (t : Bool) → split b xs ≡ take (indexOf b xs) xs ∷ fieldsFrom b (drop (indexOf b xs) xs)
+        → cond t ([] ∷ split b xs) (onFirst x (split b xs)) ≡ take (cond t zero (suc (indexOf b xs))) (x ∷ xs) ∷ fieldsFrom b (drop (cond t zero (suc (indexOf b xs))) (x ∷ xs))
+    pick true ih = refl
+    pick false ih = ap (onFirst x) ih
+
+-- the word, from the two indexes that end it
+pub word-from : (line : List ℕ) (end n : ℕ) → end ≡ indexOf lf line → n ≡ indexOf blank (take end line) → take n (take end line) ≡ wordOf line
+unfolding wordOf bodyOf
+word-from line end n e f = rw (split-first blank (take (indexOf lf line) line), f, e)
+
+-- the numbers ns before others, if there are others
+abbrev pub after : List ℕ → Option (List ℕ) → Option (List ℕ)
+after ns none = none
+after ns (some ms) = some (ns ++ ms)
+
+after-nil : (o : Option (List ℕ)) → after [] o ≡ o
+after-nil none = refl
+after-nil (some ns) = refl
+
+after-cons : (ns : List ℕ) (v : ℕ) (o : Option (List ℕ)) → after ns (consOf (some v) o) ≡ after (ns ++ (v ∷ [])) o
+after-cons ns v none = refl
+after-cons ns v (some ms) = ap some (sym (append-assoc ns (v ∷ []) ms))
+
+too-many : (ns : List ℕ) (n : Option ℕ) (o : Option (List ℕ)) → length ns ≡ most → ofNumbers (after ns (consOf n o)) ≡ invalid
+too-many ns none o h = refl
+too-many ns (some n) none h = refl
+too-many ns (some n) (some ms) h =
+    let l : leb (length (ns ++ n ∷ ms)) most ≡ false = lt-leb (length (ns ++ n ∷ ms)) most (omega (arith, length-append ns (n ∷ ms))) in rw l
+
+-- the command whose numbers so far are ns, where the other fields begin in the bytes xs
+abbrev pub commandFrom : List ℕ → List ℕ → Command
+commandFrom ns xs = ofNumbers (after ns (numbersOf (fieldsFrom blank xs)))
+
+module _ (body : List ℕ) where
+  pub body-start : bodyCommandOf body ≡ commandFrom [] (drop (indexOf blank body) body)
+  unfolding bodyCommandOf
+  body-start = rw (split-first blank body, after-nil)
+
+  -- the field behind the blank at index at: xs are the bytes from there on, n of them before the next blank
+  module _ (at : ℕ) (h : at < length body) (xs : List ℕ) (n : ℕ) (bytes : xs ≡ drop (at + 1) body) (index : n ≡ indexOf blank xs) where
+    one-field : (ns : List ℕ) → commandFrom ns (drop at body) ≡ ofNumbers (after ns (consOf (numberOf (take n xs)) (numbersOf (fieldsFrom blank (drop n xs)))))
+    unfolding numbersOf
+    one-field ns = rw (drop-cons body at 0 h, ← add-one at, ← bytes, split-first blank xs, ← index)
+
+    pub body-bad : (ns : List ℕ) → numberOf (take n xs) ≡ none → commandFrom ns (drop at body) ≡ invalid
+    body-bad ns e = one-field ns ∙ rw e
+
+    pub body-next : (ns : List ℕ) (v : ℕ) → numberOf (take n xs) ≡ some v → commandFrom ns (drop at body) ≡ commandFrom (ns ++ (v ∷ [])) (drop (at + 1 + n) body)
+    body-next ns v e = one-field ns ∙ rw (e, after-cons ns v, ← drop-drop n (at + 1) body, ← bytes)
+
+  pub body-full : (at : ℕ) → at < length body → (ns : List ℕ) → length ns ≡ most → commandFrom ns (drop at body) ≡ invalid
+  body-full at h ns e =
+      let xs = drop (at + 1) body in
+      let n = indexOf blank xs in one-field at h xs n refl refl ns ∙ too-many ns (numberOf (take n xs)) (numbersOf (fieldsFrom blank (drop n xs))) e
+
+  pub body-end : (at : ℕ) (numbers : List ℕ) (count : ℕ) → length body ≤ at → length numbers ≡ most → count ≤ most → drop count numbers ≡ replicate (most - count) 0
+      → commandFrom (take count numbers) (drop at body) ≡ record { valid = true; count = count; numbers = numbers }
+  unfolding numbersOf
+  body-end at numbers count h l m z =
+      let e : length (take count numbers) ≡ count = length-take-le count numbers (omega arith) in
+      let w : take count numbers ++ replicate (most - count) 0 ≡ numbers = rw (← z) (take-append-drop count numbers) in
+      rw (drop-of-length-le body h, append-nil, e, le-leb count most m, w)
+
+-- the zeros past the count after one more number
+pub zeros-next : (numbers : List ℕ) (count n : ℕ) → count < most → drop count numbers ≡ replicate (most - count) 0 → drop (count + 1) (set numbers count n) ≡ replicate (most - (count + 1)) 0
+zeros-next numbers count n h e =
+    let k : most - count ≡ suc (most - (count + 1)) = omega arith in
+    drop-set-lt (count + 1) numbers count n (omega arith) ∙ sym (drop-drop 1 count numbers) ∙ rw (e, k)
+
+pub numbers-next : (numbers : List ℕ) (count n : ℕ) → count < length numbers → take (count + 1) (set numbers count n) ≡ take count numbers ++ (n ∷ [])
+numbers-next numbers count n h = rw (add-one) (take-suc-set numbers count n h)
+
+-- the line's first LF, and whether it is the last byte
+module _ (line : List ℕ) (end : ℕ) (e : end ≡ indexOf lf line) where
+  pub line-ended : end + 1 ≡ length line → commandOf line ≡ bodyCommandOf (take end line)
+  unfolding commandOf endedOf bodyOf
+  line-ended h = rw (← e, eq-eqb (end + 1) (length line) h)
+
+  pub line-invalid : (end + 1 ≡ length line → ⊥) → commandOf line ≡ invalid
+  unfolding commandOf endedOf
+  line-invalid h = rw (← e, ne-eqb (end + 1) (length line) h)

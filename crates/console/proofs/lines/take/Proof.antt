@@ -1,0 +1,137 @@
+use borrow.Author.Needs.{needs}
+use mathlib.Core.List.{List}
+use mathlib.Core.Path.{sym}
+use Prim.Native.Nat.{ℕ, _+_}
+use native.Mathlib.Omega.{arith}
+use lib.Seq.{length-take-le}
+use Rattle.console.proofs.LineLaws.{Tested, bytes-length, room-for, taken-bad, taken-long, taken-more, taken-whole}
+use Rattle.console.proofs.lines.take.Statement.{statement}
+use Rattle.console.proofs.lines.take.Tie as tie
+
+-- where the four ways part
+abbrev Rest : tie.After-fits2 → List ℕ
+Rest s = s .before .before .rest .result .now
+
+abbrev N : tie.After-fits2 → ℕ
+N s = s .before .index-of .result
+
+tested : (s : tie.After-fits2)
+    → Tested (s .before .before .before .before .before .args .chunk .now) (s .before .before .before .before .before .args .from)
+    (s .before .before .before .before .before .args .buffer .now) (s .before .before .before .before .before .args .partial) (Rest s) (N s) (s .fits2 .result)
+tested s = record { bytes = s .before .before .rest .ensures; index = s .before .index-of .ensures .index; room = search needs }
+
+rest-requires : tie.Need-rest-requires
+rest-requires c κs = search needs
+
+index-of-requires : tie.Need-index-of-requires
+index-of-requires c κs = search needs
+
+add-fits : tie.Need-add-fits
+add-fits c = search needs
+
+fits-requires : tie.Need-fits-requires
+fits-requires c κs = search needs
+
+add-end : tie.Need-add-end
+add-end c = search needs
+
+slice-aggregate-put : tie.Need-slice-aggregate-put
+slice-aggregate-put c = let s = c .before .before .before .before in sym (length-take-le (N s + 1) (Rest s) (omega arith))
+
+put-requires : tie.Need-put-requires
+put-requires c κs =
+    let s = c .before .before .before .before in
+    let l = length-take-le (N s + 1) (Rest s) (omega arith) in
+    let r = room-for (tested s) (c .before .before .if2 .taken) in omega arith
+
+add-answer : tie.Need-add-answer
+add-answer c = omega (arith, bytes-length (tested (c .before .before .before .before .before .before .before)))
+
+start-requires : tie.Need-start-requires
+start-requires c κs = search needs
+
+answer-requires : tie.Need-answer-requires
+answer-requires c κs = search needs
+
+same-length : tie.Need-same-length
+same-length c = search needs
+
+returns : tie.Need-returns
+returns c =
+    let p = c .before .before .before .before in
+    let t = p .before .before .before in
+    taken-whole (tested (t .before .before)) (t .before .if1 .taken) (t .if2 .taken) (c .answer .ensures) (c .before .start .ensures) (p .put .ensures)
+
+add-answer-2 : tie.Need-add-answer-2
+add-answer-2 c = omega (arith, bytes-length (tested (c .before .before)))
+
+start-requires-2 : tie.Need-start-requires-2
+start-requires-2 c κs = search needs
+
+answer-requires-2 : tie.Need-answer-requires-2
+answer-requires-2 c κs = search needs
+
+returns-2 : tie.Need-returns-2
+returns-2 c =
+    let t = c .before .before in
+    taken-bad (tested (t .before .before)) (t .before .if1 .taken) (t .if2 .left) (c .answer2 .ensures) (c .before .start2 .ensures)
+
+put-requires-2 : tie.Need-put-requires-2
+put-requires-2 c κs = let r = room-for (tested (c .before .before .before)) (c .before .if3 .taken) in omega arith
+
+add-answer-3 : tie.Need-add-answer-3
+add-answer-3 c = omega (arith, bytes-length (tested (c .before .before .before .before .before .before)))
+
+held-requires : tie.Need-held-requires
+held-requires c κs = search needs
+
+answer-requires-3 : tie.Need-answer-requires-3
+answer-requires-3 c κs = search needs
+
+same-length-2 : tie.Need-same-length-2
+same-length-2 c = search needs
+
+returns-3 : tie.Need-returns-3
+returns-3 c =
+    let p = c .before .before .before .before in
+    let t = p .before .before in
+    taken-more (tested (t .before .before)) (t .before .if1 .left) (t .if3 .taken) (c .answer3 .ensures) (c .before .held .ensures) (p .put2 .ensures)
+
+add-answer-4 : tie.Need-add-answer-4
+add-answer-4 c = omega (arith, bytes-length (tested (c .before .before)))
+
+answer-requires-4 : tie.Need-answer-requires-4
+answer-requires-4 c κs = search needs
+
+returns-4 : tie.Need-returns-4
+returns-4 c = let t = c .before in taken-long (tested (t .before .before)) (t .before .if1 .left) (t .if3 .left) (c .answer4 .ensures)
+
+pub take-spec : {M : Type 1} → statement M
+take-spec =
+    tie.close
+    (tie.spec
+    rest-requires
+    index-of-requires
+    add-fits
+    fits-requires
+    add-end
+    slice-aggregate-put
+    put-requires
+    add-answer
+    start-requires
+    answer-requires
+    same-length
+    returns
+    add-answer-2
+    start-requires-2
+    answer-requires-2
+    returns-2
+    put-requires-2
+    add-answer-3
+    held-requires
+    answer-requires-3
+    same-length-2
+    returns-3
+    add-answer-4
+    answer-requires-4
+    returns-4)

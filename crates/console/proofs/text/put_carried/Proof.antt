@@ -1,0 +1,62 @@
+use borrow.Author.Needs.{needs}
+use mathlib.Core.Path.{_≡_, sym}
+use Prim.Native.Nat.{suc}
+use native.Mathlib.Nat.{add-zero}
+use native.Mathlib.Omega.{arith}
+use lib.ListN.{length}
+use Rattle.label.specs.Errno.{carriedOf}
+use Rattle.console.specs.Text.{carriedText, decimalOf}
+use Rattle.console.proofs.ByteLaws.{put-nil, puts}
+use Rattle.console.proofs.text.put_carried.Statement.{statement}
+use Rattle.console.proofs.text.put_carried.Tie as tie
+
+-- where a number is carried
+text-length : (s : tie.After-carried) → length (carriedText (carriedOf (s .before .before .before .args .carried))) ≡ suc (length (decimalOf (s .carried .given .0 .0)))
+unfolding carriedText
+text-length s = rw (s .carried .given .1)
+
+enum-known-carried : tie.Need-enum-known-carried
+enum-known-carried c = search needs
+
+slice-aggregate-put : tie.Need-slice-aggregate-put
+slice-aggregate-put c = search needs
+
+put-requires : tie.Need-put-requires
+put-requires c κs = omega (arith, text-length (c .before .before .before))
+
+put-decimal-requires : tie.Need-put-decimal-requires
+put-decimal-requires c κs = omega (arith, text-length (c .before .before .before .before .before .before .before))
+
+enum-told : tie.Need-enum-told
+enum-told c = search needs
+
+same-length : tie.Need-same-length
+same-length c = search needs
+
+returns : tie.Need-returns
+unfolding carriedText
+returns c =
+    let p = c .before .before in
+    let w = p .before .before .before .before in
+    let s = w .before .before .before .before in
+    let a = s .before .before .before .args in
+    rw (s .carried .given .1) (puts (a .out .now) (a .at) (omega (arith, text-length s)) (w .put .ensures) (p .put-decimal .ensures))
+
+returns-2 : tie.Need-returns-2
+unfolding carriedText
+returns-2 c =
+    let a = c .before .before .before .args in
+    rw (c .enum-told .given .1) (record { past = sym (add-zero (a .at)); written = sym (put-nil (a .out .now) (a .at)) })
+
+pub put-carried-spec : {M : Type 1} → statement M
+put-carried-spec =
+    tie.close
+    (tie.spec
+    enum-known-carried
+    slice-aggregate-put
+    put-requires
+    put-decimal-requires
+    enum-told
+    same-length
+    returns
+    returns-2)

@@ -1,0 +1,97 @@
+-- A command line: a word and numbers, one blank between. Assumes nothing.
+use mathlib.Core.Bool.{Bool, true, false, _&&_, cond}
+use mathlib.Core.List.{List, [], _∷_, _++_}
+use mathlib.Core.Option.{Option, none, some}
+use Prim.Native.Nat.{ℕ, _+_, _-_, _*_, _^_}
+use lib.Dec.{eqb, leb, ltb}
+use lib.ListN.{length, replicate, take}
+use Rattle.console.specs.Bytes.{blank, indexOf, lf}
+use Rattle.console.specs.declared.command.Command.{Command}
+use Rattle.console.specs.declared.command.Number.{Number}
+use Rattle.console.specs.declared.command.Number.the-variants.{Value, Bad}
+
+-- how many numbers a command has at most
+abbrev pub most : ℕ
+most = 5
+
+-- whether each byte is one of `0` to `9`
+unfoldable pub digits : List ℕ → Bool
+digits [] = true
+digits (b ∷ bs) = leb 48 b && leb b 57 && digits bs
+
+-- the value of digits that follow digits of the value v
+unfoldable pub valueFrom : ℕ → List ℕ → ℕ
+valueFrom v [] = v
+valueFrom v (b ∷ bs) = valueFrom (v * 10 + (b - 48)) bs
+
+abbrev pub valueOf : List ℕ → ℕ
+valueOf bs = valueFrom 0 bs
+
+-- the number that a field is: one or more digits, with a value below 2 ^ 64
+unfoldable pub numberOf : List ℕ → Option ℕ
+numberOf bs = cond (ltb 0 (length bs) && digits bs && ltb (valueOf bs) (2 ^ 64)) (some (valueOf bs)) none
+
+-- what the enum Number says
+abbrev pub numberAnswerOf : Number → Option ℕ
+numberAnswerOf (Value v) = some v
+numberAnswerOf Bad = none
+
+-- a number and the numbers behind it, if there are both
+abbrev pub consOf : Option ℕ → Option (List ℕ) → Option (List ℕ)
+consOf none ns = none
+consOf (some n) none = none
+consOf (some n) (some ns) = some (n ∷ ns)
+
+-- the numbers that the fields are, if each is one
+unfoldable pub numbersOf : List (List ℕ) → Option (List ℕ)
+numbersOf [] = some []
+numbersOf (f ∷ fs) = consOf (numberOf f) (numbersOf fs)
+
+-- x in front of the first field
+abbrev pub onFirst : ℕ → List (List ℕ) → List (List ℕ)
+onFirst x [] = []
+onFirst x (f ∷ fs) = (x ∷ f) ∷ fs
+
+-- xs cut into fields at each b: one field more than there are b's
+unfoldable pub split : ℕ → List ℕ → List (List ℕ)
+split b [] = [] ∷ []
+split b (x ∷ xs) = cond (eqb x b) ([] ∷ split b xs) (onFirst x (split b xs))
+
+abbrev pub firstOf : List (List ℕ) → List ℕ
+firstOf [] = []
+firstOf (f ∷ fs) = f
+
+abbrev pub othersOf : List (List ℕ) → List (List ℕ)
+othersOf [] = []
+othersOf (f ∷ fs) = fs
+
+-- the line's bytes before its first LF, or all of them where there is none
+unfoldable pub bodyOf : List ℕ → List ℕ
+bodyOf line = take (indexOf lf line) line
+
+-- whether the line ends in LF and has no other
+unfoldable pub endedOf : List ℕ → Bool
+endedOf line = eqb (indexOf lf line + 1) (length line)
+
+-- the first field of the line
+unfoldable pub wordOf : List ℕ → List ℕ
+wordOf line = firstOf (split blank (bodyOf line))
+
+abbrev pub invalid : Command
+invalid = record { valid = false; count = 0; numbers = replicate most 0 }
+
+abbrev pub withNumbers : List ℕ → Command
+withNumbers ns = record { valid = true; count = length ns; numbers = ns ++ replicate (most - length ns) 0 }
+
+-- the command with those numbers, if there are no more than a command may have
+abbrev pub ofNumbers : Option (List ℕ) → Command
+ofNumbers none = invalid
+ofNumbers (some ns) = cond (leb (length ns) most) (withNumbers ns) invalid
+
+-- the fields after the first, which is the word, are the numbers
+unfoldable pub bodyCommandOf : List ℕ → Command
+bodyCommandOf body = ofNumbers (numbersOf (othersOf (split blank body)))
+
+-- what a command line says
+unfoldable pub commandOf : List ℕ → Command
+commandOf line = cond (endedOf line) (bodyCommandOf (bodyOf line)) invalid

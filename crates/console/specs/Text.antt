@@ -1,0 +1,63 @@
+-- What is printed. Assumes nothing.
+use mathlib.Core.Bool.{cond}
+use mathlib.Core.List.{List, [], _∷_, _++_}
+use mathlib.Core.Option.{Option, none, some}
+use mathlib.Core.Path.{_≡_}
+use Prim.Native.Nat.{ℕ, zero, suc, _+_, _/_, _%_, _≤_, max, min}
+use lib.Dec.{leb, ltb}
+use lib.ListN.{length, take}
+use Rattle.label.specs.Errno.{detailOf, numberOf}
+use Rattle.label.specs.declared.errno.Errno.{Errno}
+use Rattle.console.specs.Bytes.{blank, lf, putAt}
+
+-- the byte of a decimal digit
+abbrev pub digit : ℕ → ℕ
+digit d = 48 + d
+
+-- the decimal digits of n, by division by 10, where k steps are enough for them
+unfoldable pub decimalIn : ℕ → ℕ → List ℕ
+decimalIn zero n = []
+decimalIn (suc k) n = cond (ltb n 10) (digit n ∷ []) (decimalIn k (n / 10) ++ (digit (n % 10) ∷ []))
+
+-- the decimal digits of n, for which n + 1 steps are enough (the laws `decimal-one` and `decimal-more` say it with no steps)
+unfoldable pub decimalOf : ℕ → List ℕ
+decimalOf n = decimalIn (suc n) n
+
+-- `error `
+unfoldable pub errorWord : List ℕ
+errorWord = 101 ∷ 114 ∷ 114 ∷ 111 ∷ 114 ∷ blank ∷ []
+
+-- a blank and the one more number that a refusal may carry
+unfoldable pub carriedText : Option ℕ → List ℕ
+carriedText none = []
+carriedText (some n) = blank ∷ decimalOf n
+
+-- `error N` or `error N M`, and LF
+unfoldable pub refusalText : ℕ → Option ℕ → List ℕ
+refusalText n carried = errorWord ++ decimalOf n ++ carriedText carried ++ (lf ∷ [])
+
+-- the line that answers a refusal
+unfoldable pub errorText : Errno → List ℕ
+errorText e = refusalText (numberOf e) (detailOf e)
+
+-- the index past the bytes bs at index at of a buffer of size bytes, or at where they do not fit
+unfoldable pub pastOf : ℕ → ℕ → List ℕ → ℕ
+pastOf size at bs = cond (leb (at + length bs) size) (at + length bs) at
+
+-- out with the bytes bs from index at on, or as it was where they do not fit
+unfoldable pub appendedOf : List ℕ → ℕ → List ℕ → List ℕ
+appendedOf out at bs = cond (leb (at + length bs) (length out)) (putAt out at bs) out
+
+-- r and the buffer `after` are what appending the bytes bs makes. The last three follow, and are stated for callers: r is an index of the
+-- buffer, if at is one
+pub record Appended (out : List ℕ) (at : ℕ) (bs : List ℕ) (r : ℕ) (after : List ℕ) : Type 0 where
+  pub past : r ≡ pastOf (length out) at bs
+  pub written : after ≡ appendedOf out at bs
+  pub same-length : length after ≡ length out
+  pub within : r ≤ max at (length after)
+  pub counted : length (take r after) ≡ min r (length after)
+
+-- r is how many bytes bs has, and that is at most n
+pub record Counted (n : ℕ) (bs : List ℕ) (r : ℕ) : Type 0 where
+  pub count : r ≡ length bs
+  pub at-most : r ≤ n
