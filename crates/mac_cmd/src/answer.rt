@@ -3,7 +3,6 @@
 use crate::request::Request;
 use console::text;
 use hexline::Kind;
-use hexline::entry;
 use label::Label;
 use label::LabelAnswer;
 use label::Next;
@@ -151,23 +150,36 @@ fn one_label(r: Request, number: u64, a: &[u8], out: &mut [u8]) -> usize {
     }
 }
 
-fn contains(a: &[u8], b: &[u8], out: &mut [u8]) -> usize {
-    let l = hexline::read_label(b);
+fn range_contains(a: &[u8], b: &[u8], out: &mut [u8]) -> usize {
     let x = hexline::read_range(a);
-    let t = hexline::read_tuple(a);
-    let is_label = l.outcome;
-    let is_range = x.outcome;
-    let is_tuple = t.outcome;
-    if !granted(is_label) {
-        return invalid(out);
-    }
-    if granted(is_range) {
+    let l = hexline::read_label(b);
+    let first = x.outcome;
+    let second = l.outcome;
+    if granted(first) & granted(second) {
         return put_test(range::contains(x.range, l.label), out);
     }
-    if granted(is_tuple) {
+    invalid(out)
+}
+
+fn tuple_contains(a: &[u8], b: &[u8], out: &mut [u8]) -> usize {
+    let t = hexline::read_tuple(a);
+    let l = hexline::read_label(b);
+    let first = t.outcome;
+    let second = l.outcome;
+    if granted(first) & granted(second) {
         return put_test(tuple::contains(t.tuple, l.label), out);
     }
     invalid(out)
+}
+
+// The first operand's kind says which of the two is meant.
+fn contains(a: &[u8], b: &[u8], out: &mut [u8]) -> usize {
+    let kind = hexline::kind_of(a);
+    match kind {
+        Kind::OfRange => range_contains(a, b, out),
+        Kind::OfTuple => tuple_contains(a, b, out),
+        _ => invalid(out),
+    }
 }
 
 fn meet_ranges(a: &[u8], b: &[u8], out: &mut [u8]) -> usize {

@@ -6,6 +6,7 @@ mod session;
 
 use crate::session::Session;
 use libc::STDIN_FILENO;
+ghost use Prim.Native.Nat.{_<_};
 
 // What one read of the input leaves, and whether there may be more.
 struct Turn {
@@ -30,6 +31,14 @@ fn read_some(s: Session, line: &mut [u8], operand: &mut [u8]) -> Turn {
     }
 }
 
+// The turns that are left: none at the end of the input.
+fn turns_left(turns: u64, more: bool) -> u64
+    requires { ⌜ 0 < turns ⌝ }
+    ensures { λ r. ⌜ r < turns ⌝ }
+{
+    if more { turns - 1 } else { 0 }
+}
+
 // A proved loop has to end, and nothing says that the input does: the turns are counted down from a number that no run uses up.
 fn run(line: &mut [u8], operand: &mut [u8]) {
     let mut s = session::start();
@@ -37,10 +46,7 @@ fn run(line: &mut [u8], operand: &mut [u8]) {
     while turns > 0 {
         let turn = read_some(s, line, operand);
         s = turn.session;
-        if !turn.more {
-            break;
-        }
-        turns -= 1;
+        turns = turns_left(turns, turn.more);
     }
     session::finish(s, operand);
 }
