@@ -1,23 +1,25 @@
 -- The laws of labels and ranges as bytes: what is written reads back, and what is read is written as it stands. Assumes nothing.
+use mathlib.Core.Bool.{cond}
 use mathlib.Core.List.{List, [], _∷_, _++_}
 use mathlib.Core.Logic.{_⊎_, inl, inr, ⊎-elim}
 use mathlib.Core.Path.{_≡_, refl, sym, ap, ap₂, _∙_}
 use Prim.Native.Nat.{ℕ, zero, suc, _+_, _*_, _/_, _%_, _^_, _≤_, _<_}
 use native.Mathlib.Nat.{add-zero, mod-lt, zero-lt-suc}
 use native.Mathlib.Omega.{arith}
+use lib.Dec.{eqb}
 use lib.ListN.{drop, getD, length, take, length-append, length-drop, length-take, List·getD-append, List·getD-eq-default}
 use lib.Seq.{drop-cons, ext-getD, getD-append-add, getD-drop, getD-take, length-take-le, take-all, drop-drop, take-add}
 use borrow.Author.Tests.{le-ltb, lt-ltb}
 use Rattle.label.specs.Index.{tabulate}
 use Rattle.label.specs.Label
-use Rattle.label.specs.Words.{wordAt, words}
+use Rattle.label.specs.Words.{bit, has, wordAt, words}
 use Rattle.label.specs.declared.Label.{Label}
 use Rattle.label.proofs.IndexLaws.{le-or-lt, tabulate-at, tabulate-length}
 use Rattle.range.specs.Range
 use Rattle.range.specs.declared.Range.{Range}
-use Rattle.hexline.specs.Body.{byteAt, categoryByte, labelAt, labelBytes, labelSize, numberOf, rangeAt, rangeBytes, rangeSize, wordFrom}
+use Rattle.hexline.specs.Body.{byteAt, categoryBit, categoryByte, labelAt, labelBytes, labelSize, numberOf, rangeAt, rangeBytes, rangeSize, wordFrom}
 use Rattle.frame.proofs.FrameLaws.{Bytes}
-use Rattle.hexline.proofs.NumberLaws.{number-digit, number-only}
+use Rattle.hexline.proofs.NumberLaws.{as-number, byte-bit, number-digit, number-only}
 
 -- ---- bytes at an index
 
@@ -92,9 +94,22 @@ pub label-length : (w : ℕ) (l : Label) → length (labelBytes w l) ≡ labelSi
 unfolding labelBytes
 label-length w l = let t = tabulate-length (categoryByte (l .categories)) (8 * w) in omega arith
 
+-- byte i of a set by division of its word
+pub category-byte : (ws : List ℕ) (i : ℕ) → categoryByte ws i ≡ wordAt ws (i / 8) / 256 ^ (i % 8) % 256
+unfolding categoryByte has bit
+category-byte ws i =
+    number-only 2 (λ k. categoryBit ws (8 * i + k)) (zero-lt-suc 1) 0 8 (wordAt ws (i / 8) / 256 ^ (i % 8) % 256) digit (mod-lt (wordAt ws (i / 8) / 256 ^ (i % 8)) (zero-lt-suc 255))
+  where
+    digit : (k : ℕ) → k < 8 → categoryBit ws (8 * i + (0 + k)) ≡ wordAt ws (i / 8) / 256 ^ (i % 8) % 256 / 2 ^ k % 2
+    digit k h =
+        let q : (8 * i + (0 + k)) / 64 ≡ i / 8 = omega arith in
+        let r : (8 * i + (0 + k)) % 64 ≡ 8 * (i % 8) + k = omega arith in
+        ap₂ (λ (j n : ℕ). cond (eqb (wordAt ws j / 2 ^ n % 2) 1) 1 0) q r
+        ∙ as-number (wordAt ws (i / 8) / 2 ^ (8 * (i % 8) + k) % 2) (mod-lt (wordAt ws (i / 8) / 2 ^ (8 * (i % 8) + k)) (zero-lt-suc 1))
+        ∙ byte-bit (wordAt ws (i / 8)) (i % 8) k h
+
 category-byte-small : (ws : List ℕ) (i : ℕ) → categoryByte ws i < 256
-unfolding categoryByte
-category-byte-small ws i = mod-lt (wordAt ws (i / 8) / 256 ^ (i % 8)) (zero-lt-suc 255)
+category-byte-small ws i = rw category-byte (mod-lt (wordAt ws (i / 8) / 256 ^ (i % 8)) (zero-lt-suc 255))
 
 pub label-bytes : (w : ℕ) (l : Label) → l .hierarchy < 256 → Bytes (labelBytes w l)
 unfolding labelBytes
@@ -103,11 +118,10 @@ label-bytes w l h (suc i) = bytes-tabulate (categoryByte (l .categories)) (8 * w
 
 -- byte k of word j
 word-byte : (ws : List ℕ) (j k : ℕ) → k < 8 → categoryByte ws (8 * j + k) ≡ wordAt ws j / 256 ^ k % 256
-unfolding categoryByte
 word-byte ws j k h =
     let q : (8 * j + k) / 8 ≡ j = omega arith in
     let r : (8 * j + k) % 8 ≡ k = omega arith in
-    ap₂ (λ (x y : ℕ). wordAt ws x / 256 ^ y % 256) q r
+    category-byte ws (8 * j + k) ∙ ap₂ (λ (x y : ℕ). wordAt ws x / 256 ^ y % 256) q r
 
 pub word-from : (w : ℕ) (bs : List ℕ) (i j : ℕ) → j < w → wordFrom w bs i j ≡ numberOf 256 (byteAt bs) (i + 8 * j) 8
 unfolding wordFrom

@@ -6,3 +6,4 @@ pub mod EntryLaws
 pub mod LineLaws
 pub mod EntryKindLaws
 pub mod KindLaws
+pub mod HexlineExamples

@@ -1,11 +1,13 @@
 -- The laws of `numberOf`: a number and its digits in a base, the lowest first. Assumes nothing.
+use mathlib.Core.Bool.{cond}
 use mathlib.Core.Path.{_≡_, refl, sym, ap, ap₂, _∙_}
-use Prim.Native.Nat.{ℕ, zero, suc, _+_, _*_, _/_, _%_, _^_, _≤_, _<_}
-use native.Mathlib.Nat.{add-mul-div-left, add-mul-mod-self-left, add-zero, div-div-eq-div-mul, div-eq-of-lt, div-lt-iff-lt-mul, div-one, lt-of-lt-of-le, mod-add-div, mod-eq-of-lt, mul-add, mul-comm, mul-le-mul-left, mul-one, add-comm, pow-le-pow-right, pow-suc, pow-succ', pow-zero, zero-lt-suc}
+use Prim.Native.Nat.{ℕ, zero, suc, _+_, _*_, _-_, _/_, _%_, _^_, _≤_, _<_}
+use native.Mathlib.Nat.{add-mul-div-left, add-mul-mod-self-left, add-zero, div-div-eq-div-mul, div-eq-of-lt, div-lt-iff-lt-mul, div-one, lt-of-lt-of-le, mod-add-div, mod-eq-of-lt, mod-lt, mul-add, mul-add-div-right, mul-comm, mul-le-mul-left, mul-one, add-comm, pow-le-pow-right, pow-suc, pow-succ', pow-zero, zero-lt-suc}
 use native.Mathlib.Numerals.{add-one}
 use native.Mathlib.Omega.{arith}
 use lib.Arith.{lt-one}
-use lib.Pow.{pow-add}
+use lib.Dec.{eqb}
+use lib.Pow.{mod-mod-pow, mod-pow-add, pow-add, pow-pos}
 use Rattle.hexline.specs.Body.{numberOf}
 
 -- the digits past the lowest are those of the quotient
@@ -66,3 +68,29 @@ pow-byte zero = refl
 pow-byte (suc k) =
     let e : suc k * 8 ≡ k * 8 + 8 = omega arith in
     ap (λ (n : ℕ). 2 ^ n) e ∙ pow-add 2 (k * 8) 8 ∙ ap (λ (x : ℕ). x * 2 ^ 8) (pow-byte k) ∙ sym (pow-suc 256 k)
+
+-- ---- bits
+
+-- a test as a digit in base 2
+pub as-number : (x : ℕ) → x < 2 → cond (eqb x 1) 1 0 ≡ x
+as-number zero h = refl
+as-number (suc zero) h = refl
+as-number (suc (suc x)) h = absurd (omega arith)
+
+-- a number's bits below n are those of its remainder by 2 ^ n
+low-bit : (x j k : ℕ) → x % 2 ^ (suc j + k) / 2 ^ k % 2 ≡ x / 2 ^ k % 2
+low-bit x j k =
+    let high = x / 2 ^ k % 2 ^ suc j in
+    let e : x % 2 ^ (suc j + k) / 2 ^ k ≡ high + x % 2 ^ k / 2 ^ k = ap (λ (y : ℕ). y / 2 ^ k) (mod-pow-add x (suc j) k) ∙ mul-add-div-right (pow-pos k) high (x % 2 ^ k) in
+    let z : x % 2 ^ k / 2 ^ k ≡ 0 = div-eq-of-lt (mod-lt x (pow-pos k)) in
+    let f : suc j ≡ j + 1 = omega arith in
+    ap (λ (y : ℕ). y % 2) (e ∙ ap (λ (y : ℕ). high + y) z ∙ add-zero high ∙ ap (λ (m : ℕ). x / 2 ^ k % 2 ^ m) f) ∙ mod-mod-pow (x / 2 ^ k) j 1
+
+-- bit 8 j + k of x is bit k of its byte j
+pub byte-bit : (x j k : ℕ) → k < 8 → x / 2 ^ (8 * j + k) % 2 ≡ x / 256 ^ j % 256 / 2 ^ k % 2
+byte-bit x j k h =
+    let e : 2 ^ (8 * j + k) ≡ 256 ^ j * 2 ^ k =
+        ap (λ (n : ℕ). 2 ^ n) (ap (λ (n : ℕ). n + k) (mul-comm 8 j)) ∙ pow-add 2 (j * 8) k ∙ ap (λ (p : ℕ). p * 2 ^ k) (pow-byte j) in
+    let d : suc (7 - k) + k ≡ 8 = omega arith in
+    ap (λ (p : ℕ). x / p % 2) e ∙ ap (λ (y : ℕ). y % 2) (sym (div-div-eq-div-mul x (256 ^ j) (2 ^ k)))
+    ∙ sym (ap (λ (n : ℕ). x / 256 ^ j % 2 ^ n / 2 ^ k % 2) (sym d) ∙ low-bit (x / 256 ^ j) (7 - k) k)

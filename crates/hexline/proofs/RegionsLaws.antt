@@ -26,7 +26,7 @@ use Rattle.hexline.specs.Body.{Appended, numberOf, rangeAt, rangeBytes, 
 use Rattle.hexline.specs.Regions.{presenceOf, presentAt, presentBelow, regionAt, regionBytes, regionsBytes, tupleAt}
 use Rattle.hexline.proofs.BodyLaws.{Holds, Within, bytes-append, holds-first, holds-second, part, parts-join, range-back, range-bytes, range-forth, range-length}
 use Rattle.frame.proofs.FrameLaws.{Bytes}
-use Rattle.hexline.proofs.NumberLaws.{number-bound, number-digit, number-only}
+use Rattle.hexline.proofs.NumberLaws.{as-number, number-bound, number-digit, number-only}
 
 -- ---- one region
 
@@ -193,11 +193,6 @@ module _ (w : ℕ) (t : Tuple) (bs : List ℕ) (i : ℕ) (ty : Tuple.TypedTuple 
       (λ r l. let k : r < regions = omega (arith, tabulate-length (regionAt w bs (presenceOf t) i) regions) in tabulate-at (regionAt w bs (presenceOf t) i) regions r _ k ∙ region-back r k))
 
 -- ---- a tuple that is read is written as the bytes that it was read from
-
-as-number : (x : ℕ) → x < 2 → cond (eqb x 1) 1 0 ≡ x
-as-number zero h = refl
-as-number (suc zero) h = refl
-as-number (suc (suc x)) h = absurd (omega arith)
 
 module _ (w : ℕ) (bs : List ℕ) (p i : ℕ) where
   at-region : (r : ℕ) → r < regions → Tuple.rangeAt (tupleAt w bs p i) r ≡ regionAt w bs p i r

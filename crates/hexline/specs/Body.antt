@@ -3,12 +3,12 @@
 use mathlib.Core.Bool.{cond}
 use mathlib.Core.List.{List, _∷_, _++_}
 use mathlib.Core.Path.{_≡_}
-use Prim.Native.Nat.{ℕ, zero, suc, _+_, _*_, _/_, _%_, _^_}
+use Prim.Native.Nat.{ℕ, zero, suc, _+_, _*_}
 use lib.Dec.{ltb}
 use lib.ListN.{getD, length, take}
 use Rattle.label.specs.Index.{tabulate}
 use Rattle.label.specs.Label
-use Rattle.label.specs.Words.{wordAt, words}
+use Rattle.label.specs.Words.{has, words}
 use Rattle.label.specs.declared.Label.{Label}
 use Rattle.range.specs.Range
 use Rattle.range.specs.declared.Range.{Range}
@@ -27,9 +27,13 @@ numberOf b f i (suc n) = f i + b * numberOf b f (suc i) n
 
 -- ---- writing
 
--- byte i of a set: category c is bit c mod 8 of byte c / 8, so a word's bytes stand with the lowest first
+-- 1 where category c is in the set, else 0
+abbrev pub categoryBit : List ℕ → ℕ → ℕ
+categoryBit ws c = cond (has ws c) 1 0
+
+-- byte i of a set: category c is bit c mod 8 of byte c / 8
 unfoldable pub categoryByte : List ℕ → ℕ → ℕ
-categoryByte ws i = wordAt ws (i / 8) / 256 ^ (i % 8) % 256
+categoryByte ws i = numberOf 2 (λ k. categoryBit ws (8 * i + k)) 0 8
 
 -- the hierarchy, then the categories, in the bytes of w words
 unfoldable pub labelBytes : ℕ → Label → List ℕ

@@ -1,7 +1,7 @@
-use mathlib.Core.Path.{ap}
+use mathlib.Core.Path.{sym, ap, _∙_}
 use Prim.Native.Nat.{ℕ, _/_, _%_}
 use Rattle.label.specs.Words.{wordAt}
-use Rattle.hexline.specs.Body.{categoryByte}
+use Rattle.hexline.proofs.BodyLaws.{category-byte}
 use Rattle.hexline.proofs.NumberLaws.{pow-byte}
 use borrow.Author.Needs.{needs}
 use Rattle.hexline.proofs.body.category_byte.Statement.{statement}
@@ -23,8 +23,8 @@ cast-result : tie.Need-cast-result
 cast-result c = search needs
 
 returns : tie.Need-returns
-unfolding categoryByte
-returns c = ap (λ (p : ℕ). wordAt (c .args .t1) (c .args .i / 8) / p % 256) (pow-byte (c .args .i % 8))
+returns c =
+    ap (λ (p : ℕ). wordAt (c .args .t1) (c .args .i / 8) / p % 256) (pow-byte (c .args .i % 8)) ∙ sym (category-byte (c .args .t1) (c .args .i))
 
 pub category-byte-spec : {M : Type 1} → statement M
 category-byte-spec =

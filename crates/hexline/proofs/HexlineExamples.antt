@@ -1,0 +1,91 @@
+-- Document 01's hex lines, and lines that have a fault, computed from the definitions. Assumes nothing.
+use mathlib.Core.List.{List, [], _∷_, _++_}
+use mathlib.Core.Option.{none}
+use mathlib.Core.Path.{_≡_, refl}
+use Prim.Native.Nat.{ℕ, _^_}
+use lib.ListN.{replicate}
+use Rattle.label.specs.Answer.{granted, refused}
+use Rattle.label.specs.Index.{every, tabulate}
+use Rattle.label.specs.Label.{equalOf, labelOf, zeroLabel}
+use Rattle.label.specs.Words.{bit, has, includesOf, sameOf}
+use Rattle.range.specs.Tuple
+use Rattle.range.specs.Tuple.{emptyTuple, validAt}
+use Rattle.frame.specs.Frame.{bodyOf, bytesOf, checkOf, digitOf, digitsOf, frameOf, framedOf, isDigit, spelledOf, sumOf, valueOf}
+use Rattle.hexline.specs.Body.{categoryByte, labelBytes, lineWords, numberOf}
+use Rattle.hexline.specs.Entry
+use Rattle.hexline.specs.Entry.{abbreviationText, entryBytes, entryFrom, entryOf, isLetter, isNameByte, labelFrom, layoutOf, maxAbbreviation, nameByteOk, nameOf, nameText, textByte, textFrom, valueBytes, valueFrom, valueOk, valueSize}
+use Rattle.hexline.specs.Line.{contentsOf, entryBody, entryForm, entryLineOf, formOf, kindOf, readEntryOf, readTupleOf, tupleBody, tupleForm, tupleLineOf}
+use Rattle.hexline.specs.Regions.{presenceOf, presentBelow, regionAt, regionBytes, regionsBytes, tupleAt}
+use Rattle.hexline.specs.declared.entry.Entry.{Entry}
+use Rattle.hexline.specs.declared.entry.Value.the-variants.{Category, Hierarchy}
+
+-- `0300fd`, the empty tuple
+emptyLine : List ℕ
+emptyLine = 48 ∷ 51 ∷ 48 ∷ 48 ∷ 102 ∷ 100 ∷ 10 ∷ []
+
+-- `040114036c6f770092`: "low" is hierarchy 20
+lowLine : List ℕ
+lowLine = 48 ∷ 52 ∷ 48 ∷ 49 ∷ 49 ∷ 52 ∷ 48 ∷ 51 ∷ 54 ∷ 99 ∷ 54 ∷ 102 ∷ 55 ∷ 55 ∷ 48 ∷ 48 ∷ 57 ∷ 50 ∷ 10 ∷ []
+
+low : Entry
+low =
+    entryOf (Hierarchy 20) zeroLabel (nameText (108 ∷ 111 ∷ 119 ∷ [] ++ replicate 28 0) 3) (abbreviationText (replicate maxAbbreviation 0) 0)
+
+-- `04020704656173740165dc`: "east", short "e", is category 7
+eastLine : List ℕ
+eastLine = 48 ∷ 52 ∷ 48 ∷ 50 ∷ 48 ∷ 55 ∷ 48 ∷ 52 ∷ 54 ∷ 53 ∷ 54 ∷ 49 ∷ 55 ∷ 51 ∷ 55 ∷ 52 ∷ 48 ∷ 49 ∷ 54 ∷ 53 ∷ 100 ∷ 99 ∷ 10 ∷ []
+
+east : Entry
+east =
+    entryOf (Category 7) zeroLabel (nameText (101 ∷ 97 ∷ 115 ∷ 116 ∷ [] ++ replicate 27 0) 4) (abbreviationText (101 ∷ [] ++ replicate 14 0) 1)
+
+-- the same with its sum one too high
+eastWrong : List ℕ
+eastWrong = 48 ∷ 52 ∷ 48 ∷ 50 ∷ 48 ∷ 55 ∷ 48 ∷ 52 ∷ 54 ∷ 53 ∷ 54 ∷ 49 ∷ 55 ∷ 51 ∷ 55 ∷ 52 ∷ 48 ∷ 49 ∷ 54 ∷ 53 ∷ 100 ∷ 100 ∷ 10 ∷ []
+
+-- a line is written of its contents, and read as them
+empty-written : tupleLineOf emptyTuple ≡ granted emptyLine
+unfolding emptyLine Tuple.validOf validAt equalOf sameOf includesOf every tupleBody presenceOf numberOf regionsBytes regionBytes frameOf digitsOf digitOf checkOf sumOf
+empty-written = refl
+
+empty-read : readTupleOf emptyLine ≡ granted emptyTuple
+unfolding emptyLine Tuple.validOf validAt equalOf sameOf includesOf every tupleForm presentBelow tupleAt regionAt tabulate bit framedOf spelledOf bytesOf bodyOf valueOf isDigit sumOf contentsOf formOf
+empty-read = refl
+
+low-written : entryLineOf low ≡ granted lowLine
+unfolding lowLine low Entry.validOf valueOk nameOf nameByteOk isNameByte isLetter equalOf sameOf includesOf every entryBody entryBytes valueBytes frameOf digitsOf digitOf checkOf sumOf
+low-written = refl
+
+low-read : readEntryOf lowLine ≡ granted low
+unfolding lowLine low Entry.validOf valueOk nameOf nameByteOk isNameByte isLetter equalOf sameOf includesOf every entryForm layoutOf valueSize entryFrom valueFrom labelFrom textFrom textByte tabulate framedOf spelledOf bytesOf bodyOf valueOf isDigit sumOf contentsOf formOf
+low-read = refl
+
+east-written : entryLineOf east ≡ granted eastLine
+unfolding eastLine east Entry.validOf valueOk nameOf nameByteOk isNameByte isLetter equalOf sameOf includesOf every entryBody entryBytes valueBytes frameOf digitsOf digitOf checkOf sumOf
+east-written = refl
+
+east-read : readEntryOf eastLine ≡ granted east
+unfolding eastLine east Entry.validOf valueOk nameOf nameByteOk isNameByte isLetter equalOf sameOf includesOf every entryForm layoutOf valueSize entryFrom valueFrom labelFrom textFrom textByte tabulate framedOf spelledOf bytesOf bodyOf valueOf isDigit sumOf contentsOf formOf
+east-read = refl
+
+-- a wrong sum, and a line that is for another reader
+wrong-sum : readEntryOf eastWrong ≡ refused 22 none
+unfolding eastWrong framedOf spelledOf bytesOf bodyOf valueOf isDigit sumOf contentsOf formOf
+wrong-sum = refl
+
+other-kind : readTupleOf eastLine ≡ refused 22 none
+unfolding eastLine tupleForm presentBelow bit framedOf spelledOf bytesOf bodyOf valueOf isDigit sumOf contentsOf formOf
+other-kind = refl
+
+kind-told : kindOf eastLine ≡ granted 4
+unfolding eastLine framedOf spelledOf bytesOf bodyOf valueOf isDigit sumOf contentsOf formOf
+kind-told = refl
+
+-- (30,{1,2}): hierarchy 30, then 6 in the first of 32 bytes; category 255 is the highest bit of the last
+label-bytes : labelBytes lineWords (labelOf 30 (6 ∷ 0 ∷ 0 ∷ 0 ∷ [])) ≡ 30 ∷ 6 ∷ replicate 31 0
+unfolding labelBytes categoryByte numberOf has bit tabulate
+label-bytes = refl
+
+last-category : labelBytes lineWords (labelOf 0 (0 ∷ 0 ∷ 0 ∷ (2 ^ 63) ∷ [])) ≡ replicate 32 0 ++ (128 ∷ [])
+unfolding labelBytes categoryByte numberOf has bit tabulate
+last-category = refl
