@@ -10,7 +10,7 @@ use lib.Dec.{eqb, leb}
 use lib.ListN.{getD, length, set, take, length-append, length-set, length-take, List·getD-eq-default}
 use lib.Seq.{ext-getD, getD-set-same, getD-set-other, getD-take, set-getD, take-all, take-at, take-suc}
 use borrow.Author.Tests.{eq-eqb, eqb-false, eqb-true, le-leb, le-ltb, leb-true, lt-ltb, lt-leb}
-use Rattle.label.specs.Answer.{Answer, granted, refused, require}
+use Rattle.label.specs.Answer.{Answer, granted}
 use Rattle.label.proofs.BoolLaws.{both, either, first-true, not-so, or-first, or-second, second-true, three-true}
 use Rattle.label.proofs.IndexLaws.{le-or-lt}
 use Rattle.frame.specs.Frame.{bodyOf, bytesOf, checkOf, digitOf, digitsOf, frameOf, framedOf, isDigit, readOf, spelledOf, sumOf, valueOf}

@@ -1,8 +1,8 @@
 -- The laws of labels and ranges as bytes: what is written reads back, and what is read is written as it stands. Assumes nothing.
 use mathlib.Core.Bool.{cond}
 use mathlib.Core.List.{List, [], _∷_, _++_}
-use mathlib.Core.Logic.{_⊎_, inl, inr, ⊎-elim}
-use mathlib.Core.Path.{_≡_, refl, sym, ap, ap₂, _∙_}
+use mathlib.Core.Logic.{_⊎_, ⊎-elim}
+use mathlib.Core.Path.{_≡_, sym, ap, ap₂, _∙_}
 use Prim.Native.Nat.{ℕ, zero, suc, _+_, _*_, _/_, _%_, _^_, _≤_, _<_}
 use native.Mathlib.Nat.{add-zero, mod-lt, zero-lt-suc}
 use native.Mathlib.Omega.{arith}
@@ -17,8 +17,8 @@ use Rattle.label.specs.declared.Label.{Label}
 use Rattle.label.proofs.IndexLaws.{le-or-lt, tabulate-at, tabulate-length}
 use Rattle.range.specs.Range
 use Rattle.range.specs.declared.Range.{Range}
-use Rattle.hexline.specs.Body.{byteAt, categoryBit, categoryByte, labelAt, labelBytes, labelSize, numberOf, rangeAt, rangeBytes, rangeSize, wordFrom}
 use Rattle.frame.proofs.FrameLaws.{Bytes}
+use Rattle.hexline.specs.Body.{byteAt, categoryBit, categoryByte, labelAt, labelBytes, labelSize, numberOf, rangeAt, rangeBytes, rangeSize, wordFrom}
 use Rattle.hexline.proofs.NumberLaws.{as-number, byte-bit, number-digit, number-only}
 
 -- ---- bytes at an index

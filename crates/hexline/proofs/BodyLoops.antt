@@ -9,8 +9,8 @@ use lib.ListN.{getD, length, set, take, length-append, length-set}
 use lib.Seq.{length-take-le, take-suc, take-suc-set}
 use Rattle.label.specs.Index.{tabulate}
 use Rattle.label.specs.declared.Label.{Label}
-use Rattle.hexline.specs.Body.{Appended, byteAt, categoryByte, labelBytes, numberOf}
 use Rattle.frame.proofs.FrameLaws.{Bytes}
+use Rattle.hexline.specs.Body.{Appended, byteAt, categoryByte, labelBytes, numberOf}
 use Rattle.hexline.proofs.NumberLaws.{number-bound}
 
 -- the bytes past the lowest of a word leave room for one more

@@ -1,6 +1,6 @@
 -- Alias entries as bodies: where their parts stand, and that what is written reads back and what is read is written as it stands.
 -- Assumes nothing.
-use mathlib.Core.Bool.{Bool, true, _&&_}
+use mathlib.Core.Bool.{true, _&&_}
 use mathlib.Core.List.{List, [], _∷_, _++_}
 use mathlib.Core.Logic.{_↔_}
 use mathlib.Core.Path.{_≡_, refl, sym, ap, ap₂, _∙_}
@@ -8,7 +8,7 @@ use Prim.Native.Nat.{ℕ, _+_, _≤_, _<_}
 use native.Mathlib.Nat.{add-zero}
 use native.Mathlib.Omega.{arith}
 use lib.Dec.{leb}
-use lib.ListN.{getD, length, take, length-append}
+use lib.ListN.{length, take, length-append}
 use borrow.Author.Tests.{le-leb}
 use Rattle.label.specs.Answer.{granted}
 use Rattle.label.specs.Label
@@ -18,12 +18,10 @@ use Rattle.label.proofs.BoolLaws.{both}
 use Rattle.frame.specs.Frame.{readOf}
 use Rattle.frame.proofs.FrameLaws.{Bytes}
 use Rattle.hexline.specs.Body.{byteAt}
-use Rattle.hexline.specs.Entry.{TypedEntry, abbreviationText, classOf, entryBytes, entryFrom, entryOf, labelFrom, layoutOf, maxAbbreviation, maxName, nameOf, nameText, past, textBytes, textFrom, validOf, valueBytes, valueFrom, valueSize}
+use Rattle.hexline.specs.Entry.{TypedEntry, abbreviationText, classOf, entryBytes, entryFrom, entryOf, layoutOf, maxAbbreviation, maxName, nameText, past, textBytes, textFrom, validOf, valueBytes, valueSize}
 use Rattle.hexline.specs.Line.{contentsOf, entryBody, entryForm, entryIn, formOf, lineOf}
-use Rattle.hexline.specs.declared.entry.Abbreviation.{Abbreviation}
 use Rattle.hexline.specs.declared.entry.Entry.{Entry}
 use Rattle.hexline.specs.declared.entry.Layout.{Layout}
-use Rattle.hexline.specs.declared.entry.Name.{Name}
 use Rattle.hexline.specs.declared.entry.Value.{Value}
 use Rattle.hexline.specs.declared.entry.Value.the-variants.{Hierarchy, Category, WholeLabel}
 use Rattle.hexline.proofs.BodyLaws.{Holds, Within, bytes-append, bytes-take, cons-bytes, first-part, holds-first, holds-second, holds-self, one-part, part, parts-join}

@@ -6,11 +6,10 @@ use mathlib.Core.Bool.{true}
 use mathlib.Core.List.{List, [], _∷_, _++_}
 use mathlib.Core.Logic.{_↔_}
 use mathlib.Core.Path.{_≡_, refl, sym, ap, ap₂, _∙_}
-use Prim.Native.Nat.{ℕ, zero, suc, _+_, _*_, _≤_, _<_}
+use Prim.Native.Nat.{ℕ, _+_, _*_, _≤_, _<_}
 use native.Mathlib.Omega.{arith}
-use lib.ListN.{getD, length, take, List·getD-eq-default}
-use lib.Seq.{take-all, take-suc}
-use borrow.Author.Tests.{eq-eqb, lt-ltb}
+use lib.ListN.{List·getD-eq-default}
+use borrow.Author.Tests.{lt-ltb}
 use Rattle.label.specs.Answer.{granted}
 use Rattle.label.specs.Label
 use Rattle.label.specs.Region.{regions}
@@ -23,12 +22,12 @@ use Rattle.range.specs.declared.Range.{Range}
 use Rattle.range.specs.declared.tuple.Tuple.{Tuple}
 use Rattle.frame.specs.Frame.{readOf}
 use Rattle.frame.proofs.FrameLaws.{Bytes}
-use Rattle.hexline.specs.Body.{byteAt, labelAt, labelBytes, labelSize, lineWords, rangeAt, rangeBytes, rangeSize}
+use Rattle.hexline.specs.Body.{byteAt, labelBytes, labelSize, lineWords, rangeAt, rangeBytes, rangeSize}
 use Rattle.hexline.specs.Entry.{TypedEntry}
 use Rattle.hexline.specs.Line.{contentsOf, entryLineOf, formOf, labelBody, labelForm, labelIn, labelLineOf, lineOf, rangeBody, rangeForm, rangeIn, rangeLineOf, readEntryOf, readLabelOf, readRangeOf, readTupleOf, tupleBody, tupleForm, tupleIn, tupleLineOf}
-use Rattle.hexline.specs.Regions.{presenceOf, presentBelow, regionsBytes, tupleAt}
+use Rattle.hexline.specs.Regions.{presenceOf, presentBelow, regionsBytes}
 use Rattle.hexline.specs.declared.entry.Entry.{Entry}
-use Rattle.hexline.proofs.BodyLaws.{Holds, Within, cons-bytes, first-part, holds-second, holds-self, label-back, label-bytes, label-forth, label-length, one-part, part, parts-join, range-back, range-bytes, range-forth, range-length}
+use Rattle.hexline.proofs.BodyLaws.{Within, cons-bytes, first-part, holds-second, holds-self, label-back, label-bytes, label-forth, label-length, one-part, part, parts-join, range-back, range-bytes, range-forth, range-length}
 use Rattle.hexline.proofs.EntryKindLaws.{entry-exact}
 use Rattle.hexline.proofs.LineLaws.{form-kind, form-length, form-of, line-exact, tuple-form-parts}
 use Rattle.hexline.proofs.RegionsLaws.{WithinTuple, presence-forth, presence-size, presence-small, regions-bytes, regions-forth, tuple-back}

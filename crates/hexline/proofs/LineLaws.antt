@@ -9,7 +9,7 @@ use native.Mathlib.Omega.{arith}
 use lib.Dec.{eqb, leb, ltb}
 use lib.ListN.{length}
 use borrow.Author.Tests.{eq-eqb, eqb-true, le-leb, leb-true, ltb-true}
-use Rattle.label.specs.Answer.{Answer, Answered, granted, refused, require}
+use Rattle.label.specs.Answer.{Answered, granted, refused, require}
 use Rattle.label.specs.Buffer.{WrittenTo}
 use Rattle.label.specs.Region.{regions}
 use Rattle.label.specs.declared.answer.Outcome.the-variants.{Granted, Refused}
@@ -17,11 +17,11 @@ use Rattle.label.specs.declared.answer.Written.{Written}
 use Rattle.label.specs.declared.errno.Errno.the-variants.{Invalid}
 use Rattle.label.proofs.AnswerLaws.{answers-grant, answers-refusal}
 use Rattle.label.proofs.BoolLaws.{both, first-true, not-so, second-true, three-true}
+use Rattle.frame.specs.Frame.{bodyOf, frameAnswerOf, frameOf, framedOf, maxBody, readOf}
+use Rattle.frame.proofs.FrameLaws.{Bytes, reads-back, reads-exactly}
 use Rattle.hexline.specs.Body.{byteAt, labelSize, rangeSize}
 use Rattle.hexline.specs.Entry.{layoutOf, maxAbbreviation, maxName, past, valueSize}
-use Rattle.frame.specs.Frame.{bodyOf, frameAnswerOf, frameOf, framedOf, maxBody, readOf}
 use Rattle.hexline.specs.Regions.{presentBelow}
-use Rattle.frame.proofs.FrameLaws.{Bytes, reads-back, reads-exactly}
 use Rattle.hexline.specs.Line.{contentsOf, entryForm, formOf, kindOf, lineOf, tupleForm}
 
 -- ---- how a reader ends: a line that is no frame or has another form, contents that are not valid, or a grant

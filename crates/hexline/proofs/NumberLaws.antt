@@ -2,7 +2,7 @@
 use mathlib.Core.Bool.{cond}
 use mathlib.Core.Path.{_≡_, refl, sym, ap, ap₂, _∙_}
 use Prim.Native.Nat.{ℕ, zero, suc, _+_, _*_, _-_, _/_, _%_, _^_, _≤_, _<_}
-use native.Mathlib.Nat.{add-mul-div-left, add-mul-mod-self-left, add-zero, div-div-eq-div-mul, div-eq-of-lt, div-lt-iff-lt-mul, div-one, lt-of-lt-of-le, mod-add-div, mod-eq-of-lt, mod-lt, mul-add, mul-add-div-right, mul-comm, mul-le-mul-left, mul-one, add-comm, pow-le-pow-right, pow-suc, pow-succ', pow-zero, zero-lt-suc}
+use native.Mathlib.Nat.{add-mul-div-left, add-mul-mod-self-left, add-zero, div-div-eq-div-mul, div-eq-of-lt, div-lt-iff-lt-mul, div-one, mod-add-div, mod-eq-of-lt, mod-lt, mul-add, mul-add-div-right, mul-comm, mul-le-mul-left, mul-one, add-comm, pow-suc, pow-succ', pow-zero, zero-lt-suc}
 use native.Mathlib.Numerals.{add-one}
 use native.Mathlib.Omega.{arith}
 use lib.Arith.{lt-one}
@@ -90,7 +90,7 @@ low-bit x j k =
 pub byte-bit : (x j k : ℕ) → k < 8 → x / 2 ^ (8 * j + k) % 2 ≡ x / 256 ^ j % 256 / 2 ^ k % 2
 byte-bit x j k h =
     let e : 2 ^ (8 * j + k) ≡ 256 ^ j * 2 ^ k =
-        ap (λ (n : ℕ). 2 ^ n) (ap (λ (n : ℕ). n + k) (mul-comm 8 j)) ∙ pow-add 2 (j * 8) k ∙ ap (λ (p : ℕ). p * 2 ^ k) (pow-byte j) in
+    ap (λ (n : ℕ). 2 ^ n) (ap (λ (n : ℕ). n + k) (mul-comm 8 j)) ∙ pow-add 2 (j * 8) k ∙ ap (λ (p : ℕ). p * 2 ^ k) (pow-byte j) in
     let d : suc (7 - k) + k ≡ 8 = omega arith in
     ap (λ (p : ℕ). x / p % 2) e ∙ ap (λ (y : ℕ). y % 2) (sym (div-div-eq-div-mul x (256 ^ j) (2 ^ k)))
     ∙ sym (ap (λ (n : ℕ). x / 256 ^ j % 2 ^ n / 2 ^ k % 2) (sym d) ∙ low-bit (x / 256 ^ j) (7 - k) k)

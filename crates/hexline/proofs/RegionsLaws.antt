@@ -1,14 +1,14 @@
 -- The laws of tuples as bytes. Assumes nothing.
 use mathlib.Core.Bool.{Bool, true, false, cond}
-use mathlib.Core.List.{List, [], _∷_, _++_, append-nil}
-use mathlib.Core.Logic.{_⊎_, inl, inr, ⊎-elim}
+use mathlib.Core.List.{List, [], _++_}
+use mathlib.Core.Logic.{_⊎_, ⊎-elim}
 use mathlib.Core.Path.{_≡_, refl, sym, ap, ap₂, _∙_}
 use Prim.Native.Nat.{ℕ, zero, suc, _+_, _*_, _/_, _%_, _^_, _≤_, _<_}
-use native.Mathlib.Nat.{add-mul, add-zero, eq-or-lt-of-le, lt-of-lt-of-le, mod-lt, mul-le-mul-right, suc-mul, zero-lt-suc, zero-mul}
+use native.Mathlib.Nat.{add-mul, eq-or-lt-of-le, lt-of-lt-of-le, mod-lt, mul-le-mul-right, suc-mul, zero-lt-suc, zero-mul}
 use native.Mathlib.Numerals.{add-one}
 use native.Mathlib.Omega.{arith}
 use lib.Dec.{eqb}
-use lib.ListN.{getD, length, length-append}
+use lib.ListN.{length, length-append}
 use lib.Pow.{pow-mono}
 use lib.Seq.{ext-getD}
 use Rattle.label.specs.Index.{tabulate}
@@ -22,10 +22,10 @@ use Rattle.range.specs.declared.Range.{Range}
 use Rattle.range.specs.declared.tuple.RegionRange.{RegionRange}
 use Rattle.range.specs.declared.tuple.Tuple.{Tuple}
 use Rattle.range.proofs.TupleLaws.{range-of, valid-absent, valid-region}
-use Rattle.hexline.specs.Body.{Appended, numberOf, rangeAt, rangeBytes, rangeSize}
+use Rattle.frame.proofs.FrameLaws.{Bytes}
+use Rattle.hexline.specs.Body.{numberOf, rangeAt, rangeBytes, rangeSize}
 use Rattle.hexline.specs.Regions.{presenceOf, presentAt, presentBelow, regionAt, regionBytes, regionsBytes, tupleAt}
 use Rattle.hexline.proofs.BodyLaws.{Holds, Within, bytes-append, holds-first, holds-second, part, parts-join, range-back, range-bytes, range-forth, range-length}
-use Rattle.frame.proofs.FrameLaws.{Bytes}
 use Rattle.hexline.proofs.NumberLaws.{as-number, number-bound, number-digit, number-only}
 
 -- ---- one region

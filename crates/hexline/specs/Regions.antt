@@ -9,7 +9,7 @@ use Rattle.label.specs.Words.{bit}
 use Rattle.range.specs.Tuple
 use Rattle.range.specs.declared.tuple.RegionRange.{RegionRange}
 use Rattle.range.specs.declared.tuple.Tuple.{Tuple}
-use Rattle.hexline.specs.Body.{byteAt, numberOf, rangeAt, rangeBytes, rangeSize}
+use Rattle.hexline.specs.Body.{numberOf, rangeAt, rangeBytes, rangeSize}
 
 -- ---- writing
 

@@ -33,7 +33,6 @@ use range::tuple;
 use range::tuple::Tuple;
 use range::tuple::TupleAnswer;
 ghost use mathlib.Core.Path.{_≡_};
-ghost use mathlib.Core.Bool.{_&&_};
 ghost use Rattle.label.specs.Answer.{Answered};
 ghost use Rattle.label.specs.Buffer.{WrittenTo};
 ghost use Rattle.label.specs.Label as labels;

@@ -1,13 +1,13 @@
 -- Writing to a lent buffer: a text byte by byte at its front, and the three ways in which a writer ends. Assumes nothing.
 use mathlib.Core.List.{List, [], _∷_, _++_, append-assoc}
-use mathlib.Core.Path.{_≡_, refl, sym, ap, _∙_}
+use mathlib.Core.Path.{_≡_, ap, _∙_}
 use Prim.Native.Nat.{ℕ, suc, _+_, _≤_, _<_}
 use native.Mathlib.Numerals.{add-one}
 use native.Mathlib.Omega.{arith}
 use lib.ListN.{drop, length, set, length-append, length-drop}
 use lib.Seq.{drop-cons, set-append-seam}
 use borrow.Author.Tests.{le-leb, lt-leb}
-use Rattle.label.specs.Answer.{Answer, granted, refused, refusedBy}
+use Rattle.label.specs.Answer.{Answer, granted, refusedBy}
 use Rattle.label.specs.Buffer.{WrittenTo, bufferOf, lengthOf, overlay}
 use Rattle.label.specs.declared.answer.Written.the-variants.{Length, Refused}
 use Rattle.label.specs.declared.errno.Errno.{Errno}

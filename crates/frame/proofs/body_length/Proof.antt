@@ -1,7 +1,7 @@
+use borrow.Author.Needs.{needs}
 use mathlib.Core.Path.{sym}
 use native.Mathlib.Omega.{arith}
 use Rattle.frame.proofs.FrameLaws.{body-length}
-use borrow.Author.Needs.{needs}
 use Rattle.frame.proofs.body_length.Statement.{statement}
 use Rattle.frame.proofs.body_length.Tie as tie
 

@@ -1,7 +1,7 @@
+use borrow.Author.Needs.{needs}
 use mathlib.Core.Path.{sym, _∙_}
 use native.Mathlib.Omega.{arith}
 use Rattle.frame.proofs.FrameLoops.{body-at, body-past}
-use borrow.Author.Needs.{needs}
 use Rattle.frame.proofs.byte.Statement.{statement}
 use Rattle.frame.proofs.byte.Tie as tie
 

@@ -1,7 +1,7 @@
+use borrow.Author.Needs.{needs}
 use mathlib.Core.Path.{sym, ap₂, _∙_}
 use Prim.Native.Nat.{ℕ, _+_, _*_}
 use Rattle.frame.proofs.FrameLaws.{bytes-at}
-use borrow.Author.Needs.{needs}
 use Rattle.frame.proofs.byte_at.Statement.{statement}
 use Rattle.frame.proofs.byte_at.Tie as tie
 

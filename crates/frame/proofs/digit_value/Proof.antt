@@ -1,8 +1,8 @@
 use borrow.Author.Needs.{needs}
-use mathlib.Core.Path.{_≡_, sym, _∙_}
+use mathlib.Core.Path.{sym, _∙_}
 use native.Mathlib.Omega.{arith}
 use borrow.Author.Tests.{not-false, not-true}
-use Rattle.frame.proofs.FrameLaws.{high-value, low-value, no-digit, value-small}
+use Rattle.frame.proofs.FrameLaws.{high-value, low-value, no-digit}
 use Rattle.frame.proofs.digit_value.Statement.{statement}
 use Rattle.frame.proofs.digit_value.Tie as tie
 

@@ -1,7 +1,7 @@
+use borrow.Author.Needs.{needs}
 use mathlib.Core.Path.{sym, _∙_}
 use borrow.Author.Tests.{not-false, not-true}
 use Rattle.frame.proofs.FrameLoops.{framed-of, unframed}
-use borrow.Author.Needs.{needs}
 use Rattle.frame.proofs.framed.Statement.{statement}
 use Rattle.frame.proofs.framed.Tie as tie
 

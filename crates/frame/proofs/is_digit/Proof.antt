@@ -1,5 +1,5 @@
-use Rattle.frame.specs.Frame.{isDigit}
 use borrow.Author.Needs.{needs}
+use Rattle.frame.specs.Frame.{isDigit}
 use Rattle.frame.proofs.is_digit.Statement.{statement}
 use Rattle.frame.proofs.is_digit.Tie as tie
 

@@ -1,3 +1,4 @@
+use borrow.Author.Needs.{needs}
 use mathlib.Core.List.{List}
 use mathlib.Core.Path.{_≡_, refl, ap, _∙_}
 use Prim.Native.Nat.{ℕ, _≤_, _+_, _*_, _-_, _/_, _%_}
@@ -7,7 +8,6 @@ use lib.Seq.{take-all}
 use Rattle.label.specs.Buffer.{overlay}
 use Rattle.frame.specs.Frame.{digitOf, digitsOf, sumOf}
 use Rattle.frame.proofs.FrameLoops.{digits-fit, digits-next, sum-done, sum-next}
-use borrow.Author.Needs.{needs}
 use Rattle.frame.proofs.spell.Statement.{statement}
 use Rattle.frame.proofs.spell.Tie as tie
 

@@ -1,3 +1,4 @@
+use borrow.Author.Needs.{needs}
 use mathlib.Core.Bool.{Bool, true, false, _&&_}
 use mathlib.Core.Path.{_≡_, refl, sym, ap, ap₂, _∙_}
 use Prim.Native.Nat.{_≤_, _+_, _-_}
@@ -6,7 +7,6 @@ use lib.ListN.{drop, getD, length}
 use borrow.Author.Tests.{not-false, not-true}
 use Rattle.frame.specs.Frame.{isDigit, spelledOf}
 use Rattle.frame.proofs.FrameLoops.{spelled-last, spelled-next, spelled-none}
-use borrow.Author.Needs.{needs}
 use Rattle.frame.proofs.spelled.Statement.{statement}
 use Rattle.frame.proofs.spelled.Tie as tie
 

@@ -1,11 +1,11 @@
+use borrow.Author.Needs.{needs}
 use mathlib.Core.Path.{_≡_, refl, ap, _∙_}
 use Prim.Native.Nat.{ℕ, _≤_, _+_, _-_, _/_, _%_}
 use native.Mathlib.Omega.{arith}
-use lib.ListN.{getD, length, take}
+use lib.ListN.{length, take}
 use Rattle.frame.specs.Frame.{bytesOf, sumOf}
 use Rattle.frame.proofs.FrameLaws.{bytes-length}
 use Rattle.frame.proofs.FrameLoops.{sum-done, sum-next}
-use borrow.Author.Needs.{needs}
 use Rattle.frame.proofs.sum.Statement.{statement}
 use Rattle.frame.proofs.sum.Tie as tie
 

@@ -1,5 +1,6 @@
+use borrow.Author.Needs.{needs}
 use mathlib.Core.List.{List}
-use mathlib.Core.Path.{_≡_, refl, sym, ap, _∙_}
+use mathlib.Core.Path.{refl, sym, ap, _∙_}
 use Prim.Native.Nat.{ℕ, _+_, _*_, _-_, _/_, _%_}
 use native.Mathlib.Omega.{arith}
 use lib.ListN.{length, set, length-set}
@@ -10,7 +11,6 @@ use Rattle.label.proofs.BufferLaws.{overlay-length, too-short, writes, writes-n
 use Rattle.frame.specs.Frame.{digitOf, digitsOf, frameOf, maxBody}
 use Rattle.frame.proofs.FrameLaws.{digits-length, frame-length}
 use Rattle.frame.proofs.FrameLoops.{check-of, frame-more}
-use borrow.Author.Needs.{needs}
 use Rattle.frame.proofs.write.Statement.{statement}
 use Rattle.frame.proofs.write.Tie as tie
 

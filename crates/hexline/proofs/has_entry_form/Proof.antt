@@ -1,10 +1,10 @@
+use borrow.Author.Needs.{needs}
 use native.Mathlib.Omega.{arith}
-use Rattle.hexline.specs.Body.{lineWords}
 use Rattle.frame.specs.Frame.{bodyOf}
+use Rattle.frame.proofs.FrameLaws.{body-small}
+use Rattle.hexline.specs.Body.{lineWords}
 use Rattle.hexline.specs.Line.{entryForm}
 use Rattle.hexline.proofs.EntryLaws.{layout-small}
-use Rattle.frame.proofs.FrameLaws.{body-small}
-use borrow.Author.Needs.{needs}
 use Rattle.hexline.proofs.has_entry_form.Statement.{statement}
 use Rattle.hexline.proofs.has_entry_form.Tie as tie
 

@@ -1,5 +1,5 @@
-use Rattle.hexline.specs.Line.{formOf}
 use borrow.Author.Needs.{needs}
+use Rattle.hexline.specs.Line.{formOf}
 use Rattle.hexline.proofs.has_form.Statement.{statement}
 use Rattle.hexline.proofs.has_form.Tie as tie
 

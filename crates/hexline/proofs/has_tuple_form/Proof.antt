@@ -1,5 +1,5 @@
-use Rattle.hexline.specs.Line.{tupleForm}
 use borrow.Author.Needs.{needs}
+use Rattle.hexline.specs.Line.{tupleForm}
 use Rattle.hexline.proofs.has_tuple_form.Statement.{statement}
 use Rattle.hexline.proofs.has_tuple_form.Tie as tie
 

@@ -1,9 +1,9 @@
+use borrow.Author.Needs.{needs}
 use mathlib.Core.Bool.{true≢false}
 use mathlib.Core.Path.{sym, _∙_}
 use native.Mathlib.Omega.{arith}
 use borrow.Author.Tests.{not-false, not-true}
 use Rattle.hexline.proofs.LineLaws.{kind-is, kind-none}
-use borrow.Author.Needs.{needs}
 use Rattle.hexline.proofs.kind_of.Statement.{statement}
 use Rattle.hexline.proofs.kind_of.Tie as tie
 

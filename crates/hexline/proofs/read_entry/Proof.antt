@@ -3,12 +3,12 @@ use mathlib.Core.Bool.{_&&_}
 use mathlib.Core.Path.{sym, ap, ap₂, _∙_}
 use native.Mathlib.Omega.{arith}
 use Rattle.label.proofs.BoolLaws.{second-true}
-use Rattle.hexline.specs.Body.{lineWords}
-use Rattle.hexline.specs.Entry.{entryFrom, layoutOf, validOf, zeroEntry}
 use Rattle.frame.specs.Frame.{bodyOf}
+use Rattle.frame.proofs.FrameLaws.{body-length, body-small}
+use Rattle.hexline.specs.Body.{lineWords}
+use Rattle.hexline.specs.Entry.{entryFrom, validOf, zeroEntry}
 use Rattle.hexline.specs.Line.{entryForm, entryIn}
 use Rattle.hexline.proofs.EntryLaws.{layout-small}
-use Rattle.frame.proofs.FrameLaws.{body-length, body-small}
 use Rattle.hexline.proofs.LineLaws.{bad-contents, bad-form, entry-form-parts, entry-label-room, grants}
 use Rattle.hexline.proofs.read_entry.Statement.{statement}
 use Rattle.hexline.proofs.read_entry.Tie as tie

@@ -4,10 +4,10 @@ use mathlib.Core.Path.{sym, ap₂, _∙_}
 use native.Mathlib.Omega.{arith}
 use Rattle.label.specs.Label.{validOf, zeroLabel}
 use Rattle.label.proofs.BoolLaws.{second-true}
-use Rattle.hexline.specs.Body.{lineWords}
 use Rattle.frame.specs.Frame.{bodyOf}
-use Rattle.hexline.specs.Line.{labelForm, labelIn}
 use Rattle.frame.proofs.FrameLaws.{body-length}
+use Rattle.hexline.specs.Body.{lineWords}
+use Rattle.hexline.specs.Line.{labelForm, labelIn}
 use Rattle.hexline.proofs.LineLaws.{bad-contents, bad-form, form-length, grants}
 use Rattle.hexline.proofs.read_label.Statement.{statement}
 use Rattle.hexline.proofs.read_label.Tie as tie

@@ -2,12 +2,12 @@ use borrow.Author.Needs.{needs}
 use mathlib.Core.Bool.{_&&_}
 use mathlib.Core.Path.{sym, ap₂, _∙_}
 use native.Mathlib.Omega.{arith}
-use Rattle.range.specs.Range.{validOf, zeroRange}
 use Rattle.label.proofs.BoolLaws.{second-true}
-use Rattle.hexline.specs.Body.{lineWords}
+use Rattle.range.specs.Range.{validOf, zeroRange}
 use Rattle.frame.specs.Frame.{bodyOf}
-use Rattle.hexline.specs.Line.{rangeForm, rangeIn}
 use Rattle.frame.proofs.FrameLaws.{body-length}
+use Rattle.hexline.specs.Body.{lineWords}
+use Rattle.hexline.specs.Line.{rangeForm, rangeIn}
 use Rattle.hexline.proofs.LineLaws.{bad-contents, bad-form, form-length, grants}
 use Rattle.hexline.proofs.read_range.Statement.{statement}
 use Rattle.hexline.proofs.read_range.Tie as tie

@@ -5,11 +5,11 @@ use Prim.Native.Nat.{ℕ}
 use native.Mathlib.Omega.{arith}
 use Rattle.label.proofs.BoolLaws.{second-true}
 use Rattle.range.specs.Tuple.{emptyTuple, validOf}
-use Rattle.hexline.specs.Body.{lineWords}
 use Rattle.frame.specs.Frame.{bodyOf}
+use Rattle.frame.proofs.FrameLaws.{body-length}
+use Rattle.hexline.specs.Body.{lineWords}
 use Rattle.hexline.specs.Line.{tupleForm, tupleIn}
 use Rattle.hexline.specs.Regions.{tupleAt}
-use Rattle.frame.proofs.FrameLaws.{body-length}
 use Rattle.hexline.proofs.LineLaws.{bad-contents, bad-form, grants, tuple-form-parts}
 use Rattle.hexline.proofs.read_tuple.Statement.{statement}
 use Rattle.hexline.proofs.read_tuple.Tie as tie

@@ -1,3 +1,4 @@
+use borrow.Author.Needs.{needs}
 use mathlib.Core.Path.{refl, sym, _∙_}
 use native.Mathlib.Omega.{arith}
 use borrow.Author.Tests.{not-false, not-true}
@@ -8,7 +9,6 @@ use Rattle.hexline.specs.Body.{lineWords}
 use Rattle.hexline.specs.Line.{entryBody}
 use Rattle.hexline.proofs.BodyLoops.{appended-count}
 use Rattle.hexline.proofs.LineLaws.{writes-line}
-use borrow.Author.Needs.{needs}
 use Rattle.hexline.proofs.write_entry.Statement.{statement}
 use Rattle.hexline.proofs.write_entry.Tie as tie
 

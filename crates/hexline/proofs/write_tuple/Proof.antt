@@ -1,3 +1,4 @@
+use borrow.Author.Needs.{needs}
 use mathlib.Core.List.{_∷_}
 use mathlib.Core.Path.{refl, sym, ap, _∙_}
 use Prim.Native.Nat.{ℕ}
@@ -13,7 +14,6 @@ use Rattle.hexline.specs.Regions.{regionsBytes}
 use Rattle.hexline.proofs.RegionsLaws.{regions-size}
 use Rattle.hexline.proofs.BodyLoops.{appended-count}
 use Rattle.hexline.proofs.LineLaws.{writes-line}
-use borrow.Author.Needs.{needs}
 use Rattle.hexline.proofs.write_tuple.Statement.{statement}
 use Rattle.hexline.proofs.write_tuple.Tie as tie
 

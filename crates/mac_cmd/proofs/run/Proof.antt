@@ -1,6 +1,6 @@
+use borrow.Author.Needs.{needs}
 use mathlib.Core.Path.{_≡_}
 use lib.ListN.{length}
-use borrow.Author.Needs.{needs}
 use Rattle.mac_cmd.proofs.run.Statement.{statement}
 use Rattle.mac_cmd.proofs.run.Tie as tie
 

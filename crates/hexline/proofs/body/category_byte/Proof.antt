@@ -1,9 +1,9 @@
+use borrow.Author.Needs.{needs}
 use mathlib.Core.Path.{sym, ap, _∙_}
 use Prim.Native.Nat.{ℕ, _/_, _%_}
 use Rattle.label.specs.Words.{wordAt}
 use Rattle.hexline.proofs.BodyLaws.{category-byte}
 use Rattle.hexline.proofs.NumberLaws.{pow-byte}
-use borrow.Author.Needs.{needs}
 use Rattle.hexline.proofs.body.category_byte.Statement.{statement}
 use Rattle.hexline.proofs.body.category_byte.Tie as tie
 

@@ -1,3 +1,4 @@
+use borrow.Author.Needs.{needs}
 use mathlib.Core.Path.{_≡_, refl, ap₂}
 use Prim.Native.Nat.{_≤_, _+_, _-_}
 use native.Mathlib.Omega.{arith}
@@ -8,7 +9,6 @@ use Rattle.label.specs.Words.{words as setWords}
 use Rattle.label.proofs.IndexLaws.{fill-done, fill-step}
 use Rattle.frame.specs.Frame.{bodyOf}
 use Rattle.hexline.specs.Body.{labelAt, wordFrom}
-use borrow.Author.Needs.{needs}
 use Rattle.hexline.proofs.body.label_at.Statement.{statement}
 use Rattle.hexline.proofs.body.label_at.Tie as tie
 

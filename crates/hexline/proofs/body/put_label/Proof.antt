@@ -1,13 +1,13 @@
+use borrow.Author.Needs.{needs}
 use mathlib.Core.List.{_++_}
-use mathlib.Core.Path.{_≡_, refl, sym, ap, _∙_}
-use Prim.Native.Nat.{ℕ, _≤_, _+_, _*_, _-_}
+use mathlib.Core.Path.{_≡_, refl, _∙_}
+use Prim.Native.Nat.{_≤_, _+_, _*_, _-_}
 use native.Mathlib.Omega.{arith}
 use lib.ListN.{length, set, take, length-set}
 use Rattle.label.specs.Index.{tabulate}
-use Rattle.hexline.specs.Body.{categoryByte, labelBytes}
+use Rattle.hexline.specs.Body.{categoryByte}
 use Rattle.hexline.proofs.BodyLoops.{fill-more, fill-start, label-done}
 use Rattle.hexline.proofs.BodyLaws.{label-length}
-use borrow.Author.Needs.{needs}
 use Rattle.hexline.proofs.body.put_label.Statement.{statement}
 use Rattle.hexline.proofs.body.put_label.Tie as tie
 

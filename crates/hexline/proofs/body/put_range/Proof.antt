@@ -1,8 +1,8 @@
+use borrow.Author.Needs.{needs}
 use native.Mathlib.Omega.{arith}
 use Rattle.hexline.specs.Body.{rangeBytes}
 use Rattle.hexline.proofs.BodyLaws.{label-length}
 use Rattle.hexline.proofs.BodyLoops.{appended-both}
-use borrow.Author.Needs.{needs}
 use Rattle.hexline.proofs.body.put_range.Statement.{statement}
 use Rattle.hexline.proofs.body.put_range.Tie as tie
 

@@ -1,7 +1,7 @@
+use borrow.Author.Needs.{needs}
 use mathlib.Core.Path.{ap₂}
 use Rattle.range.specs.Range.{rangeOf}
 use Rattle.hexline.specs.Body.{rangeAt}
-use borrow.Author.Needs.{needs}
 use Rattle.hexline.proofs.body.range_at.Statement.{statement}
 use Rattle.hexline.proofs.body.range_at.Tie as tie
 

@@ -1,6 +1,6 @@
+use borrow.Author.Needs.{needs}
 use mathlib.Core.Path.{sym, _∙_}
 use Rattle.hexline.proofs.BodyLaws.{word-from, word-past}
-use borrow.Author.Needs.{needs}
 use Rattle.hexline.proofs.body.set_word.Statement.{statement}
 use Rattle.hexline.proofs.body.set_word.Tie as tie
 

@@ -1,12 +1,12 @@
+use borrow.Author.Needs.{needs}
 use mathlib.Core.Path.{_≡_, refl, ap, ap₂, _∙_}
 use Prim.Native.Nat.{ℕ, _≤_, _+_, _*_, _-_}
 use native.Mathlib.Omega.{arith}
 use Rattle.frame.specs.Frame.{bodyOf}
-use Rattle.hexline.specs.Body.{byteAt, numberOf}
 use Rattle.frame.proofs.FrameLaws.{body-small}
+use Rattle.hexline.specs.Body.{byteAt, numberOf}
 use Rattle.hexline.proofs.NumberLaws.{number-next}
 use Rattle.hexline.proofs.BodyLoops.{word-room}
-use borrow.Author.Needs.{needs}
 use Rattle.hexline.proofs.body.word_at.Statement.{statement}
 use Rattle.hexline.proofs.body.word_at.Tie as tie
 

@@ -1,3 +1,4 @@
+use borrow.Author.Needs.{needs}
 use mathlib.Core.Bool.{true}
 use mathlib.Core.Path.{_≡_, refl, sym, _∙_}
 use Prim.Native.Nat.{_≤_, _-_}
@@ -7,7 +8,6 @@ use borrow.Author.Tests.{not-false, not-true}
 use Rattle.label.specs.Index.{every}
 use Rattle.label.proofs.IndexLaws.{every-done, every-next, every-stop}
 use Rattle.hexline.specs.Entry.{nameByteAt}
-use borrow.Author.Needs.{needs}
 use Rattle.hexline.proofs.entry.all_name_bytes.Statement.{statement}
 use Rattle.hexline.proofs.entry.all_name_bytes.Tie as tie
 

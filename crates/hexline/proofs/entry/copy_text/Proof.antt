@@ -1,3 +1,4 @@
+use borrow.Author.Needs.{needs}
 use mathlib.Core.Path.{_≡_, refl}
 use Prim.Native.Nat.{_≤_, _-_}
 use native.Mathlib.Omega.{arith}
@@ -6,7 +7,6 @@ use Rattle.label.specs.Index.{tabulate}
 use Rattle.label.proofs.IndexLaws.{fill-done, fill-step}
 use Rattle.frame.specs.Frame.{bodyOf}
 use Rattle.hexline.specs.Entry.{textByte, textFrom}
-use borrow.Author.Needs.{needs}
 use Rattle.hexline.proofs.entry.copy_text.Statement.{statement}
 use Rattle.hexline.proofs.entry.copy_text.Tie as tie
 

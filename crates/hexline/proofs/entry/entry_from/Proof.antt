@@ -1,5 +1,5 @@
-use Rattle.hexline.specs.Entry.{entryFrom}
 use borrow.Author.Needs.{needs}
+use Rattle.hexline.specs.Entry.{entryFrom}
 use Rattle.hexline.proofs.entry.entry_from.Statement.{statement}
 use Rattle.hexline.proofs.entry.entry_from.Tie as tie
 

@@ -1,6 +1,6 @@
+use borrow.Author.Needs.{needs}
 use mathlib.Core.Path.{sym}
 use lib.ListN.{List·getD-eq-default}
-use borrow.Author.Needs.{needs}
 use Rattle.hexline.proofs.entry.first.Statement.{statement}
 use Rattle.hexline.proofs.entry.first.Tie as tie
 

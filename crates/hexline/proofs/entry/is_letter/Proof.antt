@@ -1,5 +1,5 @@
-use Rattle.hexline.specs.Entry.{isLetter}
 use borrow.Author.Needs.{needs}
+use Rattle.hexline.specs.Entry.{isLetter}
 use Rattle.hexline.proofs.entry.is_letter.Statement.{statement}
 use Rattle.hexline.proofs.entry.is_letter.Tie as tie
 

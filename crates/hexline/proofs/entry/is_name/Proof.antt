@@ -1,5 +1,5 @@
-use Rattle.hexline.specs.Entry.{nameOf}
 use borrow.Author.Needs.{needs}
+use Rattle.hexline.specs.Entry.{nameOf}
 use Rattle.hexline.proofs.entry.is_name.Statement.{statement}
 use Rattle.hexline.proofs.entry.is_name.Tie as tie
 

@@ -1,5 +1,5 @@
-use Rattle.hexline.specs.Entry.{isNameByte}
 use borrow.Author.Needs.{needs}
+use Rattle.hexline.specs.Entry.{isNameByte}
 use Rattle.hexline.proofs.entry.is_name_byte.Statement.{statement}
 use Rattle.hexline.proofs.entry.is_name_byte.Tie as tie
 

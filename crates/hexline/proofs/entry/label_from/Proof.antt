@@ -1,6 +1,6 @@
+use borrow.Author.Needs.{needs}
 use borrow.Author.Tests.{eq-eqb, ne-eqb}
 use Rattle.hexline.specs.Entry.{labelFrom}
-use borrow.Author.Needs.{needs}
 use Rattle.hexline.proofs.entry.label_from.Statement.{statement}
 use Rattle.hexline.proofs.entry.label_from.Tie as tie
 

@@ -1,9 +1,9 @@
+use borrow.Author.Needs.{needs}
 use Prim.Native.Nat.{_+_}
 use native.Mathlib.Omega.{arith}
-use Rattle.hexline.specs.Entry.{layoutOf}
 use Rattle.frame.proofs.FrameLaws.{body-small}
+use Rattle.hexline.specs.Entry.{layoutOf}
 use Rattle.hexline.proofs.EntryLaws.{size-small}
-use borrow.Author.Needs.{needs}
 use Rattle.hexline.proofs.entry.layout_at.Statement.{statement}
 use Rattle.hexline.proofs.entry.layout_at.Tie as tie
 

@@ -1,6 +1,6 @@
+use borrow.Author.Needs.{needs}
 use borrow.Author.Tests.{le-ltb, lt-ltb}
 use Rattle.hexline.specs.Entry.{nameByteOk}
-use borrow.Author.Needs.{needs}
 use Rattle.hexline.proofs.entry.name_byte_ok.Statement.{statement}
 use Rattle.hexline.proofs.entry.name_byte_ok.Tie as tie
 

@@ -1,5 +1,5 @@
-use Rattle.hexline.proofs.BodyLoops.{appended-byte}
 use borrow.Author.Needs.{needs}
+use Rattle.hexline.proofs.BodyLoops.{appended-byte}
 use Rattle.hexline.proofs.entry.put_byte.Statement.{statement}
 use Rattle.hexline.proofs.entry.put_byte.Tie as tie
 

@@ -1,3 +1,4 @@
+use borrow.Author.Needs.{needs}
 use mathlib.Core.List.{_++_, append-nil}
 use mathlib.Core.Path.{_≡_, refl, sym, ap, _∙_}
 use Prim.Native.Nat.{ℕ, _≤_, _+_, _-_}
@@ -6,7 +7,6 @@ use native.Mathlib.Omega.{arith}
 use lib.ListN.{getD, length, take, length-set}
 use lib.Seq.{length-take-le}
 use Rattle.hexline.proofs.BodyLoops.{text-more}
-use borrow.Author.Needs.{needs}
 use Rattle.hexline.proofs.entry.put_bytes.Statement.{statement}
 use Rattle.hexline.proofs.entry.put_bytes.Tie as tie
 

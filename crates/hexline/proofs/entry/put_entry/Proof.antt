@@ -1,6 +1,6 @@
+use borrow.Author.Needs.{needs}
 use native.Mathlib.Omega.{arith}
 use Rattle.hexline.proofs.EntryLaws.{entry-joined, valid-parts, value-length}
-use borrow.Author.Needs.{needs}
 use Rattle.hexline.proofs.entry.put_entry.Statement.{statement}
 use Rattle.hexline.proofs.entry.put_entry.Tie as tie
 

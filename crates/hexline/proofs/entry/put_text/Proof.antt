@@ -1,9 +1,9 @@
+use borrow.Author.Needs.{needs}
 use mathlib.Core.Path.{_≡_}
 use Prim.Native.Nat.{_%_}
 use native.Mathlib.Nat.{mod-eq-of-lt}
 use native.Mathlib.Omega.{arith}
 use Rattle.hexline.proofs.BodyLoops.{appended-both}
-use borrow.Author.Needs.{needs}
 use Rattle.hexline.proofs.entry.put_text.Statement.{statement}
 use Rattle.hexline.proofs.entry.put_text.Tie as tie
 

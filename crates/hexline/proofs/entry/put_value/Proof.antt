@@ -1,7 +1,7 @@
+use borrow.Author.Needs.{needs}
 use native.Mathlib.Nat.{mod-eq-of-lt}
 use Rattle.hexline.specs.Entry.{valueBytes}
 use Rattle.hexline.proofs.EntryLaws.{category-small}
-use borrow.Author.Needs.{needs}
 use Rattle.hexline.proofs.entry.put_value.Statement.{statement}
 use Rattle.hexline.proofs.entry.put_value.Tie as tie
 

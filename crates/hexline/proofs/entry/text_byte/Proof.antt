@@ -1,6 +1,6 @@
+use borrow.Author.Needs.{needs}
 use borrow.Author.Tests.{le-ltb, lt-ltb}
 use Rattle.hexline.specs.Entry.{textByte}
-use borrow.Author.Needs.{needs}
 use Rattle.hexline.proofs.entry.text_byte.Statement.{statement}
 use Rattle.hexline.proofs.entry.text_byte.Tie as tie
 

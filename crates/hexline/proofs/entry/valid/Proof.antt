@@ -1,5 +1,5 @@
-use Rattle.hexline.specs.Entry.{validOf}
 use borrow.Author.Needs.{needs}
+use Rattle.hexline.specs.Entry.{validOf}
 use Rattle.hexline.proofs.entry.valid.Statement.{statement}
 use Rattle.hexline.proofs.entry.valid.Tie as tie
 

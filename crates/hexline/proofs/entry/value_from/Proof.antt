@@ -1,6 +1,5 @@
 use borrow.Author.Tests.{eq-eqb, ne-eqb}
 use Rattle.hexline.specs.Entry.{valueFrom}
-use borrow.Author.Needs.{needs}
 use Rattle.hexline.proofs.entry.value_from.Statement.{statement}
 use Rattle.hexline.proofs.entry.value_from.Tie as tie
 

@@ -1,7 +1,7 @@
+use borrow.Author.Needs.{needs}
 use mathlib.Core.Path.{sym, ap}
 use Rattle.hexline.specs.Entry.{valueOk}
 use Rattle.hexline.specs.declared.entry.Value.{Value}
-use borrow.Author.Needs.{needs}
 use Rattle.hexline.proofs.entry.value_ok.Statement.{statement}
 use Rattle.hexline.proofs.entry.value_ok.Tie as tie
 

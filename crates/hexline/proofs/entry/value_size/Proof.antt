@@ -1,6 +1,6 @@
+use borrow.Author.Needs.{needs}
 use borrow.Author.Tests.{eq-eqb, ne-eqb}
 use Rattle.hexline.specs.Entry.{valueSize}
-use borrow.Author.Needs.{needs}
 use Rattle.hexline.proofs.entry.value_size.Statement.{statement}
 use Rattle.hexline.proofs.entry.value_size.Tie as tie
 

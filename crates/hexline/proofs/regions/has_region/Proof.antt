@@ -1,5 +1,5 @@
-use Rattle.label.specs.Words.{bit}
 use borrow.Author.Needs.{needs}
+use Rattle.label.specs.Words.{bit}
 use Rattle.hexline.proofs.regions.has_region.Statement.{statement}
 use Rattle.hexline.proofs.regions.has_region.Tie as tie
 

@@ -1,3 +1,4 @@
+use borrow.Author.Needs.{needs}
 use mathlib.Core.Path.{_≡_, refl, ap, ap₂, _∙_}
 use Prim.Native.Nat.{ℕ, _≤_, _+_, _*_, _-_}
 use native.Mathlib.Omega.{arith}
@@ -6,7 +7,6 @@ use Rattle.hexline.specs.Body.{numberOf}
 use Rattle.hexline.specs.Regions.{presenceOf, presentAt}
 use Rattle.hexline.proofs.NumberLaws.{number-next}
 use Rattle.hexline.proofs.RegionsLaws.{presence-room, present-small}
-use borrow.Author.Needs.{needs}
 use Rattle.hexline.proofs.regions.presence.Statement.{statement}
 use Rattle.hexline.proofs.regions.presence.Tie as tie
 

@@ -1,10 +1,10 @@
+use borrow.Author.Needs.{needs}
 use mathlib.Core.Path.{_≡_, refl, ap, ap₂, _∙_}
 use Prim.Native.Nat.{_≤_, _+_, _-_}
 use native.Mathlib.Omega.{arith}
 use Rattle.label.specs.Words.{bit}
 use Rattle.hexline.specs.Regions.{presentBelow}
 use Rattle.hexline.proofs.RegionsLaws.{below-next, one-of}
-use borrow.Author.Needs.{needs}
 use Rattle.hexline.proofs.regions.present_below.Statement.{statement}
 use Rattle.hexline.proofs.regions.present_below.Tie as tie
 

@@ -1,6 +1,6 @@
+use borrow.Author.Needs.{needs}
 use Rattle.hexline.proofs.BodyLoops.{appended-none}
 use Rattle.hexline.proofs.RegionsLaws.{region-none, region-there}
-use borrow.Author.Needs.{needs}
 use Rattle.hexline.proofs.regions.put_region.Statement.{statement}
 use Rattle.hexline.proofs.regions.put_region.Tie as tie
 

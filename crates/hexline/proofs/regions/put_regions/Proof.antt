@@ -1,3 +1,4 @@
+use borrow.Author.Needs.{needs}
 use mathlib.Core.Path.{_≡_}
 use Prim.Native.Nat.{_≤_, _-_}
 use native.Mathlib.Omega.{arith}
@@ -6,7 +7,6 @@ use Rattle.hexline.specs.Body.{Appended}
 use Rattle.hexline.specs.Regions.{regionsBytes}
 use Rattle.hexline.proofs.BodyLoops.{appended-both, appended-none}
 use Rattle.hexline.proofs.RegionsLaws.{regions-next, regions-room}
-use borrow.Author.Needs.{needs}
 use Rattle.hexline.proofs.regions.put_regions.Statement.{statement}
 use Rattle.hexline.proofs.regions.put_regions.Tie as tie
 

@@ -1,10 +1,10 @@
+use borrow.Author.Needs.{needs}
 use mathlib.Core.Path.{sym, _∙_}
 use native.Mathlib.Omega.{arith}
 use Rattle.label.specs.Region.{regions}
 use Rattle.hexline.specs.Body.{rangeSize}
 use Rattle.hexline.specs.Regions.{regionAt}
 use Rattle.hexline.proofs.RegionsLaws.{present-room}
-use borrow.Author.Needs.{needs}
 use Rattle.hexline.proofs.regions.region_at.Statement.{statement}
 use Rattle.hexline.proofs.regions.region_at.Tie as tie
 

@@ -1,3 +1,4 @@
+use borrow.Author.Needs.{needs}
 use mathlib.Core.Path.{_≡_, refl, ap}
 use Prim.Native.Nat.{_≤_, _-_}
 use native.Mathlib.Omega.{arith}
@@ -8,7 +9,6 @@ use Rattle.label.proofs.IndexLaws.{fill-done, fill-step}
 use Rattle.range.specs.Tuple.{tupleOf}
 use Rattle.frame.specs.Frame.{bodyOf}
 use Rattle.hexline.specs.Regions.{regionAt, tupleAt}
-use borrow.Author.Needs.{needs}
 use Rattle.hexline.proofs.regions.tuple_at.Statement.{statement}
 use Rattle.hexline.proofs.regions.tuple_at.Tie as tie
 

@@ -1,7 +1,7 @@
+use borrow.Author.Needs.{needs}
 use mathlib.Core.Path.{_≡_}
 use Prim.Native.Nat.{_-_}
 use lib.ListN.{length}
-use borrow.Author.Needs.{needs}
 use Rattle.mac_cmd.proofs.session.work.Statement.{statement}
 use Rattle.mac_cmd.proofs.session.work.Tie as tie
 
