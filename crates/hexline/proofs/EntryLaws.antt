@@ -16,7 +16,7 @@ use Rattle.label.specs.Words.{words}
 use Rattle.label.specs.declared.Label.{Label}
 use Rattle.label.proofs.BoolLaws.{first-true, second-true, three-true}
 use Rattle.label.proofs.IndexLaws.{every-at, le-or-lt, tabulate-at, tabulate-length}
-use Rattle.label.proofs.LabelLaws.{equal-exact}
+use Rattle.label.proofs.LabelLaws.{equal-exact, valid-hierarchy}
 use Rattle.frame.proofs.FrameLaws.{Bytes}
 use Rattle.hexline.specs.Body.{Appended, byteAt, labelSize}
 use Rattle.hexline.specs.Entry.{classOf, entryBytes, isLetter, labelFrom, layoutOf, nameByteAt, nameByteOk, nameOf, textByte, textBytes, textFrom, validOf, valueBytes, valueFrom, valueOk, valueSize}
@@ -35,7 +35,8 @@ category-small c l e = ltb-true c 256 (first-true (ltb c 256) (Label.equalOf l L
 
 pub hierarchy-small : (h : ℕ) (l : Label) → valueOk (Hierarchy h) l ≡ true → h ≤ 199
 unfolding valueOk
-hierarchy-small h l e = leb-true h 199 (first-true (leb h 199) (Label.equalOf l Label.zeroLabel) e)
+hierarchy-small h l e =
+    valid-hierarchy (Label.labelOf h []) (first-true (Label.validOf (Label.labelOf h [])) (Label.equalOf l Label.zeroLabel) e)
 
 pub record Valid (e : Entry) : Type 0 where
   pub value : valueOk (e .value) (e .label) ≡ true
@@ -172,7 +173,7 @@ pub value-back : (w : ℕ) (bs : List ℕ) (i : ℕ) (v : Value) (l : Label) →
     → (valueFrom (classOf v) (byteAt bs i) ≡ v) × (labelFrom w bs (classOf v) i ≡ l)
 unfolding valueBytes valueFrom labelFrom valueOk
 value-back w bs i (Hierarchy h) l t within e here =
-    (ap Hierarchy (ap (byteAt bs) (sym (add-zero i)) ∙ here 0 (omega arith)), no-label l t (second-true (leb h 199) (Label.equalOf l Label.zeroLabel) e))
+    (ap Hierarchy (ap (byteAt bs) (sym (add-zero i)) ∙ here 0 (omega arith)), no-label l t (second-true (Label.validOf (Label.labelOf h [])) (Label.equalOf l Label.zeroLabel) e))
 value-back w bs i (Category c) l t within e here =
     (ap Category (ap (byteAt bs) (sym (add-zero i)) ∙ here 0 (omega arith)), no-label l t (second-true (ltb c 256) (Label.equalOf l Label.zeroLabel) e))
 value-back w bs i WholeLabel l t within e here = (refl, label-back w bs i l here t within)

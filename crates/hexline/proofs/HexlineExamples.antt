@@ -6,6 +6,7 @@ use Prim.Native.Nat.{ℕ, _^_}
 use lib.ListN.{replicate}
 use Rattle.label.specs.Answer.{granted, refused}
 use Rattle.label.specs.Index.{every, tabulate}
+use Rattle.label.specs.Label
 use Rattle.label.specs.Label.{equalOf, labelOf, zeroLabel}
 use Rattle.label.specs.Words.{bit, has, includesOf, sameOf}
 use Rattle.range.specs.Tuple
@@ -53,11 +54,11 @@ unfolding emptyLine Tuple.validOf validAt equalOf sameOf includesOf every tupleF
 empty-read = refl
 
 low-written : entryLineOf low ≡ granted lowLine
-unfolding lowLine low Entry.validOf valueOk nameOf nameByteOk isNameByte isLetter equalOf sameOf includesOf every entryBody entryBytes valueBytes frameOf digitsOf digitOf checkOf sumOf
+unfolding lowLine low Label.validOf Entry.validOf valueOk nameOf nameByteOk isNameByte isLetter equalOf sameOf includesOf every entryBody entryBytes valueBytes frameOf digitsOf digitOf checkOf sumOf
 low-written = refl
 
 low-read : readEntryOf lowLine ≡ granted low
-unfolding lowLine low Entry.validOf valueOk nameOf nameByteOk isNameByte isLetter equalOf sameOf includesOf every entryForm layoutOf valueSize entryFrom valueFrom labelFrom textFrom textByte tabulate framedOf spelledOf bytesOf bodyOf valueOf isDigit sumOf contentsOf formOf
+unfolding lowLine low Label.validOf Entry.validOf valueOk nameOf nameByteOk isNameByte isLetter equalOf sameOf includesOf every entryForm layoutOf valueSize entryFrom valueFrom labelFrom textFrom textByte tabulate framedOf spelledOf bytesOf bodyOf valueOf isDigit sumOf contentsOf formOf
 low-read = refl
 
 east-written : entryLineOf east ≡ granted eastLine

@@ -58,9 +58,10 @@ nameByteAt bs n i = nameByteOk n i (byteAt bs i)
 unfoldable pub nameOf : List ℕ → ℕ → Bool
 nameOf bs n = leb n (length bs) && (eqb n 0 || isLetter (byteAt bs 0)) && every (nameByteAt bs n) (length bs)
 
--- the value is one of its class, a category held in one byte; where the class has no label, zeros are held there
+-- the value is one of its class: the hierarchy of a valid label, a category of one byte, a valid label. Where the class has no label, zeros
+-- are held there
 unfoldable pub valueOk : Value → Label → Bool
-valueOk (Hierarchy h) l = leb h 199 && Label.equalOf l Label.zeroLabel
+valueOk (Hierarchy h) l = Label.validOf (Label.labelOf h []) && Label.equalOf l Label.zeroLabel
 valueOk (Category c) l = ltb c 256 && Label.equalOf l Label.zeroLabel
 valueOk WholeLabel l = Label.validOf l
 

@@ -1,5 +1,5 @@
--- Document 01, "Hex lines": the lines of labels, ranges, tuples and alias entries, kinds 01 to 04. A body is the kind, then the contents; each definition
--- is over the kind's number and the words that a set has in it. Assumes nothing.
+-- Document 01, "Hex lines": the lines of labels, ranges, tuples and alias entries, kinds 01 to 04. A body is the kind, then the contents;
+-- each definition is over the kind's number and the words that a set has in it. Assumes nothing.
 use mathlib.Core.Bool.{Bool, _&&_}
 use mathlib.Core.List.{List, _∷_}
 use Prim.Native.Nat.{ℕ, _+_, _*_, _^_}

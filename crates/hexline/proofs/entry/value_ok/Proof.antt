@@ -1,5 +1,6 @@
 use borrow.Author.Needs.{needs}
 use mathlib.Core.Path.{sym, ap}
+use Rattle.label.specs.Label.{validOf}
 use Rattle.hexline.specs.Entry.{valueOk}
 use Rattle.hexline.specs.declared.entry.Value.{Value}
 use Rattle.hexline.proofs.entry.value_ok.Statement.{statement}
@@ -24,7 +25,7 @@ valid-requires : tie.Need-valid-requires
 valid-requires c κs = search needs
 
 returns : tie.Need-returns
-unfolding valueOk
+unfolding valueOk validOf
 returns c =
     let a = c .before .before .before .before .args in
     rw (c .is-zero .ensures) (ap (λ (v : Value). valueOk v (a .l)) (sym (c .before .before .v .given .1)))
