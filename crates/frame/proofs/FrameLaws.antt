@@ -109,6 +109,23 @@ sum-set (x ∷ l) (suc k) v h = let ih = sum-set l k v (omega arith) in omega ar
 abbrev pub Bytes : List ℕ → Type 0
 Bytes bs = (i : ℕ) → getD bs i 0 < 256
 
+-- past its end a list goes on with zeros, which are bytes
+pub bytes-by : (bs : List ℕ) → ((i : ℕ) → i < length bs → getD bs i 0 < 256) → Bytes bs
+bytes-by bs h i = ⊎-elim (λ l. let z = List·getD-eq-default bs 0 {n = i} l in omega arith) (λ l. h i l) (le-or-lt (length bs) i)
+
+pub bytes-take : (n : ℕ) (bs : List ℕ) → Bytes bs → Bytes (take n bs)
+bytes-take n bs h =
+    bytes-by (take n bs) (λ i l. let e = length-take n bs in let g = getD-take n bs i 0 (omega arith) in omega (arith, h i))
+
+pub cons-bytes : (b : ℕ) (bs : List ℕ) → b < 256 → Bytes bs → Bytes (b ∷ bs)
+cons-bytes b bs h small zero = h
+cons-bytes b bs h small (suc i) = small i
+
+pub bytes-append : (xs ys : List ℕ) → Bytes xs → Bytes ys → Bytes (xs ++ ys)
+bytes-append [] ys hx hy i = hy i
+bytes-append (x ∷ xs) ys hx hy zero = hx 0
+bytes-append (x ∷ xs) ys hx hy (suc i) = bytes-append xs ys (λ j. hx (suc j)) hy i
+
 pub digits-append : (a b : List ℕ) → digitsOf (a ++ b) ≡ digitsOf a ++ digitsOf b
 unfolding digitsOf
 digits-append [] b = refl
@@ -182,13 +199,6 @@ check-only : (body : List ℕ) (c : ℕ) → c < 256 → sumOf (body ++ (c ∷ [
 unfolding checkOf
 check-only body c h e = let s = sum-append body (c ∷ []) in let o = sum-one c in omega arith
 
--- a byte at the end of bytes
-bytes-more : (bs : List ℕ) (b : ℕ) → Bytes bs → b < 256 → Bytes (bs ++ (b ∷ []))
-bytes-more [] b h s zero = s
-bytes-more [] b h s (suc i) = omega arith
-bytes-more (x ∷ bs) b h s zero = h 0
-bytes-more (x ∷ bs) b h s (suc i) = bytes-more bs b (λ j. h (suc j)) s i
-
 length-more : (bs : List ℕ) (b : ℕ) → length (bs ++ (b ∷ [])) ≡ length bs + 1
 length-more bs b = length-append bs (b ∷ [])
 
@@ -205,7 +215,7 @@ pub frame-back : (body : List ℕ) → Bytes body → (framedOf (frameOf body) �
 unfolding frameOf framedOf bodyOf
 frame-back body h =
     let bs = body ++ (checkOf body ∷ []) in
-    let r = spelled-back bs (bytes-more body (checkOf body) h (check-small body)) in
+    let r = spelled-back bs (bytes-append body (checkOf body ∷ []) h (cons-bytes (checkOf body) [] (check-small body) (λ i. omega arith))) in
     let m = length-more body (checkOf body) in
     let n : length bs - 1 ≡ length body = omega arith in (
       rw (r .1) (both (both (r .0) (le-leb 1 (length bs) (omega arith))) (eq-eqb (sumOf bs % 256) 0 (check-sum body))),
@@ -236,11 +246,7 @@ body-length line = let b = bytes-length line in let t = length-take (length (byt
 
 pub body-small : (line : List ℕ) → Bytes (bodyOf line)
 unfolding bodyOf
-body-small line i =
-    ⊎-elim
-    (λ l. let t = length-take (length (bytesOf line) - 1) (bytesOf line) in let z = List·getD-eq-default (bodyOf line) 0 {n = i} (omega arith) in omega arith)
-    (λ l. let g = getD-take (length (bytesOf line) - 1) (bytesOf line) i 0 l in let b = bytes-small line i in omega arith)
-    (le-or-lt (length (bytesOf line) - 1) i)
+body-small line = bytes-take (length (bytesOf line) - 1) (bytesOf line) (bytes-small line)
 
 -- ---- contents by way of a body: what holds of bodies holds of lines
 

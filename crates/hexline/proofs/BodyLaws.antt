@@ -7,7 +7,7 @@ use Prim.Native.Nat.{ℕ, zero, suc, _+_, _*_, _/_, _%_, _^_, _≤_, _<_}
 use native.Mathlib.Nat.{add-zero, mod-lt, zero-lt-suc}
 use native.Mathlib.Omega.{arith}
 use lib.Dec.{eqb}
-use lib.ListN.{drop, getD, length, take, length-append, length-drop, length-take, List·getD-append, List·getD-eq-default}
+use lib.ListN.{drop, getD, length, take, length-append, length-drop, List·getD-append}
 use lib.Seq.{drop-cons, ext-getD, getD-append-add, getD-drop, getD-take, length-take-le, take-all, drop-drop, take-add}
 use borrow.Author.Tests.{le-ltb, lt-ltb}
 use Rattle.label.specs.Index.{tabulate}
@@ -17,7 +17,7 @@ use Rattle.label.specs.declared.Label.{Label}
 use Rattle.label.proofs.IndexLaws.{le-or-lt, tabulate-at, tabulate-length}
 use Rattle.range.specs.Range
 use Rattle.range.specs.declared.Range.{Range}
-use Rattle.frame.proofs.FrameLaws.{Bytes}
+use Rattle.frame.proofs.FrameLaws.{Bytes, bytes-append, bytes-by}
 use Rattle.hexline.specs.Body.{byteAt, categoryBit, categoryByte, labelAt, labelBytes, labelSize, numberOf, rangeAt, rangeBytes, rangeSize, wordFrom}
 use Rattle.hexline.proofs.NumberLaws.{as-number, byte-bit, number-digit, number-only}
 
@@ -61,28 +61,9 @@ pub first-part : (n : ℕ) (bs : List ℕ) → length bs ≡ 1 + n → bs ≡ by
 first-part n [] e = absurd (omega arith)
 first-part n (b ∷ bs) e = ap (λ (l : List ℕ). b ∷ l) (sym (take-all n bs (omega arith)))
 
-pub cons-bytes : (b : ℕ) (bs : List ℕ) → b < 256 → Bytes bs → Bytes (b ∷ bs)
-cons-bytes b bs h small zero = h
-cons-bytes b bs h small (suc i) = small i
-
-pub bytes-append : (xs ys : List ℕ) → Bytes xs → Bytes ys → Bytes (xs ++ ys)
-bytes-append [] ys hx hy i = hy i
-bytes-append (x ∷ xs) ys hx hy zero = hx 0
-bytes-append (x ∷ xs) ys hx hy (suc i) = bytes-append xs ys (λ j. hx (suc j)) hy i
-
-pub bytes-take : (n : ℕ) (xs : List ℕ) → Bytes xs → Bytes (take n xs)
-bytes-take n xs h i =
-    ⊎-elim
-    (λ l. let e = length-take n xs in let z = List·getD-eq-default (take n xs) 0 {n = i} (omega arith) in omega arith)
-    (λ l. let e = getD-take n xs i 0 l in omega (arith, h i))
-    (le-or-lt n i)
-
 pub bytes-tabulate : (f : ℕ → ℕ) (n : ℕ) → ((i : ℕ) → f i < 256) → Bytes (tabulate f n)
-bytes-tabulate f n h i =
-    ⊎-elim
-    (λ l. let e = tabulate-length f n in let z = List·getD-eq-default (tabulate f n) 0 {n = i} (omega arith) in omega arith)
-    (λ l. let e = tabulate-at f n i 0 l in omega (arith, h i))
-    (le-or-lt n i)
+bytes-tabulate f n h =
+    bytes-by (tabulate f n) (λ i l. let e = tabulate-length f n in let g = tabulate-at f n i 0 (omega arith) in omega (arith, h i))
 
 -- ---- labels
 

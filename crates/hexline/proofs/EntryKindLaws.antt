@@ -16,7 +16,7 @@ use Rattle.label.specs.Words.{words}
 use Rattle.label.specs.declared.Label.{Label}
 use Rattle.label.proofs.BoolLaws.{both}
 use Rattle.frame.specs.Frame.{readOf}
-use Rattle.frame.proofs.FrameLaws.{Bytes}
+use Rattle.frame.proofs.FrameLaws.{Bytes, bytes-append, bytes-take, cons-bytes}
 use Rattle.hexline.specs.Body.{byteAt}
 use Rattle.hexline.specs.Entry.{TypedEntry, abbreviationText, classOf, entryBytes, entryFrom, entryOf, layoutOf, maxAbbreviation, maxName, nameText, past, textBytes, textFrom, validOf, valueBytes, valueSize}
 use Rattle.hexline.specs.Line.{contentsOf, entryBody, entryForm, entryIn, formOf, lineOf}
@@ -24,7 +24,7 @@ use Rattle.hexline.specs.declared.entry.Entry.{Entry}
 use Rattle.hexline.specs.declared.entry.Layout.{Layout}
 use Rattle.hexline.specs.declared.entry.Value.{Value}
 use Rattle.hexline.specs.declared.entry.Value.the-variants.{Hierarchy, Category, WholeLabel}
-use Rattle.hexline.proofs.BodyLaws.{Holds, Within, bytes-append, bytes-take, cons-bytes, first-part, holds-first, holds-second, holds-self, one-part, part, parts-join}
+use Rattle.hexline.proofs.BodyLaws.{Holds, Within, first-part, holds-first, holds-second, holds-self, one-part, part, parts-join}
 use Rattle.hexline.proofs.EntryLaws.{name-fits, name-zero, text-back, text-forth, text-length, valid-parts, value-back, value-bytes, value-forth, value-size}
 use Rattle.hexline.proofs.LineLaws.{entry-form-parts, form-of, line-exact}
 
@@ -37,6 +37,19 @@ class-high : (v : Value) → classOf v ≤ 3
 class-high (Hierarchy h) = omega arith
 class-high (Category c) = omega arith
 class-high WholeLabel = omega arith
+
+-- a valid entry's name and abbreviation fit their arrays
+record Fits (e : Entry) : Type 0 where
+  named : e .name .length ≤ length (e .name .bytes)
+  short : e .abbreviation .length ≤ length (e .abbreviation .bytes)
+
+fits-of : (e : Entry) → validOf e ≡ true → Fits e
+fits-of e v =
+    let x = valid-parts e v in
+    record {
+      named = name-fits (e .name .bytes) (e .name .length) (x .name);
+      short = name-fits (e .abbreviation .bytes) (e .abbreviation .length) (x .abbreviation);
+    }
 
 -- the layout of a class and two lengths, in a body
 layout : ℕ → ℕ → ℕ → ℕ → Layout
@@ -66,35 +79,34 @@ record Parts (kind w : ℕ) (bs : List ℕ) (e : Entry) : Type 0 where
 text-parts : (bs : List ℕ) (i n : ℕ) (xs : List ℕ) → Holds bs i (textBytes xs n) → (byteAt bs i ≡ n) × Holds bs (i + 1) (take n xs)
 text-parts bs i n xs h = (ap (byteAt bs) (sym (add-zero i)) ∙ h 0 (omega arith), holds-second bs i (i + 1) (n ∷ []) (take n xs) refl h)
 
-module _ (kind w : ℕ) (e : Entry) (named : e .name .length ≤ length (e .name .bytes)) (short : e .abbreviation .length ≤ length (e .abbreviation .bytes)) where
-  body-parts : Parts kind w (entryBody kind w e) e
-  unfolding entryBody entryBytes
-  body-parts =
-      let c = classOf (e .value) in
-      let value = valueBytes w (e .value) (e .label) in
-      let name = textBytes (e .name .bytes) (e .name .length) in
-      let abbreviation = textBytes (e .abbreviation .bytes) (e .abbreviation .length) in
-      let bs = kind ∷ entryBytes w e in
-      let all = holds-second bs 0 1 (kind ∷ []) (entryBytes w e) refl (holds-self bs) in
-      let front = holds-first bs 1 (c ∷ value ++ name) abbreviation all in
-      let first = holds-first bs 1 (c ∷ value) name front in
-      let v = value-size w (e .value) (e .label) in
-      let n = text-length (e .name .bytes) (e .name .length) named in
-      let a = text-length (e .abbreviation .bytes) (e .abbreviation .length) short in
-      let l = length-append (c ∷ value) name in
-      let m = length-append (c ∷ value ++ name) abbreviation in
-      let i = 2 + valueSize w c in
-      let j = i + 1 + e .name .length in
-      let name-at = text-parts bs i (e .name .length) (e .name .bytes) (holds-second bs 1 i (c ∷ value) name (omega arith) front) in
-      let abbreviation-at = text-parts bs j (e .abbreviation .length) (e .abbreviation .bytes) (holds-second bs 1 j (c ∷ value ++ name) abbreviation (omega arith) all) in
-      record {
-        kind-is = refl;
-        layout-of = layout-is w bs c (e .name .length) (e .abbreviation .length) refl (name-at .0) (abbreviation-at .0);
-        value = holds-second bs 1 2 (c ∷ []) value refl first;
-        name = name-at .1;
-        abbreviation = abbreviation-at .1;
-        size = omega arith;
-      }
+body-parts : (kind w : ℕ) (e : Entry) → Fits e → Parts kind w (entryBody kind w e) e
+unfolding entryBody entryBytes
+body-parts kind w e fits =
+    let c = classOf (e .value) in
+    let value = valueBytes w (e .value) (e .label) in
+    let name = textBytes (e .name .bytes) (e .name .length) in
+    let abbreviation = textBytes (e .abbreviation .bytes) (e .abbreviation .length) in
+    let bs = kind ∷ entryBytes w e in
+    let all = holds-second bs 0 1 (kind ∷ []) (entryBytes w e) refl (holds-self bs) in
+    let front = holds-first bs 1 (c ∷ value ++ name) abbreviation all in
+    let first = holds-first bs 1 (c ∷ value) name front in
+    let v = value-size w (e .value) (e .label) in
+    let n = text-length (e .name .bytes) (e .name .length) (fits .named) in
+    let a = text-length (e .abbreviation .bytes) (e .abbreviation .length) (fits .short) in
+    let l = length-append (c ∷ value) name in
+    let m = length-append (c ∷ value ++ name) abbreviation in
+    let i = 2 + valueSize w c in
+    let j = i + 1 + e .name .length in
+    let name-at = text-parts bs i (e .name .length) (e .name .bytes) (holds-second bs 1 i (c ∷ value) name (omega arith) front) in
+    let abbreviation-at = text-parts bs j (e .abbreviation .length) (e .abbreviation .bytes) (holds-second bs 1 j (c ∷ value ++ name) abbreviation (omega arith) all) in
+    record {
+      kind-is = refl;
+      layout-of = layout-is w bs c (e .name .length) (e .abbreviation .length) refl (name-at .0) (abbreviation-at .0);
+      value = holds-second bs 1 2 (c ∷ []) value refl first;
+      name = name-at .1;
+      abbreviation = abbreviation-at .1;
+      size = omega arith;
+    }
 
 -- ---- what is written reads back
 
@@ -103,8 +115,7 @@ module _ (kind w : ℕ) (bs : List ℕ) (e : Entry) (ty : TypedEntry e) (v : val
   unfolding entryForm layout
   entry-formed =
       let x = valid-parts e v in
-      let named = name-fits (e .name .bytes) (e .name .length) (x .name) in
-      let short = name-fits (e .abbreviation .bytes) (e .abbreviation .length) (x .abbreviation) in
+      let fits = fits-of e v in
       let n = ty .name-size in
       let a = ty .abbreviation-size in
       let c = classOf (e .value) in
@@ -122,8 +133,7 @@ module _ (kind w : ℕ) (bs : List ℕ) (e : Entry) (ty : TypedEntry e) (v : val
       let c = classOf (e .value) in
       let i = 2 + valueSize w c + 1 in
       let j = i + e .name .length + 1 in
-      let named = name-fits (e .name .bytes) (e .name .length) (x .name) in
-      let short = name-fits (e .abbreviation .bytes) (e .abbreviation .length) (x .abbreviation) in
+      let fits = fits-of e v in
       let n = ty .name-size in
       let a = ty .abbreviation-size in
       let val = value-back w bs 2 (e .value) (e .label) (ty .label) within (x .value) (at .value) in
@@ -137,8 +147,7 @@ entry-bytes : (kind w : ℕ) (e : Entry) → kind < 256 → TypedEntry e → val
 unfolding entryBody entryBytes
 entry-bytes kind w e k ty v =
     let x = valid-parts e v in
-    let named = name-fits (e .name .bytes) (e .name .length) (x .name) in
-    let short = name-fits (e .abbreviation .bytes) (e .abbreviation .length) (x .abbreviation) in
+    let fits = fits-of e v in
     let n = ty .name-size in
     let a = ty .abbreviation-size in
     let h = class-high (e .value) in
@@ -187,6 +196,4 @@ entry-exact kind w k fits e ty within =
     (λ bs. entry-forth kind w bs fits)
   where
     parts : validOf e ≡ true → Parts kind w (entryBody kind w e) e
-    parts v =
-        let x = valid-parts e v in
-        body-parts kind w e (name-fits (e .name .bytes) (e .name .length) (x .name)) (name-fits (e .abbreviation .bytes) (e .abbreviation .length) (x .abbreviation))
+    parts v = body-parts kind w e (fits-of e v)

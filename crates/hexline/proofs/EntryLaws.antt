@@ -17,14 +17,14 @@ use Rattle.label.specs.declared.Label.{Label}
 use Rattle.label.proofs.BoolLaws.{first-true, second-true, three-true}
 use Rattle.label.proofs.IndexLaws.{every-at, le-or-lt, tabulate-at, tabulate-length}
 use Rattle.label.proofs.LabelLaws.{equal-exact, valid-hierarchy}
-use Rattle.frame.proofs.FrameLaws.{Bytes}
+use Rattle.frame.proofs.FrameLaws.{Bytes, cons-bytes}
 use Rattle.hexline.specs.Body.{Appended, byteAt, labelSize}
 use Rattle.hexline.specs.Entry.{classOf, entryBytes, isLetter, labelFrom, layoutOf, nameByteAt, nameByteOk, nameOf, textByte, textBytes, textFrom, validOf, valueBytes, valueFrom, valueOk, valueSize}
 use Rattle.hexline.specs.declared.entry.Entry.{Entry}
 use Rattle.hexline.specs.declared.entry.Layout.{Layout}
 use Rattle.hexline.specs.declared.entry.Value.{Value}
 use Rattle.hexline.specs.declared.entry.Value.the-variants.{Hierarchy, Category, WholeLabel}
-use Rattle.hexline.proofs.BodyLaws.{Holds, Within, cons-bytes, label-back, label-bytes, label-forth, label-length, one-part, part, part-is, parts-join}
+use Rattle.hexline.proofs.BodyLaws.{Holds, Within, label-back, label-bytes, label-forth, label-length, one-part, part, part-is, parts-join}
 use Rattle.hexline.proofs.BodyLoops.{appended-both}
 
 -- ---- what a valid entry has

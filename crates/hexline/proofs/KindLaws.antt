@@ -21,13 +21,13 @@ use Rattle.range.specs.Tuple
 use Rattle.range.specs.declared.Range.{Range}
 use Rattle.range.specs.declared.tuple.Tuple.{Tuple}
 use Rattle.frame.specs.Frame.{readOf}
-use Rattle.frame.proofs.FrameLaws.{Bytes}
+use Rattle.frame.proofs.FrameLaws.{Bytes, cons-bytes}
 use Rattle.hexline.specs.Body.{byteAt, labelBytes, labelSize, lineWords, rangeAt, rangeBytes, rangeSize}
 use Rattle.hexline.specs.Entry.{TypedEntry}
 use Rattle.hexline.specs.Line.{contentsOf, entryLineOf, formOf, labelBody, labelForm, labelIn, labelLineOf, lineOf, rangeBody, rangeForm, rangeIn, rangeLineOf, readEntryOf, readLabelOf, readRangeOf, readTupleOf, tupleBody, tupleForm, tupleIn, tupleLineOf}
 use Rattle.hexline.specs.Regions.{presenceOf, presentBelow, regionsBytes}
 use Rattle.hexline.specs.declared.entry.Entry.{Entry}
-use Rattle.hexline.proofs.BodyLaws.{Within, cons-bytes, first-part, holds-second, holds-self, label-back, label-bytes, label-forth, label-length, one-part, part, parts-join, range-back, range-bytes, range-forth, range-length}
+use Rattle.hexline.proofs.BodyLaws.{Within, first-part, holds-second, holds-self, label-back, label-bytes, label-forth, label-length, one-part, part, parts-join, range-back, range-bytes, range-forth, range-length}
 use Rattle.hexline.proofs.EntryKindLaws.{entry-exact}
 use Rattle.hexline.proofs.LineLaws.{form-kind, form-length, form-of, line-exact, tuple-form-parts}
 use Rattle.hexline.proofs.RegionsLaws.{WithinTuple, presence-forth, presence-size, presence-small, regions-bytes, regions-forth, tuple-back}

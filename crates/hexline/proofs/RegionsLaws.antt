@@ -22,10 +22,10 @@ use Rattle.range.specs.declared.Range.{Range}
 use Rattle.range.specs.declared.tuple.RegionRange.{RegionRange}
 use Rattle.range.specs.declared.tuple.Tuple.{Tuple}
 use Rattle.range.proofs.TupleLaws.{range-of, valid-absent, valid-region}
-use Rattle.frame.proofs.FrameLaws.{Bytes}
+use Rattle.frame.proofs.FrameLaws.{Bytes, bytes-append}
 use Rattle.hexline.specs.Body.{numberOf, rangeAt, rangeBytes, rangeSize}
 use Rattle.hexline.specs.Regions.{presenceOf, presentAt, presentBelow, regionAt, regionBytes, regionsBytes, tupleAt}
-use Rattle.hexline.proofs.BodyLaws.{Holds, Within, bytes-append, holds-first, holds-second, part, parts-join, range-back, range-bytes, range-forth, range-length}
+use Rattle.hexline.proofs.BodyLaws.{Holds, Within, holds-first, holds-second, part, parts-join, range-back, range-bytes, range-forth, range-length}
 use Rattle.hexline.proofs.NumberLaws.{as-number, number-bound, number-digit, number-only}
 
 -- ---- one region
