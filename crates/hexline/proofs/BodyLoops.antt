@@ -1,7 +1,7 @@
 -- What the functions of `body` need at each turn of a loop. Assumes nothing.
 use mathlib.Core.List.{List, _∷_, [], _++_, append-assoc, append-nil}
 use mathlib.Core.Path.{_≡_, refl, sym, ap, _∙_}
-use Prim.Native.Nat.{ℕ, suc, _+_, _*_, _≤_, _<_}
+use Prim.Native.Nat.{ℕ, _+_, _*_, _≤_, _<_}
 use native.Mathlib.Nat.{add-zero, lt-of-lt-of-le, pow-le-pow-right, zero-lt-suc}
 use native.Mathlib.Numerals.{add-one}
 use native.Mathlib.Omega.{arith}
@@ -21,13 +21,27 @@ pub fill-start : (f : ℕ → ℕ) (out : List ℕ) (k : ℕ) → take (k + 0) o
 unfolding tabulate
 fill-start f out k = ap (λ (n : ℕ). take n out) (add-zero k) ∙ sym (append-nil (take k out))
 
--- one more element of f past the front of a buffer
+-- one more byte
+take-more : (xs out : List ℕ) (k v : ℕ) → k < length out → take k out ≡ xs → take (k + 1) (set out k v) ≡ xs ++ (v ∷ [])
+take-more xs out k v h e = rw (add-one k, take-suc-set out k v h, e)
+
+-- a loop that puts the bytes of a list past the front of a buffer, where `parts i` are the first i of them
+grow : (parts : ℕ → List ℕ) (xs out : List ℕ) (k i v : ℕ) → k + i < length out → parts (i + 1) ≡ parts i ++ (v ∷ []) → take (k + i) out ≡ xs ++ parts i
+    → take (k + (i + 1)) (set out (k + i) v) ≡ xs ++ parts (i + 1)
+grow parts xs out k i v h e inv =
+    let n : k + (i + 1) ≡ k + i + 1 = omega arith in
+    ap (λ (j : ℕ). take j (set out (k + i) v)) n ∙ take-more (xs ++ parts i) out (k + i) v h inv ∙ append-assoc xs (parts i) (v ∷ []) ∙ ap (λ (l : List ℕ). xs ++ l) (sym e)
+
+-- the bytes are f 0, f 1, ..
 pub fill-more : (f : ℕ → ℕ) (xs out : List ℕ) (k i v : ℕ) → k + i < length out → v ≡ f i → take (k + i) out ≡ xs ++ tabulate f i
     → take (k + (i + 1)) (set out (k + i) v) ≡ xs ++ tabulate f (i + 1)
 unfolding tabulate
-fill-more f xs out k i v h e inv =
-    let n : k + (i + 1) ≡ suc (k + i) = omega arith in
-    rw (n, take-suc-set out (k + i) v h, inv, e, add-one i) (append-assoc xs (tabulate f i) (f i ∷ []))
+fill-more f xs out k i v h e inv = grow (tabulate f) xs out k i v h (rw (add-one i, e)) inv
+
+-- the bytes are those of a text
+pub text-more : (text xs out : List ℕ) (k i : ℕ) → k + i < length out → i < length text → take (k + i) out ≡ xs ++ take i text
+    → take (k + (i + 1)) (set out (k + i) (getD text i 0)) ≡ xs ++ take (i + 1) text
+text-more text xs out k i h l inv = grow (λ j. take j text) xs out k i (getD text i 0) h (rw add-one (take-suc text i 0 l)) inv
 
 -- a label's bytes once the loop over its set is done
 pub label-done : (before out : List ℕ) (at w i : ℕ) (l : Label) → at < length before → i ≡ 8 * w
@@ -54,19 +68,5 @@ appended-none a i = record { next = sym (add-zero i); holds = sym (append-nil (t
 pub appended-count : {a b xs : List ℕ} {i r : ℕ} → Appended a i xs r b → r ≤ length a → r ≡ length (take r b)
 appended-count {b = b} {r = r} p h = let n = p .size in sym (length-take-le r b (omega arith))
 
--- one more byte
-pub take-more : (xs out : List ℕ) (k v : ℕ) → k < length out → take k out ≡ xs → take (k + 1) (set out k v) ≡ xs ++ (v ∷ [])
-take-more xs out k v h e = rw (add-one k, take-suc-set out k v h, e)
-
 pub appended-byte : (a : List ℕ) (i b : ℕ) → i < length a → Appended a i (b ∷ []) (i + 1) (set a i b)
 appended-byte a i b h = record { next = refl; holds = take-more (take i a) a i b h refl; size = length-set a i b }
-
--- one more byte of a text
-pub text-more : (text xs out : List ℕ) (k i : ℕ) → k + i < length out → i < length text → take (k + i) out ≡ xs ++ take i text
-    → take (k + (i + 1)) (set out (k + i) (getD text i 0)) ≡ xs ++ take (i + 1) text
-text-more text xs out k i h l e =
-    let n : k + (i + 1) ≡ k + i + 1 = omega arith in
-    ap (λ (j : ℕ). take j (set out (k + i) (getD text i 0))) n
-    ∙ take-more (xs ++ take i text) out (k + i) (getD text i 0) h e
-    ∙ append-assoc xs (take i text) (getD text i 0 ∷ [])
-    ∙ ap (λ (t : List ℕ). xs ++ t) (sym (ap (λ (j : ℕ). take j text) (add-one i) ∙ take-suc text i 0 l))
