@@ -17,15 +17,15 @@ use Rattle.label.specs.declared.Label.{Label}
 use Rattle.label.proofs.BoolLaws.{both}
 use Rattle.frame.specs.Frame.{readOf}
 use Rattle.frame.proofs.FrameLaws.{Bytes, bytes-append, bytes-take, cons-bytes}
-use Rattle.hexline.specs.Body.{byteAt}
-use Rattle.hexline.specs.Entry.{TypedEntry, abbreviationText, classOf, entryBytes, entryFrom, entryOf, layoutOf, maxAbbreviation, maxName, nameText, past, textBytes, textFrom, validOf, valueBytes, valueSize}
+use Rattle.hexline.specs.Body.{byteAt, labelSize}
+use Rattle.hexline.specs.Entry.{TypedEntry, abbreviationText, classOf, entryBytes, entryFrom, entryOf, entrySize, layoutOf, maxAbbreviation, maxName, nameText, past, textBytes, textFrom, validOf, valueBytes, valueSize}
 use Rattle.hexline.specs.Line.{contentsOf, entryBody, entryForm, entryIn, formOf, lineOf}
 use Rattle.hexline.specs.declared.entry.Entry.{Entry}
 use Rattle.hexline.specs.declared.entry.Layout.{Layout}
 use Rattle.hexline.specs.declared.entry.Value.{Value}
 use Rattle.hexline.specs.declared.entry.Value.the-variants.{Hierarchy, Category, WholeLabel}
 use Rattle.hexline.proofs.BodyLaws.{Holds, Within, first-part, holds-first, holds-second, holds-self, one-part, part, parts-join}
-use Rattle.hexline.proofs.EntryLaws.{name-fits, name-zero, text-back, text-forth, text-length, valid-parts, value-back, value-bytes, value-forth, value-size}
+use Rattle.hexline.proofs.EntryLaws.{name-fits, name-zero, text-back, text-forth, text-length, valid-parts, value-back, value-bytes, value-forth, value-length, value-size}
 use Rattle.hexline.proofs.LineLaws.{entry-form-parts, form-of, line-exact}
 
 class-low : (v : Value) → 1 ≤ classOf v
@@ -37,6 +37,10 @@ class-high : (v : Value) → classOf v ≤ 3
 class-high (Hierarchy h) = omega arith
 class-high (Category c) = omega arith
 class-high WholeLabel = omega arith
+
+-- a value has at most the bytes of a label
+value-most : (w : ℕ) (v : Value) → valueSize w (classOf v) ≤ labelSize w
+value-most w v = let n = value-size w v Label.zeroLabel in let l = value-length w v Label.zeroLabel in omega arith
 
 -- a valid entry's name and abbreviation fit their arrays
 record Fits (e : Entry) : Type 0 where
@@ -107,6 +111,17 @@ body-parts kind w e fits =
       abbreviation = abbreviation-at .1;
       size = omega arith;
     }
+
+pub entry-length : (kind w : ℕ) (e : Entry) → w ≤ words → TypedEntry e → validOf e ≡ true → length (entryBody kind w e) ≤ 1 + entrySize w
+entry-length kind w e h ty v =
+    let f = fits-of e v in
+    let p = body-parts kind w e f .size in
+    let s = value-most w (e .value) in
+    let n = f .named in
+    let a = f .short in
+    let x = ty .name-size in
+    let y = ty .abbreviation-size in
+    omega arith
 
 -- ---- what is written reads back
 

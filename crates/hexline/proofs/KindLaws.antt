@@ -8,7 +8,7 @@ use mathlib.Core.Logic.{_↔_}
 use mathlib.Core.Path.{_≡_, refl, sym, ap, ap₂, _∙_}
 use Prim.Native.Nat.{ℕ, _+_, _*_, _≤_, _<_}
 use native.Mathlib.Omega.{arith}
-use lib.ListN.{List·getD-eq-default}
+use lib.ListN.{length, List·getD-eq-default}
 use borrow.Author.Tests.{lt-ltb}
 use Rattle.label.specs.Answer.{granted}
 use Rattle.label.specs.Label
@@ -23,14 +23,15 @@ use Rattle.range.specs.declared.tuple.Tuple.{Tuple}
 use Rattle.frame.specs.Frame.{readOf}
 use Rattle.frame.proofs.FrameLaws.{Bytes, cons-bytes}
 use Rattle.hexline.specs.Body.{byteAt, labelBytes, labelSize, lineWords, rangeAt, rangeBytes, rangeSize}
+use Rattle.hexline.specs.Entry
 use Rattle.hexline.specs.Entry.{TypedEntry}
-use Rattle.hexline.specs.Line.{contentsOf, entryLineOf, formOf, labelBody, labelForm, labelIn, labelLineOf, lineOf, rangeBody, rangeForm, rangeIn, rangeLineOf, readEntryOf, readLabelOf, readRangeOf, readTupleOf, tupleBody, tupleForm, tupleIn, tupleLineOf}
+use Rattle.hexline.specs.Line.{contentsOf, entryBody, entryLineOf, formOf, labelBody, labelForm, labelIn, labelLineOf, lineOf, rangeBody, rangeForm, rangeIn, rangeLineOf, readEntryOf, readLabelOf, readRangeOf, readTupleOf, tupleBody, tupleForm, tupleIn, tupleLineOf}
 use Rattle.hexline.specs.Regions.{presenceOf, presentBelow, regionsBytes}
 use Rattle.hexline.specs.declared.entry.Entry.{Entry}
 use Rattle.hexline.proofs.BodyLaws.{Within, first-part, holds-second, holds-self, label-back, label-bytes, label-forth, label-length, one-part, part, parts-join, range-back, range-bytes, range-forth, range-length}
-use Rattle.hexline.proofs.EntryKindLaws.{entry-exact}
-use Rattle.hexline.proofs.LineLaws.{form-kind, form-length, form-of, line-exact, tuple-form-parts}
-use Rattle.hexline.proofs.RegionsLaws.{WithinTuple, presence-forth, presence-size, presence-small, regions-bytes, regions-forth, tuple-back}
+use Rattle.hexline.proofs.EntryKindLaws.{entry-exact, entry-length}
+use Rattle.hexline.proofs.LineLaws.{form-kind, form-length, form-of, line-exact, line-length, line-valid, tuple-form-parts}
+use Rattle.hexline.proofs.RegionsLaws.{WithinTuple, presence-forth, presence-size, presence-small, regions-bytes, regions-forth, regions-size, tuple-back}
 
 -- ---- bodies that begin with a kind
 
@@ -113,3 +114,30 @@ tuple-line t ty =
 -- an alias entry's line
 pub entry-line : (e : Entry) → TypedEntry e → (line : List ℕ) → (entryLineOf e ≡ granted line) ↔ (readEntryOf line ≡ granted e)
 entry-line e t = entry-exact 4 lineWords (omega arith) (omega arith) e t (all-within (e .label) (t .label))
+
+-- ---- how long lines are, LF included: none is longer than a full tuple's, 402 digits and LF
+
+pub label-line-length : (l : Label) (line : List ℕ) → labelLineOf l ≡ granted line → length line ≡ 71
+unfolding labelBody
+label-line-length l line e =
+    let n = label-length lineWords l in
+    line-length (Label.validOf l) (labelBody 1 lineWords l) line e ∙ omega arith
+
+pub range-line-length : (x : Range) (line : List ℕ) → rangeLineOf x ≡ granted line → length line ≡ 137
+unfolding rangeBody
+range-line-length x line e =
+    let n = range-length lineWords x in
+    line-length (Range.validOf x) (rangeBody 2 lineWords x) line e ∙ omega arith
+
+pub tuple-line-length : (t : Tuple) (line : List ℕ) → tupleLineOf t ≡ granted line → length line ≤ 403
+unfolding tupleBody
+tuple-line-length t line e =
+    let n = regions-size lineWords t regions in
+    let m = line-length (Tuple.validOf t) (tupleBody 3 lineWords t) line e in
+    omega arith
+
+pub entry-line-length : (e : Entry) → TypedEntry e → (line : List ℕ) → entryLineOf e ≡ granted line → length line ≤ 169
+entry-line-length e ty line h =
+    let m = line-length (Entry.validOf e) (entryBody 4 lineWords e) line h in
+    let n = entry-length 4 lineWords e (omega arith) ty (line-valid (Entry.validOf e) (entryBody 4 lineWords e) line h) in
+    omega arith

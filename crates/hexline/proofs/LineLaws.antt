@@ -18,7 +18,7 @@ use Rattle.label.specs.declared.errno.Errno.the-variants.{Invalid}
 use Rattle.label.proofs.AnswerLaws.{answers-grant, answers-refusal}
 use Rattle.label.proofs.BoolLaws.{both, first-true, not-so, second-true, three-true}
 use Rattle.frame.specs.Frame.{bodyOf, frameAnswerOf, frameOf, framedOf, maxBody, readOf}
-use Rattle.frame.proofs.FrameLaws.{Bytes, reads-back, reads-exactly}
+use Rattle.frame.proofs.FrameLaws.{Bytes, frame-length, reads-back, reads-exactly}
 use Rattle.hexline.specs.Body.{byteAt, labelSize, rangeSize}
 use Rattle.hexline.specs.Entry.{layoutOf, maxAbbreviation, maxName, past, valueSize}
 use Rattle.hexline.specs.Regions.{presentBelow}
@@ -96,6 +96,15 @@ line-exact form contents valid body x small formed same forth line = (to (valid 
 
     from : readOf (contentsOf form contents valid) line ≡ granted x → lineOf (valid x) (body x) ≡ granted line
     from e = let t = line-only form contents valid body x forth line e in rw (t .1) (ap granted (sym (t .0)))
+
+pub line-valid : (valid : Bool) (body line : List ℕ) → lineOf valid body ≡ granted line → valid ≡ true
+line-valid true body line e = refl
+line-valid false body line e = let no : _≡_ {A = ℕ} 0 1 = cc e in absurd (omega arith)
+
+-- how long a line is, its LF included
+pub line-length : (valid : Bool) (body line : List ℕ) → lineOf valid body ≡ granted line → length line ≡ 2 * length body + 3
+line-length true body line e = let l : frameOf body ≡ line = cc e in ap length (sym l) ∙ frame-length body
+line-length false body line e = let no : _≡_ {A = ℕ} 0 1 = cc e in absurd (omega arith)
 
 pub form-of : (bs : List ℕ) (n kind : ℕ) → length bs ≡ n → byteAt bs 0 ≡ kind → formOf bs n kind ≡ true
 unfolding formOf

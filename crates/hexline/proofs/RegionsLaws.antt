@@ -62,10 +62,6 @@ pub one-of : (b : Bool) → cond b 1 0 ≤ 1
 one-of true = omega arith
 one-of false = omega arith
 
-one-below : (b : Bool) → cond b 1 0 < 2
-one-below true = omega arith
-one-below false = omega arith
-
 pub regions-size : (w : ℕ) (t : Tuple) (n : ℕ) → length (regionsBytes w t n) ≤ n * rangeSize w
 unfolding regionsBytes
 regions-size w t zero = omega arith
@@ -104,7 +100,7 @@ present-room p r n s h e =
 -- ---- the byte of presence
 
 pub present-small : (t : Tuple) (r : ℕ) → presentAt t r < 2
-present-small t r = one-below (Tuple.rangeAt t r .present)
+present-small t r = let one = one-of (Tuple.rangeAt t r .present) in omega arith
 
 -- the bits past the lowest leave room for one more
 pub presence-room : (t : Tuple) (r n : ℕ) → n ≤ 2 → numberOf 2 (presentAt t) r n < 4
