@@ -5,8 +5,8 @@ use Prim.Native.Nat.{ℕ, _+_, _*_, _≤_, _<_}
 use native.Mathlib.Nat.{add-zero, lt-of-lt-of-le, pow-le-pow-right, zero-lt-suc}
 use native.Mathlib.Numerals.{add-one}
 use native.Mathlib.Omega.{arith}
-use lib.ListN.{getD, length, set, take, length-append, length-set}
-use lib.Seq.{length-take-le, take-suc, take-suc-set}
+use lib.ListN.{length, set, take, length-append, length-set}
+use lib.Seq.{length-take-le, take-at, take-length, take-suc-set}
 use Rattle.label.specs.Index.{tabulate}
 use Rattle.label.specs.declared.Label.{Label}
 use Rattle.frame.proofs.FrameLaws.{Bytes}
@@ -25,23 +25,25 @@ fill-start f out k = ap (λ (n : ℕ). take n out) (add-zero k) ∙ sym (append-
 take-more : (xs out : List ℕ) (k v : ℕ) → k < length out → take k out ≡ xs → take (k + 1) (set out k v) ≡ xs ++ (v ∷ [])
 take-more xs out k v h e = rw (add-one k, take-suc-set out k v h, e)
 
--- a loop that puts the bytes of a list past the front of a buffer, where `parts i` are the first i of them
-grow : (parts : ℕ → List ℕ) (xs out : List ℕ) (k i v : ℕ) → k + i < length out → parts (i + 1) ≡ parts i ++ (v ∷ []) → take (k + i) out ≡ xs ++ parts i
-    → take (k + (i + 1)) (set out (k + i) v) ≡ xs ++ parts (i + 1)
-grow parts xs out k i v h e inv =
-    let n : k + (i + 1) ≡ k + i + 1 = omega arith in
-    ap (λ (j : ℕ). take j (set out (k + i) v)) n ∙ take-more (xs ++ parts i) out (k + i) v h inv ∙ append-assoc xs (parts i) (v ∷ []) ∙ ap (λ (l : List ℕ). xs ++ l) (sym e)
-
--- the bytes are f 0, f 1, ..
+-- one more element of f past the front of a buffer
 pub fill-more : (f : ℕ → ℕ) (xs out : List ℕ) (k i v : ℕ) → k + i < length out → v ≡ f i → take (k + i) out ≡ xs ++ tabulate f i
     → take (k + (i + 1)) (set out (k + i) v) ≡ xs ++ tabulate f (i + 1)
 unfolding tabulate
-fill-more f xs out k i v h e inv = grow (tabulate f) xs out k i v h (rw (add-one i, e)) inv
+fill-more f xs out k i v h e inv =
+    let n : k + (i + 1) ≡ k + i + 1 = omega arith in
+    ap (λ (j : ℕ). take j (set out (k + i) v)) n ∙ take-more (xs ++ tabulate f i) out (k + i) v h inv ∙ rw (e, add-one i) (append-assoc xs (tabulate f i) (f i ∷ []))
 
--- the bytes are those of a text
-pub text-more : (text xs out : List ℕ) (k i : ℕ) → k + i < length out → i < length text → take (k + i) out ≡ xs ++ take i text
-    → take (k + (i + 1)) (set out (k + i) (getD text i 0)) ≡ xs ++ take (i + 1) text
-text-more text xs out k i h l inv = grow (λ j. take j text) xs out k i (getD text i 0) h (rw add-one (take-suc text i 0 l)) inv
+-- a buffer whose part from index i on was lent for the first n bytes of a text, and got them with zs behind
+pub copied : (xs text ys zs rest : List ℕ) (i n : ℕ) → i ≤ length xs → n ≤ length text → ys ≡ take (length (take n text)) (take n text) ++ zs
+    → take (i + n) (take i xs ++ (ys ++ rest)) ≡ take i xs ++ take n text
+copied xs text ys zs rest i n h l e =
+    let a = length-take-le i xs h in
+    let b = length-take-le n text l in
+    let c = length-append (take i xs) (take n text) in
+    ap (λ (t : List ℕ). take (i + n) (take i xs ++ (t ++ rest))) (e ∙ ap (λ (t : List ℕ). t ++ zs) (take-length (take n text)))
+    ∙ ap (λ (t : List ℕ). take (i + n) (take i xs ++ t)) (append-assoc (take n text) zs rest)
+    ∙ ap (take (i + n)) (sym (append-assoc (take i xs) (take n text) (zs ++ rest)))
+    ∙ take-at (take i xs ++ take n text) (zs ++ rest) (i + n) (omega arith)
 
 -- a label's bytes once the loop over its set is done
 pub label-done : (before out : List ℕ) (at w i : ℕ) (l : Label) → at < length before → i ≡ 8 * w

@@ -182,12 +182,8 @@ fn put_bytes(out: &mut [u8], at: usize, text: &[u8], n: usize) -> usize
     requires { ⌜ (n ≤ length (now text)) × (at + n ≤ length (now out)) ⌝ }
     ensures { λ r. ⌜ Appended (now (out .entry)) at (take n (now (text .entry))) r (now (out .exit)) ⌝ }
 {
-    let mut i = 0;
-    while i < n {
-        out[at + i] = text[i];
-        i += 1;
-    }
-    at + i
+    bytes::copy(&text[..n], &mut out[at..]);
+    at + n
 }
 
 // A length and that many bytes of a text at index at, and the index past them.
