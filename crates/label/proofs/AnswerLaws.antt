@@ -1,10 +1,11 @@
 -- Checks that are passed and that are not, and outcomes beside a value. Assumes nothing.
-use mathlib.Core.Bool.{Bool, true, false}
-use mathlib.Core.Option.{none}
-use mathlib.Core.Path.{_≡_, sym, ap, _∙_}
+use mathlib.Core.Bool.{Bool, true, false, _&&_, true≢false}
+use mathlib.Core.Option.{Option, none}
+use mathlib.Core.Path.{_≡_, refl, sym, ap, _∙_}
 use Prim.Native.Nat.{ℕ}
-use Rattle.label.specs.Answer.{Answer, Answered, granted, refused, refusedBy, require}
+use Rattle.label.specs.Answer.{Answer, Answered, granted, refused, refusedBy, require, testOf, valueOr}
 use Rattle.label.specs.declared.errno.Errno.{Errno}
+use Rattle.label.specs.declared.answer.Test.{Test}
 use Rattle.label.specs.declared.answer.Outcome.the-variants.{Granted, Refused}
 
 pub passed : {A : Type 0} (t : Bool) (n : ℕ) (rest : Answer A) → t ≡ true → require t n rest ≡ rest
@@ -18,3 +19,29 @@ answers-grant value z y x e f = record { outcome = ap granted f ∙ sym e; besid
 
 pub answers-refusal : {A : Type 0} (e : Errno) (value z : A) (x : Answer A) → x ≡ refusedBy e → value ≡ z → Answered (Refused e) value z x
 answers-refusal e value z x h f = record { outcome = sym h; beside = rw h f }
+
+-- ---- what an answer tells of the check before it
+
+-- the yes of a test that is one, u, and no where it is refused
+pub value-of-test : (u u′ : Test) (t value : Bool) (n : ℕ) → u ≡ u′ → testOf u ≡ require t n (granted value)
+    → valueOr false (testOf u′) ≡ (t && value)
+value-of-test u u′ t value n e h = ap (λ (v : Test). valueOr false (testOf v)) (sym e) ∙ ap (valueOr false) h ∙ by t
+  where
+    by : (t : Bool) → valueOr false (require t n (granted value)) ≡ (t && value)
+    by true = refl
+    by false = refl
+
+abbrev isGrant : {A : Type 0} → Answer A → Bool
+isGrant (granted value) = true
+isGrant (refused n detail) = false
+
+pub grant-passed : {A : Type 0} (t : Bool) (n : ℕ) (x : A) (rest : Answer A) → granted x ≡ require t n rest → (t ≡ true) × (granted x ≡ rest)
+grant-passed true n x rest e = (refl, e)
+grant-passed false n x rest e = absurd (true≢false (ap isGrant e))
+
+pub grants-same : {A : Type 0} (x y : A) → granted x ≡ granted y → x ≡ y
+grants-same x y e = ap (valueOr x) e
+
+pub refusal-stopped : {A : Type 0} (t : Bool) (n m : ℕ) (detail : Option ℕ) (y : A) → refused m detail ≡ require t n (granted y) → t ≡ false
+refusal-stopped true n m detail y e = absurd (true≢false (sym (ap isGrant e)))
+refusal-stopped false n m detail y e = refl

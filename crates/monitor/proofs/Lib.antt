@@ -1,0 +1,2 @@
+pub mod NeedsLaws
+pub mod MonitorLaws

@@ -1,0 +1,32 @@
+use borrow.Author.Needs.{needs}
+use borrow.Author.Tests.{not-false, not-true}
+use mathlib.Core.Path.{sym, ap, _∙_}
+use Rattle.label.proofs.AnswerLaws.{passed, stopped}
+use Rattle.monitor.specs.Needs.{answerBy}
+use Rattle.monitor.specs.declared.Privileges.{Privileges}
+use Rattle.monitor.proofs.NeedsLaws.{decide-needed}
+use Rattle.monitor.proofs.check_tested.Statement.{statement}
+use Rattle.monitor.proofs.check_tested.Tie as tie
+
+valid-requires : tie.Need-valid-requires
+valid-requires c κs = search needs
+
+returns : tie.Need-returns
+returns c = sym (decide-needed _ ∙ stopped _ 22 _ (sym (c .before .valid .ensures) ∙ not-true _ (c .if1 .taken)))
+
+needed-requires : tie.Need-needed-requires
+needed-requires c κs = search needs
+
+answer-requires : tie.Need-answer-requires
+answer-requires c κs = search needs
+
+returns-2 : tie.Need-returns-2
+returns-2 c =
+    let e = c .before .before in
+    let r = e .before .before .args .r in
+    c .answer .ensures
+    ∙ ap (λ (n : Privileges). answerBy n (r .credentials .privileges)) (c .before .needed .ensures)
+    ∙ sym (decide-needed r ∙ passed _ 22 _ (sym (e .before .valid .ensures) ∙ not-false _ (e .if1 .left)))
+
+pub check-tested-spec : {M : Type 1} → statement M
+check-tested-spec = tie.close (tie.spec valid-requires returns needed-requires answer-requires returns-2)

@@ -1,0 +1,15 @@
+use borrow.Author.Needs.{needs}
+use Rattle.monitor.proofs.contained.Statement.{statement}
+use Rattle.monitor.proofs.contained.Tie as tie
+
+contains-requires : tie.Need-contains-requires
+contains-requires c κs = search needs
+
+returns : tie.Need-returns
+returns c = rw (c .before .if1 .taken, c .contains .ensures)
+
+returns-2 : tie.Need-returns-2
+returns-2 c = rw (c .if1 .left)
+
+pub contained-spec : {M : Type 1} → statement M
+contained-spec = tie.close (tie.spec contains-requires returns returns-2)
