@@ -1,2 +1,3 @@
+pub mod ValidLaws
 pub mod NeedsLaws
 pub mod MonitorLaws

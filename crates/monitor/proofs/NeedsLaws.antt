@@ -4,7 +4,7 @@ use mathlib.Core.List.{List, [], _∷_}
 use mathlib.Core.Path.{_≡_, refl, sym, ap, ap₂, _∙_}
 use Prim.Native.Nat.{ℕ}
 use Rattle.label.specs.Answer.{Answer, granted, require}
-use Rattle.monitor.specs.Monitor.{Row, any, applies, asks, decide, decideBy, denied, destructiveRead, intentExecute, intentGet, intentRead, intentSearch, intentSet, intentWrite, metOf, overrideOf, table, unmet, validOf}
+use Rattle.monitor.specs.Monitor.{Row, any, applies, asks, decide, decideBy, denied, destructiveRead, grantBy, intentExecute, intentGet, intentRead, intentSearch, intentSet, intentWrite, metOf, overrideOf, table, unmet, validOf}
 use Rattle.monitor.specs.Needs.{answerBy, modifiesOf, neededOf, observesOf}
 use Rattle.monitor.specs.declared.Access.{Access}
 use Rattle.monitor.specs.declared.Access.the-variants.{Observe, Modify}
@@ -79,11 +79,11 @@ neither true true p = refl
 neither true false p = refl
 neither false m p = refl
 
-unmet-needed : (r : Request) → any (unmet r) table ≡ (neededOf r .read || neededOf r .write)
+pub unmet-needed : (r : Request) → any (unmet r) table ≡ (neededOf r .read || neededOf r .write)
 unfolding neededOf
 unmet-needed r = table-by-access r (λ a. not (metOf (r .credentials .label) (r .object) a))
 
-denied-needed : (r : Request) →
+pub denied-needed : (r : Request) →
     any (denied r) table
     ≡ (neededOf r .read && not (r .credentials .privileges .read) || neededOf r .write && not (r .credentials .privileges .write))
 unfolding neededOf
@@ -93,5 +93,5 @@ denied-needed r =
     table-by-access r (λ a. not (met a || overrideOf a p)) ∙ ap₂ _||_ (neither (observesOf (r .intents)) (met Observe) (p .read)) (neither (modifiesOf (r .intents) (r .object .class)) (met Modify) (p .write))
 
 pub decide-needed : (r : Request) → decide r ≡ require (validOf r) 22 (answerBy (neededOf r) (r .credentials .privileges))
-unfolding decideBy answerBy neededOf
+unfolding decideBy grantBy answerBy neededOf
 decide-needed r = rw (denied-needed r, unmet-needed r)

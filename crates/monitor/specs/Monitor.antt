@@ -178,14 +178,16 @@ validOf r =
 
 -- ---- the three steps
 
+-- what a grant answers: 1 if any privilege was needed, and set attribute always needs one, else 0
+unfoldable pub grantBy : List Row → Request → ℕ
+grantBy rows r = cond (any (unmet r) rows || asks (r .intents) intentSet) 1 0
+
 unfoldable pub decideBy : List Row → Request → Answer ℕ
 decideBy rows r =
     require (validOf r) 22
     (require (not (any (denied r) rows)) 13
-    (require (not (asks (r .intents) intentSet && not (r .credentials .privileges .relabel))) 1
-    (granted (cond (any (unmet r) rows || asks (r .intents) intentSet) 1 0))))
+    (require (not (asks (r .intents) intentSet && not (r .credentials .privileges .relabel))) 1 (granted (grantBy rows r))))
 
--- what the monitor answers: a grant is 0, or 1 if any privilege was needed
 abbrev pub decide : Request → Answer ℕ
 decide r = decideBy table r
 

@@ -11,7 +11,7 @@ use Rattle.label.specs.Label.{Typed, dominatesOf}
 use Rattle.label.specs.declared.Label.{Label}
 use Rattle.label.proofs.AnswerLaws.{passed, stopped}
 use Rattle.label.proofs.BoolLaws.{both, first-true, second-true, swap-and, three-true}
-use Rattle.label.proofs.LabelLaws.{dominates-refl, dominates-trans, dominates-upper, lower-dominates, lower-valid, upper-typed, upper-valid}
+use Rattle.label.proofs.LabelLaws.{dominates-parts, dominates-refl, dominates-trans, dominates-upper, hierarchy-valid, lower-dominates, lower-valid, upper-typed, upper-valid, valid-hierarchy}
 use Rattle.range.specs.Range.{TypedRange, commonOf, containsOf, meetAnswerOf, meetOf, validOf}
 use Rattle.range.specs.declared.Range.{Range}
 
@@ -50,6 +50,13 @@ contains-low x e = parts-contain x (x .low) (record { below = valid-parts x e .o
 
 pub contains-high : (x : Range) → validOf x ≡ true → containsOf x (x .high) ≡ true
 contains-high x e = parts-contain x (x .high) (record { below = dominates-refl (x .high); above = valid-parts x e .order })
+
+-- a label in a valid range is valid
+pub contains-valid : (x : Range) (l : Label) → validOf x ≡ true → containsOf x l ≡ true → Label.validOf l ≡ true
+contains-valid x l v c =
+    let d = dominates-parts (x .high) l (contains-parts x l c .below) .hierarchy in
+    let h = valid-hierarchy (x .high) (valid-parts x v .high) in
+    hierarchy-valid l (omega arith)
 
 -- ---- the meet holds exactly the common labels
 

@@ -8,7 +8,7 @@ use Rattle.label.proofs.AnswerLaws.{grant-passed, grants-same, refusal-stopped,
 use Rattle.range.specs.Tuple
 use Rattle.monitor.specs.Monitor.{implies, underTuple}
 use Rattle.monitor.specs.declared.Request.{Request}
-use Rattle.monitor.proofs.MonitorLaws.{implies-first, tuple-refused}
+use Rattle.monitor.proofs.ValidLaws.{implies-first, tuple-refused}
 use Rattle.monitor.proofs.NeedsLaws.{decide-needed}
 use Rattle.monitor.proofs.check.Statement.{statement}
 use Rattle.monitor.proofs.check.Tie as tie

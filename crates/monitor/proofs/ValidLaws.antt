@@ -1,0 +1,86 @@
+-- What a valid request has. Assumes nothing.
+use mathlib.Core.Bool.{Bool, true, false, not, _&&_, _||_, true≢false}
+use mathlib.Core.Path.{_≡_, refl, sym, ap, ap₂, _∙_}
+use Prim.Native.Nat.{ℕ}
+use Rattle.label.specs.Label
+use Rattle.range.specs.Range
+use Rattle.range.specs.Tuple
+use Rattle.label.proofs.BoolLaws.{both, first-true, not-so, same-truth, second-true, three-true}
+use Rattle.range.proofs.RangeLaws.{contains-valid}
+use Rattle.monitor.specs.Monitor.{attributeValid, credentialsValid, implies, intentsValid, kindValid, labelValid, objectValid, tupleValid, validOf}
+use Rattle.monitor.specs.declared.Credentials.{Credentials}
+use Rattle.monitor.specs.declared.Object.{Object}
+use Rattle.monitor.specs.declared.Request.{Request}
+
+-- ---- what a valid request has
+
+pub record Valid (r : Request) : Type 0 where
+  pub intents : intentsValid (r .intents) ≡ true
+  pub credentials : credentialsValid (r .credentials) ≡ true
+  pub object : objectValid (r .object) ≡ true
+  pub kind : kindValid (r .intents) (r .object .class) (r .object .kind) ≡ true
+  pub attribute : attributeValid (r .intents) (r .attribute) ≡ true
+
+pub valid-parts : (r : Request) → validOf r ≡ true → Valid r
+unfolding validOf
+valid-parts r e =
+    let i = intentsValid (r .intents) in
+    let c = credentialsValid (r .credentials) in
+    let o = objectValid (r .object) in
+    let k = kindValid (r .intents) (r .object .class) (r .object .kind) in
+    let h = first-true (i && c && o && k) _ e in
+    let g = first-true (i && c && o) k h in
+    let f = three-true i c o g in
+    record {
+      intents = f .0;
+      credentials = f .1;
+      object = f .2;
+      kind = second-true (i && c && o) k h;
+      attribute = second-true (i && c && o && k) _ e;
+    }
+
+pub subject-valid : (c : Credentials) → credentialsValid c ≡ true → Label.validOf (c .label) ≡ true
+unfolding credentialsValid
+subject-valid c e = three-true (Range.validOf (c .range)) (Label.validOf (c .label)) _ e .1
+
+pub tuple-valid : (o : Object) → objectValid o ≡ true → tupleValid o ≡ true
+unfolding objectValid
+tuple-valid o e = three-true (o .present .label || o .present .tuple) (labelValid o) _ e .2
+
+implies-both : (p q s : Bool) → implies p q ≡ true → s ≡ true → implies p (q && s) ≡ true
+implies-both true q s e f = both e f
+implies-both false q s e f = refl
+
+pub implies-first : (p q s : Bool) → implies p (q && s) ≡ true → implies p q ≡ true
+implies-first true q s e = first-true q s e
+implies-first false q s e = refl
+
+-- a request whose tuple is there is invalid, if the tuple or the subject's label is
+pub tuple-refused : (r : Request) →
+    implies (r .object .present .tuple) (Tuple.validOf (r .object .tuple) && Label.validOf (r .credentials .label)) ≡ false
+    → validOf r ≡ false
+tuple-refused r e =
+    not-so (validOf r) (λ h.
+    let v = valid-parts r h in
+    true≢false (sym (implies-both (r .object .present .tuple) _ _ (tuple-valid (r .object) (v .object)) (subject-valid (r .credentials) (v .credentials))) ∙ e))
+
+-- "a label inside a valid range": such a label is valid
+pub credentials-exact : (c : Credentials) → credentialsValid c ≡ (Range.validOf (c .range) && Range.containsOf (c .range) (c .label))
+unfolding credentialsValid
+credentials-exact c =
+    same-truth _ _ (λ e. both (three-true v l i e .0) (three-true v l i e .2)) (λ e.
+    let h = first-true v i e in
+    let k = second-true v i e in
+    both (both h (inside h k)) k)
+  where
+    v : Bool
+    v = Range.validOf (c .range)
+
+    l : Bool
+    l = Label.validOf (c .label)
+
+    i : Bool
+    i = Range.containsOf (c .range) (c .label)
+
+    inside : v ≡ true → i ≡ true → l ≡ true
+    inside h k = contains-valid (c .range) (c .label) h k
