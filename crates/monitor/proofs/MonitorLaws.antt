@@ -1,5 +1,5 @@
 -- What the monitor's decisions come from: the theorems to read. Assumes nothing.
-use mathlib.Core.Bool.{Bool, true, false, cond, not, _&&_, _||_, and-true, true≢false}
+use mathlib.Core.Bool.{Bool, true, false, not, _&&_, _||_, and-true, true≢false}
 use mathlib.Core.List.{List, [], _∷_}
 use mathlib.Core.Logic.{_⊎_, inl, inr}
 use mathlib.Core.Path.{_≡_, refl, sym, ap, ap₂, _∙_}
@@ -8,7 +8,7 @@ use Rattle.label.specs.Answer.{Answer, granted, require}
 use Rattle.label.specs.declared.Label.{Label}
 use Rattle.range.specs.Tuple
 use Rattle.range.specs.declared.tuple.Tuple.{Tuple}
-use Rattle.label.proofs.AnswerLaws.{grant-passed, grants-same, passed}
+use Rattle.label.proofs.AnswerLaws.{grant-passed, grants-same}
 use Rattle.label.proofs.BoolLaws.{either, first-true, not-so, or-first, or-second, same-truth, second-true}
 use Rattle.monitor.specs.Monitor.{Row, any, applies, asks, attributeValid, credentialsValid, decide, decideBy, denied, grantBy, implies, intentGet, intentSet, isFile, kindValid, metOf, objectValid, overrideOf, table, unmet, validOf}
 use Rattle.monitor.specs.Needs.{answerBy, neededOf}
@@ -19,7 +19,7 @@ use Rattle.monitor.specs.declared.FileKind.{FileKind}
 use Rattle.monitor.specs.declared.Object.{Object}
 use Rattle.monitor.specs.declared.Privileges.{Privileges}
 use Rattle.monitor.specs.declared.Request.{Request}
-use Rattle.monitor.proofs.NeedsLaws.{decide-needed, denied-needed, unmet-needed}
+use Rattle.monitor.proofs.NeedsLaws.{decide-needed}
 
 -- ---- requests that differ in one thing
 

@@ -1,10 +1,9 @@
 -- What is decided by the privileges that a request needs is what is decided by the table of intents. Assumes nothing.
-use mathlib.Core.Bool.{Bool, true, false, cond, not, _&&_, _||_, and-true, and-false, or-assoc, or-false}
+use mathlib.Core.Bool.{Bool, true, false, not, _&&_, _||_, and-true, and-false, or-assoc, or-false}
 use mathlib.Core.List.{List, [], _∷_}
-use mathlib.Core.Path.{_≡_, refl, sym, ap, ap₂, _∙_}
-use Prim.Native.Nat.{ℕ}
-use Rattle.label.specs.Answer.{Answer, granted, require}
-use Rattle.monitor.specs.Monitor.{Row, any, applies, asks, decide, decideBy, denied, destructiveRead, grantBy, intentExecute, intentGet, intentRead, intentSearch, intentSet, intentWrite, metOf, overrideOf, table, unmet, validOf}
+use mathlib.Core.Path.{_≡_, refl, ap, ap₂, _∙_}
+use Rattle.label.specs.Answer.{require}
+use Rattle.monitor.specs.Monitor.{Row, any, applies, decide, decideBy, denied, grantBy, metOf, overrideOf, table, unmet, validOf}
 use Rattle.monitor.specs.Needs.{answerBy, modifiesOf, neededOf, observesOf}
 use Rattle.monitor.specs.declared.Access.{Access}
 use Rattle.monitor.specs.declared.Access.the-variants.{Observe, Modify}
