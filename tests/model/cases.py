@@ -175,6 +175,6 @@ def damaged_at_times(rng, line, share):
 
 
 def stored(sections, at_random, cut):
-    """All that follows the worked run: the sections, the random requests, and a line that was cut off before its LF."""
+    """All that follows the worked run: the sections, the random requests, and a request that is cut off before its last LF."""
     fixed = b"".join(case(what, *requests()) for what, requests in sections)
     return fixed + b"".join(at_random) + cut
