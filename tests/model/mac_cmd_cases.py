@@ -1,37 +1,19 @@
 # The requests of mac_cmd's stored input that follow its worked run: each refusal, each boundary, then random ones.
 # A comment line in the input says what each is about.
 
-from mac_cmd import COMMANDS, LINE_BUFFER, NUMBERS_END
+import cases
+from cases import BAD_NUMBERS, GOOD_NUMBERS, SEPARATORS, Program, case, filled, replaced
+from mac_cmd import COMMANDS
+from protocol import NUMBERS_END
 from rules import (CATEGORIES, LONGEST_ABBREVIATION, LONGEST_NAME, OF_CATEGORY, OF_HIERARCHY, OF_LABEL, REGIONS,
                    Alias, Label, Range, Tuple, sealed, write)
-from samples import ANY, WORD_BORDERS, damaged, label_above, label_below, range_around, sum_changed
+from samples import (ALIAS, ANY, BORDER_HIERARCHIES, BORDER_LABELS, BORDER_TUPLES, FULL_TUPLE, LABEL, RANGE, SAMPLES,
+                     WORD_BORDERS, label, near, sum_changed, tuple_of, unchecked_line)
 
 RANDOM_REQUESTS = 600
 
 
-def label(hierarchy, *categories):
-    return Label(hierarchy, frozenset(categories))
-
-
-def tuple_of(**ranges):
-    """A tuple with the ranges given as virus, user, admin."""
-    return Tuple(tuple(ranges.get(word) for word in ("virus", "user", "admin")))
-
-
-LABEL = label(30, 1, 2)
-RANGE = Range(label(20), label(40, 1, 2))
-TUPLE = tuple_of(user=RANGE)
-FULL_TUPLE = Range(label(0), Label(199, CATEGORIES)).split()
-ALIAS = Alias(OF_HIERARCHY, 20, b"low")
-SAMPLES = {type(contents): contents for contents in (LABEL, RANGE, TUPLE, ALIAS)}
-
-
 # Lines of kinds 01 to 04
-
-def framed(contents):
-    """The kind and body of contents that need not be valid."""
-    return bytes([contents.KIND]) + contents.body()
-
 
 GOOD_CONTENTS = [
     ("the least label", label(0)),
@@ -164,12 +146,6 @@ def wrong_frames():
     yield "a byte after the abbreviation", b"\x04\x02\x07" + name + b"\x01e\0"
 
 
-def replaced(line, old, new):
-    """The line with the first `old` replaced. It has to be there."""
-    assert old in line
-    return line.replace(old, new, 1)
-
-
 def wrong_texts():
     """Lines that differ from a good one in their characters or in the sum."""
     line = write(ALIAS)  # 040114036c6f770092
@@ -210,34 +186,18 @@ def wrong_lines():
     """Each fault that a line can have by itself; all but those of `wrong_texts` have a right sum."""
     yield from wrong_texts()
     yield from ((what, sealed(frame)) for what, frame in wrong_frames())
-    yield from ((what, sealed(framed(contents))) for what, contents in invalid_contents())
+    yield from ((what, unchecked_line(contents)) for what, contents in invalid_contents())
 
 
 # Requests
 
-def case(what, *lines):
-    return b"# %s\n" % what.encode() + b"".join(lines)
-
-
-def command_line(word, numbers):
-    return b" ".join([word, *(b"%d" % n for n in numbers)]) + b"\n"
-
-
-def request(word, *operands, numbers=None):
-    """A request with the numbers, or as many zeros as the command takes, and with contents or whole lines as operands."""
-    if numbers is None:
-        numbers = [0] * COMMANDS[word].numbers
-    lines = (line if isinstance(line, bytes) else write(line) for line in operands)
-    return command_line(word, numbers) + b"".join(lines)
-
-
-def filled(start, fill, end, size):
-    """A line of `size` bytes with its LF, `fill` repeated between `start` and `end`."""
-    return start + fill * (size - len(start) - len(end) - 1) + end + b"\n"
-
-
-def samples(kinds):
-    return [SAMPLES[kind] for kind in kinds]
+PROGRAM = Program(
+    COMMANDS,
+    good=(b"valid 20\n", b"count\n" + write(LABEL), b"dominates\n" + write(LABEL) + write(LABEL)),
+    numbered=lambda size: filled(b"valid ", b"0", b"20", size),
+    with_first=lambda line: request(b"count", line),
+    with_last=lambda line: request(b"dominates", LABEL, line))
+request = PROGRAM.request
 
 
 def echoes():
@@ -245,27 +205,6 @@ def echoes():
         yield case(what, request(b"echo", contents))
     for what, line in wrong_lines():
         yield case(what, request(b"echo", line))
-
-
-def bad_operands_for(good):
-    """What may stand in the place of a good operand line."""
-    yield "a wrong sum", sum_changed(good, 1)
-    yield "an empty line", b"\n"
-    yield "a comment", b"# no operand\n"
-    yield "a dash", b"-\n"
-    yield "a number", b"20\n"
-    yield "a command", b"valid 20\n"
-    yield "a line that is too long", filled(good[:-1], b"0", b"", LINE_BUFFER + 1)
-
-
-def bad_operands():
-    for word, command in COMMANDS.items():
-        good = [write(contents) for contents in samples(command.forms[0])]
-        for at, operand in enumerate(good):
-            for what, line in bad_operands_for(operand):
-                yield case(f"{word.decode()}, operand {at + 1}: {what}", request(word, *good[:at], line, *good[at + 1:]))
-        if len(good) > 1:
-            yield case(f"{word.decode()}, every operand bad", request(word, *(sum_changed(line, 1) for line in good)))
 
 
 def kinds_of_operands(count):
@@ -279,7 +218,7 @@ def every_kind():
     for word, command in COMMANDS.items():
         for kinds in kinds_of_operands(len(command.forms[0])):
             names = " ".join(kind.__name__.lower() for kind in kinds)
-            yield case(f"{word.decode()} {names}".rstrip(), request(word, *samples(kinds)))
+            yield case(f"{word.decode()} {names}".rstrip(), request(word, *cases.samples(kinds)))
 
 
 def misplaced_lines():
@@ -291,53 +230,10 @@ def misplaced_lines():
     yield case("a comment for the second operand", request(b"dominates", good, b"#\n"), good)
     yield case("one operand too many", request(b"count", good), good)
     yield case("one operand too few: a command is taken for it", request(b"dominates", good), request(b"valid", numbers=[20]))
-    yield case("a blank before #", b" # no comment\n")
-    yield case("a line of one blank", b" \n")
-    yield case("a line of CR", b"\r\n")
-    yield case("a dash", b"-\n")
+    yield from cases.no_commands()
 
 
-def word_forms(word, line):
-    """Command lines that come near `line`, which is good, and are not."""
-    text = line[:-1]
-    yield "upper case", text.upper()
-    yield "a capital", text.capitalize()
-    yield "the word cut", replaced(text, word, word[:-1])
-    yield "a letter more", replaced(text, word, word + b"s")
-    yield "a leading blank", b" " + text
-    yield "a trailing blank", text + b" "
-    yield "a leading tab", b"\t" + text
-    yield "a trailing tab", text + b"\t"
-    yield "CR before LF", text + b"\r"
-    yield "a trailing NUL", text + b"\0"
-    yield "a leading NUL", b"\0" + text
-    yield "a high byte at the end", text + b"\xff"
-    yield "a high byte in the word", bytes([text[0] | 0x80]) + text[1:]
-    yield "an operand on the command line", text + b" " + write(ALIAS)[:-1]
-
-
-def bad_words():
-    for word, command in COMMANDS.items():
-        line = request(word)
-        for what, text in word_forms(word, line):
-            yield case(f"{word.decode()}: {what}", text + b"\n")
-        operands = [write(contents) for contents in samples(command.forms[0])]
-        for count in range(4):
-            if count != command.numbers:
-                yield case(f"{word.decode()} with a wrong count of numbers takes no operand", command_line(word, [1] * count), *operands)
-    for word in (b"no", b"x", b"0", b"20", b"read", b"check", b"table", b"dominatesequal", b"\0", b"\xff", b"\xc3\xa9"):
-        yield case("an unknown word", word + b"\n")
-    yield case("a hex line", write(LABEL))
-
-
-GOOD_NUMBERS = [b"0", b"00", b"19", b"019", b"0" * 40 + b"199", b"0" * 40 + b"200", b"%d" % (NUMBERS_END - 1),
-                b"000%d" % (NUMBERS_END - 1)]
-BAD_NUMBERS = [
-    b"", b" 20", b"20 ", b"  ", b"\t20", b"20\t", b"20\r", b"+20", b"-20", b"-0", b"+", b"-", b"2 0", b"20,", b"20.", b"20.0",
-    b"2e1", b"0x14", b"0b1", b"1_9", b"a", b"20a", b"a20", b"2/", b"2:", b"/", b":", b"\0", b"20\0", b"\xb2\xb0", b"\xd9\xa2",
-    b"%d" % NUMBERS_END, b"%d" % (NUMBERS_END + 20), b"0%d" % (NUMBERS_END + 20), b"%d" % (2 * NUMBERS_END + 20),
-    b"%d" % (NUMBERS_END - 1) + b"0", b"99999999999999999999", b"%d" % (2 ** 128), b"%d" % (2 ** 128 + 20), b"9" * 400,
-]
+UNKNOWN_WORDS = [b"no", b"x", b"0", b"20", b"read", b"check", b"table", b"dominatesequal", b"\0", b"\xff", b"\xc3\xa9"]
 
 
 def number_forms():
@@ -347,12 +243,10 @@ def number_forms():
         yield b"next " + digits + b"\n" + write(label(20, *WORD_BORDERS))
     for digits in BAD_NUMBERS:
         yield b"next " + digits + b"\n"
-    for separator in (b"", b"\t", b"\0", b"\xa0", b"=", b":", b"\r", b"  "):
+    for separator in SEPARATORS:
         yield b"valid" + separator + b"20\n"
 
 
-BORDER_HIERARCHIES = [end for region in REGIONS for end in (region[0], region[-1])]
-BORDER_LABELS = [label(20), *(label(20, c) for c in WORD_BORDERS), label(20, *WORD_BORDERS), Label(20, CATEGORIES)]
 BORDER_NUMBERS = [0, 1, 62, 63, 64, 65, 127, 128, 191, 192, 254, 255, 256, 320, 2 ** 32, NUMBERS_END - 1]
 
 
@@ -396,72 +290,17 @@ def range_borders():
                 yield request(b"split", Range(label(low, 4), label(high, 4, 5)))
 
 
-TUPLES = [Tuple(), TUPLE, FULL_TUPLE, tuple_of(virus=Range(label(0), label(19))), tuple_of(admin=Range(label(180), label(199))),
-          tuple_of(user=Range(label(20), label(41, 1, 2))), tuple_of(user=Range(label(21), label(40, 1, 2))),
-          tuple_of(user=Range(label(20), label(40, 1))), Range(label(19), label(20, 1, 2)).split()]
-
-
 def tuple_borders():
-    for one in TUPLES:
+    for one in BORDER_TUPLES:
         yield request(b"empty", one)
         yield from (request(b"contains", one, label(hierarchy)) for hierarchy in BORDER_HIERARCHIES)
-        yield from (request(word, one, other) for other in TUPLES for word in (b"within", b"meet"))
-
-
-def line_sizes():
-    digits = write(LABEL)[:-1]
-    for size in (LINE_BUFFER - 1, LINE_BUFFER, LINE_BUFFER + 1, 2 * LINE_BUFFER, 2 * LINE_BUFFER + 1):
-        yield case(f"a number, a word, a comment and two operands in lines of {size} bytes",
-                   filled(b"valid ", b"0", b"20", size),
-                   filled(b"", b"x", b"", size),
-                   filled(b"# ", b"x", b"", size),
-                   request(b"count", filled(digits, b"0", b"", size)),
-                   request(b"dominates", LABEL, filled(b"", b"\0", b"", size)))
-    over = b"x" * LINE_BUFFER
-    yield case("a request after the bytes that fit is part of the line", over + b"valid 20\n")
-    yield case("the same in a comment", b"#" + over[1:] + b"valid 20\n")
-    yield case("the same in an operand", request(b"count", over + write(LABEL)))
-    yield case("the next request is taken from its start", request(b"count", LABEL))
-
-
-def odd_bytes():
-    every = bytes(b for b in range(256) if b not in b"\n#")
-    yield case("every byte but LF and #", every + b"\n")
-    yield case("the same in a comment", b"#" + every + b"\n")
-    yield case("the same in an operand", request(b"count", every + b"\n"))
-    yield case("NULs", b"\0\0\0\n")
-    yield case("NULs in an operand", request(b"count", b"\0" * 70 + b"\n"))
-    yield case("high bytes", b"\xff\xfe\n")
-    yield case("high bytes in an operand", request(b"count", b"\xff" * 70 + b"\n"))
+        yield from (request(word, one, other) for other in BORDER_TUPLES for word in (b"within", b"meet"))
 
 
 # Random requests
 
-def near_label(rng, common):
-    return rng.choice((common, common, label_below(rng, common), label_above(rng, common)))
-
-
-def near_range(rng, common):
-    return rng.choice((Range(common, common), range_around(rng, common)))
-
-
-def near_tuple(rng, common):
-    return rng.choice((FULL_TUPLE, near_range(rng, common).split()))
-
-
-NEAR = {Label: near_label, Range: near_range, Tuple: near_tuple}
-
-
-def near(rng, kind, common):
-    """Random contents of a kind, which most of the time have to do with the label `common`."""
-    if kind in NEAR and rng.random() < 0.7:
-        return NEAR[kind](rng, common)
-    return ANY[kind](rng)
-
-
 def random_operand(rng, kind, common):
-    line = write(near(rng, kind, common))
-    return damaged(rng, line) if rng.random() < 0.1 else line
+    return cases.damaged_at_times(rng, write(near(rng, kind, common)), 0.1)
 
 
 def random_request(rng):
@@ -479,20 +318,18 @@ def random_requests(rng):
 
 SECTIONS = [
     ("Lines of each kind, good and faulty", echoes),
-    ("Bad operands", bad_operands),
+    ("Bad operands", lambda: cases.bad_operands(PROGRAM)),
     ("Operands of every kind", every_kind),
     ("Lines between requests and in the place of operands", misplaced_lines),
-    ("Bad command lines", bad_words),
+    ("Bad command lines", lambda: cases.bad_words(PROGRAM, range(4), UNKNOWN_WORDS)),
     ("Numbers", number_forms),
     ("Boundaries of labels", label_borders),
     ("Boundaries of ranges", range_borders),
     ("Boundaries of tuples", tuple_borders),
-    ("Lines about as long as the line buffer, and longer", line_sizes),
-    ("Odd bytes", odd_bytes),
+    ("Lines about as long as the line buffer, and longer", lambda: cases.line_sizes(PROGRAM)),
+    ("Odd bytes", lambda: cases.odd_bytes(PROGRAM)),
 ]
 
 
 def after_the_worked_run(rng):
-    """All that follows the worked run. The last line is a command that was cut off before its LF."""
-    fixed = b"".join(case(what, *requests()) for what, requests in SECTIONS)
-    return fixed + b"".join(random_requests(rng)) + b"valid 20"
+    return cases.stored(SECTIONS, random_requests(rng), b"valid 20")

@@ -8,7 +8,9 @@ from dataclasses import dataclass
 
 # "Numbers handed back"
 
+NO_PRIVILEGE = 1
 BUFFER_SHORT = 7
+DENIED = 13
 INVALID = 22
 NO_COMMON_LABEL = 33
 

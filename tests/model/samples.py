@@ -1,5 +1,5 @@
-# Random contents of hex lines, and damage to lines, for the tests and the stored inputs. Everything is drawn from
-# the generator that is passed in, so that a seed fixes it.
+# Contents of hex lines, fixed and random ones, and damage to lines, for the tests and the stored inputs. Everything
+# random is drawn from the generator that is passed in, so that a seed fixes it.
 
 from rules import (CATEGORIES, HIERARCHIES, LONGEST_ABBREVIATION, LONGEST_NAME, OF_CATEGORY, OF_HIERARCHY, OF_LABEL,
                    REGIONS, Alias, Label, Range, Tuple, sealed)
@@ -10,6 +10,35 @@ LETTERS = b"ABCDEFGHIJKLMNOPQRSTUVWXYZabcdefghijklmnopqrstuvwxyz"
 NAME_BYTES = LETTERS + b"0123456789_-."
 HEX_DIGITS = b"0123456789abcdef"
 
+
+# Fixed contents
+
+def label(hierarchy, *categories):
+    return Label(hierarchy, frozenset(categories))
+
+
+def tuple_of(**ranges):
+    """A tuple with the ranges given as virus, user, admin."""
+    return Tuple(tuple(ranges.get(word) for word in ("virus", "user", "admin")))
+
+
+LABEL = label(30, 1, 2)
+RANGE = Range(label(20), label(40, 1, 2))
+TUPLE = tuple_of(user=RANGE)
+FULL_TUPLE = Range(label(0), Label(199, CATEGORIES)).split()
+ALIAS = Alias(OF_HIERARCHY, 20, b"low")
+SAMPLES = {type(contents): contents for contents in (LABEL, RANGE, TUPLE, ALIAS)}
+
+BORDER_HIERARCHIES = [end for region in REGIONS for end in (region[0], region[-1])]
+BORDER_LABELS = [label(20), *(label(20, c) for c in WORD_BORDERS), label(20, *WORD_BORDERS), Label(20, CATEGORIES)]
+BORDER_TUPLES = [
+    Tuple(), TUPLE, FULL_TUPLE, tuple_of(virus=Range(label(0), label(19))), tuple_of(admin=Range(label(180), label(199))),
+    tuple_of(user=Range(label(20), label(41, 1, 2))), tuple_of(user=Range(label(21), label(40, 1, 2))),
+    tuple_of(user=Range(label(20), label(40, 1))), Range(label(19), label(20, 1, 2)).split(),
+]
+
+
+# Random contents
 
 def any_hierarchy(rng, within):
     """As often an end of `within` or near a border of a region as anywhere."""
@@ -75,6 +104,35 @@ def any_alias(rng):
 
 
 ANY = {Label: any_label, Range: any_range, Tuple: any_tuple, Alias: any_alias}
+
+
+def near_label(rng, common):
+    return rng.choice((common, common, label_below(rng, common), label_above(rng, common)))
+
+
+def near_range(rng, common):
+    return rng.choice((Range(common, common), range_around(rng, common)))
+
+
+def near_tuple(rng, common):
+    return rng.choice((FULL_TUPLE, near_range(rng, common).split()))
+
+
+NEAR = {Label: near_label, Range: near_range, Tuple: near_tuple}
+
+
+def near(rng, kind, common):
+    """Random contents of a kind, which most of the time have to do with the label `common`."""
+    if kind in NEAR and rng.random() < 0.7:
+        return NEAR[kind](rng, common)
+    return ANY[kind](rng)
+
+
+# Damage
+
+def unchecked_line(contents):
+    """The line of contents that need not be valid, with a right sum."""
+    return sealed(bytes([contents.KIND]) + contents.body())
 
 
 def other_digit(rng, digit):

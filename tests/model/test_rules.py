@@ -1,15 +1,21 @@
-# Tests of rules.py: document 01's examples, the laws of hex lines on random contents, and that each faulty line of
-# the stored input has the fault that it is there for. Run: python3 tests/model/test_rules.py
+# Tests of rules.py and monitor.py: document 01's examples, the laws of hex lines on random contents, each sentence on
+# the monitor, and that what the stored inputs have as faulty has the fault that it is there for.
+# Run: python3 tests/model/test_rules.py
 
+import collections
 import random
 import unittest
 
-import mac_cmd
-import mac_cmd_cases as cases
+import mac_cmd_cases
+import monitor_cmd
+import monitor_cmd_cases
+import protocol
 import rules
 import samples
-from mac_cmd_cases import label
+from monitor import (DIRECTORY, FIFO, FILE, FILE_KINDS, MESSAGE_QUEUE, OTHER, PROCESS, READ_OVERRIDE, REGULAR, RELABEL,
+                     SEMAPHORE, SHARED_MEMORY, TYPES, WRITE_OVERRIDE, Credentials, Object, Request, decide)
 from rules import Alias, Label, Range, Refusal, Tuple, read, write
+from samples import ALIAS, FULL_TUPLE, RANGE, label
 
 SEED = 1
 ROUNDS = 300
@@ -72,7 +78,7 @@ class Examples(RulesTest):
 
     def test_longest_line(self):
         """Document 01, "Hex lines": a full tuple has 402 digits."""
-        self.assertEqual(len(write(cases.FULL_TUPLE)), 402 + len(b"\n"))
+        self.assertEqual(len(write(FULL_TUPLE)), 402 + len(b"\n"))
 
 
 class Refusals(RulesTest):
@@ -81,19 +87,19 @@ class Refusals(RulesTest):
     def test_invalid_arguments(self):
         good, bad = label(20), label(200)
         upside_down = Range(label(30), label(20))
-        for call in (good.dominates, good.equal, good.upper_bound, good.lower_bound, cases.RANGE.contains, Tuple().contains):
+        for call in (good.dominates, good.equal, good.upper_bound, good.lower_bound, RANGE.contains, Tuple().contains):
             self.refused(22, call, bad)
-        for call in (bad.category_count, bad.region, upside_down.split, Tuple((cases.RANGE, None, None)).empty):
+        for call in (bad.category_count, bad.region, upside_down.split, Tuple((RANGE, None, None)).empty):
             self.refused(22, call)
         self.refused(22, bad.next_category, 0)
-        self.refused(22, cases.RANGE.meet, upside_down)
+        self.refused(22, RANGE.meet, upside_down)
         self.refused(22, Tuple().meet, Tuple((None, upside_down, None)))
         self.refused(22, Tuple().within, Tuple((None, upside_down, None)))
 
     def test_writer(self):
-        line = write(cases.ALIAS)
-        self.assertEqual(write(cases.ALIAS, len(line)), line)
-        self.assertEqual(self.refused(7, write, cases.ALIAS, len(line) - 1), len(line))
+        line = write(ALIAS)
+        self.assertEqual(write(ALIAS, len(line)), line)
+        self.assertEqual(self.refused(7, write, ALIAS, len(line) - 1), len(line))
         self.refused(22, write, label(200), 0)
 
 
@@ -113,7 +119,7 @@ class Sets(unittest.TestCase):
     def pairs(self, kind):
         for _ in range(ROUNDS):
             common = samples.any_label(self.rng)
-            yield cases.near(self.rng, kind, common), cases.near(self.rng, kind, common)
+            yield samples.near(self.rng, kind, common), samples.near(self.rng, kind, common)
 
     def test_meet(self):
         for kind in (Range, Tuple):
@@ -171,25 +177,242 @@ class Lines(unittest.TestCase):
             self.assertFalse(accepted(samples.digit_changed(self.rng, write(contents))))
 
 
+# The monitor. Intents are written as document 01 numbers their bits.
+
+WRITE, READ, EXECUTE, SEARCH, GET, SET = 1, 2, 4, 8, 16, 32
+SUBJECT = label(30, 1)
+SUBJECT_RANGE = Range(label(20), label(40, 1, 2))
+CONTAINS = Tuple((None, Range(label(20), label(40, 1)), None))
+CONTAINS_NOT = Tuple((Range(label(0), label(19, 1)), Range(label(20), label(29, 1)), None))
+UPSIDE_DOWN = Range(label(40), label(20))
+
+
+def outcome(intents, attribute_type=0, privileges=(), type=FILE, kind=REGULAR, subject=SUBJECT, bounds=SUBJECT_RANGE,
+            label=SUBJECT, tuple=None):
+    """The monitor's answer: "0" or "1" for a grant, "E" and the number for a refusal. Where nothing else is said, the
+    object is a regular file at the subject's label, and the subject has no privilege."""
+    credentials = Credentials(subject, bounds, frozenset(privileges))
+    try:
+        return str(decide(Request(credentials, Object(type, kind, label, tuple), intents, attribute_type)))
+    except Refusal as refusal:
+        return f"E{refusal.number}"
+
+
+class MonitorInputs(unittest.TestCase):
+    """Document 01, "The monitor": what credentials, objects, intents and attribute types are, and step 1."""
+
+    def test_credentials(self):
+        """A label inside a valid range."""
+        for hierarchy, expected in ((19, "E22"), (20, "0"), (40, "0"), (41, "E22")):
+            self.assertEqual(outcome(READ, subject=label(hierarchy), label=label(hierarchy)), expected)
+        self.assertEqual(outcome(READ, subject=label(30, 3), label=label(30, 3)), "E22")
+        self.assertEqual(outcome(READ, bounds=UPSIDE_DOWN), "E22")
+        self.assertEqual(outcome(READ, subject=label(200), bounds=Range(label(20), label(200))), "E22")
+
+    def test_label_tuple_or_both(self):
+        self.assertEqual(outcome(READ, label=SUBJECT, tuple=None), "0")
+        self.assertEqual(outcome(READ, label=None, tuple=CONTAINS), "0")
+        self.assertEqual(outcome(READ, label=SUBJECT, tuple=CONTAINS), "0")
+        self.assertEqual(outcome(READ, label=None, tuple=None), "E22")
+
+    def test_each_that_is_there_must_be_valid(self):
+        for bad_tuple in (Tuple((None, UPSIDE_DOWN, None)), Tuple((SUBJECT_RANGE, None, None))):
+            self.assertEqual(outcome(READ, label=None, tuple=bad_tuple), "E22")
+            self.assertEqual(outcome(READ, label=SUBJECT, tuple=bad_tuple), "E22")
+        self.assertEqual(outcome(READ, label=label(200), tuple=None), "E22")
+        self.assertEqual(outcome(READ, label=label(200), tuple=CONTAINS), "E22")
+
+    def test_file_kind_counts_only_for_files(self):
+        for kind in (REGULAR, DIRECTORY, OTHER):
+            for object_type in (FIFO, PROCESS, MESSAGE_QUEUE, SHARED_MEMORY, SEMAPHORE):
+                self.assertEqual(outcome(READ, type=object_type, kind=kind), "0")
+                self.assertEqual(outcome(EXECUTE, type=object_type, kind=kind), "E22")
+                self.assertEqual(outcome(SEARCH, type=object_type, kind=kind), "E22")
+
+    def test_execute_and_search(self):
+        for intents, regular, directory, other in ((EXECUTE, "0", "E22", "E22"), (SEARCH, "E22", "0", "E22"),
+                                                   (EXECUTE | SEARCH, "E22", "E22", "E22")):
+            self.assertEqual(outcome(intents, kind=REGULAR), regular)
+            self.assertEqual(outcome(intents, kind=DIRECTORY), directory)
+            self.assertEqual(outcome(intents, kind=OTHER), other)
+
+    def test_attribute_types(self):
+        """They count only with an attribute intent."""
+        for attribute_type in (0, 3, 2 ** 32 + 1, 2 ** 64 + 1):
+            self.assertEqual(outcome(GET, attribute_type), "E22")
+            self.assertEqual(outcome(SET, attribute_type, [RELABEL]), "E22")
+            self.assertEqual(outcome(READ | GET, attribute_type), "E22")
+            self.assertEqual(outcome(READ, attribute_type), "0")
+        for attribute_type in (1, 2):
+            self.assertEqual(outcome(GET, attribute_type), "0")
+            self.assertEqual(outcome(SET, attribute_type, [RELABEL]), "1")
+            self.assertEqual(outcome(READ, attribute_type), "0")
+
+    def test_intents(self):
+        """0 and above 63 are refused, even where the lower bits would be good. 63 has execute with search."""
+        for intents in (0, 63, 64, 64 | READ, 2 ** 32 | READ, 2 ** 63 | READ, 2 ** 64 | READ):
+            self.assertEqual(outcome(intents, 1, [RELABEL]), "E22")
+        self.assertEqual(outcome(63 - SEARCH, 1, [RELABEL]), "1")
+        self.assertEqual(outcome(63 - EXECUTE, 1, [RELABEL], kind=DIRECTORY), "1")
+
+
+class MonitorDecisions(unittest.TestCase):
+    """Document 01, "The monitor": steps 2 and 3, and what is granted."""
+
+    OBJECTS = {
+        "above": dict(label=label(31, 1)),
+        "equal": dict(label=label(30, 1)),
+        "below": dict(label=label(30)),
+        "beside": dict(label=label(29, 2)),
+        "inside": dict(label=None, tuple=CONTAINS),
+        "outside": dict(label=None, tuple=CONTAINS_NOT),
+        "empty": dict(label=None, tuple=Tuple()),
+    }
+    OVERRIDES = ((), (READ_OVERRIDE,), (WRITE_OVERRIDE,), (READ_OVERRIDE, WRITE_OVERRIDE))
+    OTHER_TYPES = (FILE, PROCESS, MESSAGE_QUEUE, SHARED_MEMORY, SEMAPHORE)
+
+    # By object, the answers with no override, with read override, with write override and with both.
+    BY_DOMINANCE = {
+        "above": "E13 1 E13 1", "equal": "0 0 0 0", "below": "0 0 0 0", "beside": "E13 1 E13 1",
+        "inside": "0 0 0 0", "outside": "E13 1 E13 1", "empty": "E13 1 E13 1",
+    }
+    BY_EQUALITY = {
+        "above": "E13 E13 1 1", "equal": "0 0 0 0", "below": "E13 E13 1 1", "beside": "E13 E13 1 1",
+        "inside": "0 0 0 0", "outside": "E13 E13 1 1", "empty": "E13 E13 1 1",
+    }
+    BY_BOTH = {
+        "above": "E13 E13 E13 1", "equal": "0 0 0 0", "below": "E13 E13 1 1", "beside": "E13 E13 E13 1",
+        "inside": "0 0 0 0", "outside": "E13 E13 E13 1", "empty": "E13 E13 E13 1",
+    }
+    SET_WITH_RELABEL = {
+        "above": "E13 E13 1 1", "equal": "1 1 1 1", "below": "E13 E13 1 1", "beside": "E13 E13 1 1",
+        "inside": "1 1 1 1", "outside": "E13 E13 1 1", "empty": "E13 E13 1 1",
+    }
+    SET_WITHOUT_RELABEL = {
+        "above": "E13 E13 E1 E1", "equal": "E1 E1 E1 E1", "below": "E13 E13 E1 E1", "beside": "E13 E13 E1 E1",
+        "inside": "E1 E1 E1 E1", "outside": "E13 E13 E1 E1", "empty": "E13 E13 E1 E1",
+    }
+
+    def decided(self, table, intents, more=(), **asked):
+        for where, expected in table.items():
+            answers = [outcome(intents, 1, (*overrides, *more), **self.OBJECTS[where], **asked) for overrides in self.OVERRIDES]
+            self.assertEqual(" ".join(answers), expected, (where, intents, more, asked))
+
+    def test_read_execute_search_get(self):
+        for object_type in self.OTHER_TYPES:
+            self.decided(self.BY_DOMINANCE, READ, type=object_type)
+        for object_type in TYPES:
+            self.decided(self.BY_DOMINANCE, GET, type=object_type)
+        self.decided(self.BY_DOMINANCE, EXECUTE, kind=REGULAR)
+        self.decided(self.BY_DOMINANCE, SEARCH, kind=DIRECTORY)
+
+    def test_write(self):
+        for object_type in TYPES:
+            self.decided(self.BY_EQUALITY, WRITE, type=object_type)
+
+    def test_several_intents(self):
+        """13 if any is denied."""
+        self.decided(self.BY_BOTH, WRITE | READ)
+        self.decided(self.BY_BOTH, WRITE | GET)
+        self.decided(self.BY_DOMINANCE, READ | GET)
+
+    def test_fifo_read(self):
+        """A read and a write together, whatever kind of file is named."""
+        for kind in FILE_KINDS:
+            self.decided(self.BY_BOTH, READ, type=FIFO, kind=kind)
+        self.decided(self.BY_BOTH, WRITE | READ, type=FIFO)
+
+    def test_set(self):
+        """1 if set attribute is asked without relabel, after 13."""
+        for object_type in TYPES:
+            self.decided(self.SET_WITH_RELABEL, SET, [RELABEL], type=object_type)
+            self.decided(self.SET_WITHOUT_RELABEL, SET, type=object_type)
+
+    def test_relabel_is_no_override(self):
+        self.decided(self.BY_DOMINANCE, READ, [RELABEL])
+        self.decided(self.BY_EQUALITY, WRITE, [RELABEL])
+        self.decided(self.BY_BOTH, READ, [RELABEL], type=FIFO)
+
+    def test_label_governs(self):
+        """The tuple neither widens what the label denies nor narrows what it allows."""
+        for beside in (CONTAINS, CONTAINS_NOT, Tuple()):
+            for intents, at, expected in ((READ, label(31, 1), "E13"), (READ, label(30), "0"), (WRITE, label(30), "E13"),
+                                          (WRITE, SUBJECT, "0")):
+                self.assertEqual(outcome(intents, label=at, tuple=beside), expected)
+            self.assertEqual(outcome(READ, privileges=[READ_OVERRIDE], label=label(30), tuple=beside), "0")
+            self.assertEqual(outcome(READ, privileges=[READ_OVERRIDE], label=label(31, 1), tuple=beside), "1")
+
+    def test_order(self):
+        """A bad request that is also denied and without relabel, then a denied one without relabel, then that alone."""
+        for attribute_type, at, expected in ((3, label(31, 1), "E22"), (1, label(31, 1), "E13"), (3, SUBJECT, "E22"), (1, SUBJECT, "E1")):
+            self.assertEqual(outcome(SET, attribute_type, label=at), expected)
+        self.assertEqual(outcome(READ | SET, 1, [WRITE_OVERRIDE], label=label(31, 1)), "E13")
+        self.assertEqual(outcome(READ | SET, 1, [READ_OVERRIDE, RELABEL], label=label(31, 1)), "E13")
+        self.assertEqual(outcome(READ | SET, 1, [READ_OVERRIDE, WRITE_OVERRIDE], label=label(31, 1)), "E1")
+
+
+class MonitorLines(unittest.TestCase):
+    """docs/PROGRAMS.md on the lines of monitor_cmd."""
+
+    GOOD = [b"check 0 0 0 2 0\n", write(SUBJECT), write(SUBJECT_RANGE), write(SUBJECT), b"-\n"]
+
+    def answers(self, *lines):
+        return monitor_cmd.answers(b"".join(lines)).decode().splitlines()
+
+    def test_numbers_out_of_bounds_take_the_operands(self):
+        for line in (b"check 8 0 0 2 0\n", b"check 0 6 0 2 0\n", b"check 0 0 3 2 0\n", b"check 0 1 3 2 0\n"):
+            self.assertEqual(self.answers(line, *self.GOOD[1:], *self.GOOD), ["error 22", "0"])
+        self.assertEqual(self.answers(b"check 7 5 2 2 9\n", *self.GOOD[1:], *self.GOOD), ["0", "0"])
+
+    def test_wrong_count_of_numbers_takes_none(self):
+        for line in (b"check 0 0 0 2\n", b"check 0 0 0 2 0 0\n"):
+            self.assertEqual(self.answers(line, *self.GOOD), ["error 22", "0"])
+
+    def test_dash(self):
+        """Only the last two operands may be left out, and `-` is all that the line has."""
+        command, subject, bounds, at, _ = self.GOOD
+        for lines, expected in (((subject, bounds, at, b"-\n"), "0"), ((subject, bounds, b"-\n", write(CONTAINS)), "0"),
+                                ((subject, bounds, at, write(CONTAINS)), "0"), ((subject, bounds, b"-\n", b"-\n"), "error 22"),
+                                ((b"-\n", bounds, at, b"-\n"), "error 22"), ((subject, b"-\n", at, b"-\n"), "error 22"),
+                                ((subject, bounds, at, b"- \n"), "error 22"), ((subject, bounds, at, b"--\n"), "error 22"),
+                                ((subject, bounds, at, b"-\r\n"), "error 22"), ((subject, bounds, at, b"\n"), "error 22")):
+            self.assertEqual(self.answers(command, *lines, *self.GOOD), [expected, "0"])
+
+
 class StoredCases(unittest.TestCase):
-    """The lines that mac_cmd_cases takes for good or faulty are so."""
+    """What the stored inputs take for good or faulty is so."""
 
     def test_good(self):
-        for what, contents in cases.GOOD_CONTENTS:
+        for what, contents in mac_cmd_cases.GOOD_CONTENTS:
             self.assertEqual(read(write(contents)), contents, what)
 
     def test_faulty(self):
-        for what, line in cases.wrong_lines():
+        for what, line in mac_cmd_cases.wrong_lines():
             self.assertFalse(accepted(line), what)
-            self.assertLessEqual(len(line), mac_cmd.LINE_BUFFER, what)
+            self.assertLessEqual(len(line), protocol.LINE_BUFFER, what)
 
     def test_only_the_contents_are_invalid(self):
         """A body of invalid contents, taken with no test of them, gives these contents and leaves nothing over."""
-        for what, contents in cases.invalid_contents():
+        for what, contents in mac_cmd_cases.invalid_contents():
             source = rules.Source(contents.body())
             self.assertEqual(type(contents).take(source), contents, what)
             self.assertEqual(source.rest, b"", what)
             self.assertFalse(contents.valid(), what)
+
+    def test_first_step(self):
+        for what, changes in monitor_cmd_cases.faults():
+            request = monitor_cmd_cases.check(**monitor_cmd_cases.nothing_denied(changes))
+            self.assertEqual(monitor_cmd.answers(request), b"error 22\n", what)
+        for what, changes in monitor_cmd_cases.no_faults():
+            request = monitor_cmd_cases.check(**monitor_cmd_cases.nothing_denied(changes))
+            self.assertIn(monitor_cmd.answers(request), (b"0\n", b"1\n"), what)
+
+    def test_random_requests(self):
+        """Each answer of the monitor is common among them."""
+        requests = b"".join(monitor_cmd_cases.random_requests(random.Random(SEED)))
+        counted = collections.Counter(monitor_cmd.answers(requests).splitlines())
+        self.assertEqual(set(counted), {b"0", b"1", b"error 1", b"error 13", b"error 22"})
+        self.assertGreaterEqual(min(counted.values()), 0.08 * monitor_cmd_cases.RANDOM_REQUESTS)
 
 
 if __name__ == "__main__":

@@ -1,0 +1,33 @@
+# A model of the program monitor_cmd, as docs/PROGRAMS.md describes it, over the rules in monitor.py:
+# python3 tests/model/monitor_cmd.py < INPUT > OUTPUT. `answers` is the same from bytes to bytes.
+
+import functools
+
+import protocol
+from monitor import FILE_KINDS, PRIVILEGES, TYPES, Credentials, Object, Request, decide, named
+from protocol import LEFT_OUT, Command
+from rules import INVALID, Label, Range, Refusal, Tuple
+
+
+def below(end, number):
+    """A number that has a meaning only below `end`."""
+    if number >= end:
+        raise Refusal(INVALID)
+    return number
+
+
+def check(privileges, object_type, file_kind, intents, attribute_type, label, bounds, object_label, object_tuple):
+    held = named(below(2 ** len(PRIVILEGES), privileges), PRIVILEGES)
+    thing = Object(TYPES[below(len(TYPES), object_type)], FILE_KINDS[below(len(FILE_KINDS), file_kind)],
+                   object_label, object_tuple)
+    return decide(Request(Credentials(label, bounds, frozenset(held)), thing, intents, attribute_type))
+
+
+# The object's label, its tuple or both may be left out; that one of them must be there is the monitor's rule.
+FORMS = [(Label, Range, of_label, of_tuple) for of_label in (Label, LEFT_OUT) for of_tuple in (Tuple, LEFT_OUT)]
+COMMANDS = {b"check": Command(5, FORMS, check)}
+
+answers = functools.partial(protocol.answers, COMMANDS)
+
+if __name__ == "__main__":
+    protocol.run(COMMANDS)
