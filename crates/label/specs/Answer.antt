@@ -41,6 +41,11 @@ abbrev pub outcomeOf : {A : Type 0} → Outcome → A → Answer A
 outcomeOf Granted value = granted value
 outcomeOf (RefusedOutcome e) value = refusedBy e
 
+-- whether the enum Outcome is a grant
+abbrev pub grantedOf : Outcome → Bool
+grantedOf Granted = true
+grantedOf (RefusedOutcome e) = false
+
 -- the value of a grant, and z beside a refusal
 abbrev pub valueOr : {A : Type 0} → A → Answer A → A
 valueOr z (granted value) = value

@@ -1,5 +1,7 @@
 // What calls answer where that is no label, range or tuple; and the outcome that stands beside one of these.
 use crate::errno::Errno;
+ghost use mathlib.Core.Path.{_≡_};
+ghost use Rattle.label.specs.Answer.{grantedOf};
 
 // A yes or no.
 pub enum Test {
@@ -21,4 +23,14 @@ pub enum Outcome {
 pub enum Written {
     Length(usize),
     Refused(Errno),
+}
+
+// Whether an outcome is a grant.
+pub fn granted(o: Outcome) -> bool
+    ensures { λ b. ⌜ b ≡ grantedOf o ⌝ }
+{
+    match o {
+        Outcome::Granted => true,
+        Outcome::Refused(_) => false,
+    }
 }

@@ -10,6 +10,7 @@ use label::answer::Number;
 use label::answer::Outcome;
 use label::answer::Test;
 use label::answer::Written;
+use label::answer::granted;
 use label::errno::Errno;
 use label::region;
 use range::RangeAnswer;
@@ -18,13 +19,6 @@ use range::tuple::TupleAnswer;
 
 pub(crate) fn invalid(out: &mut [u8]) -> usize {
     text::append_error(out, 0, Errno::Invalid)
-}
-
-fn granted(o: Outcome) -> bool {
-    match o {
-        Outcome::Granted => true,
-        Outcome::Refused(_) => false,
-    }
 }
 
 fn put_bool(b: bool, out: &mut [u8]) -> usize {

@@ -1,0 +1,99 @@
+// The lines of the input as requests: a command line, then its operand lines, then one answer.
+use crate::request;
+use crate::request::Draft;
+use crate::request::OPERANDS;
+use console::command;
+use console::lines;
+use console::lines::Line;
+use console::text;
+use label::errno::Errno;
+use libc::STDOUT_FILENO;
+use monitor::Decision;
+
+// Where the input stands. Between requests no operand line is due.
+pub(crate) struct Session {
+    pub draft: Draft,
+    // How many operand lines are still to come.
+    pub due: usize,
+}
+
+pub(crate) fn start() -> Session {
+    Session {
+        draft: request::draft([0; 5]),
+        due: 0,
+    }
+}
+
+fn put(d: Decision, out: &mut [u8]) -> usize {
+    match d {
+        Decision::Granted => text::append(out, 0, b"0\n"),
+        Decision::Privileged => text::append(out, 0, b"1\n"),
+        Decision::Refused(e) => text::append_error(out, 0, e),
+    }
+}
+
+fn print(d: Decision) {
+    let mut out = [0u8; 32];
+    let n = put(d, &mut out);
+    io::write_all(STDOUT_FILENO, lines::front(&out, n));
+}
+
+// Prints that a request is bad; then the next one is due.
+fn refuse() -> Session {
+    print(Decision::Refused(Errno::Invalid));
+    start()
+}
+
+// A line where a command line is due. A bad line comes as no bytes at all.
+fn take_command(line: &[u8]) -> Session {
+    if command::is_skipped(line) {
+        return start();
+    }
+    let c = command::parse(line);
+    if !command::is_word(line, b"check") | !c.valid | (c.count != 5) {
+        return refuse();
+    }
+    Session {
+        draft: request::draft(c.numbers),
+        due: OPERANDS,
+    }
+}
+
+// A line where an operand line is due. After the last of them the request is decided.
+fn take_operand(s: Session, line: &[u8]) -> Session {
+    let draft = request::with_operand(s.draft, s.due, line);
+    if s.due > 1 {
+        return Session {
+            draft,
+            due: s.due - 1,
+        };
+    }
+    if !draft.good {
+        return refuse();
+    }
+    print(monitor::check(draft.request));
+    start()
+}
+
+fn take_line(s: Session, line: &[u8]) -> Session {
+    if s.due == 0 {
+        return take_command(line);
+    }
+    take_operand(s, line)
+}
+
+// What a piece of the input makes: no line yet, a line at the front of the buffer, or a bad one.
+pub(crate) fn take_piece(s: Session, l: Line, line: &[u8]) -> Session {
+    match l {
+        Line::More => s,
+        Line::Whole(n) => take_line(s, lines::front(line, n)),
+        Line::Bad => take_line(s, lines::front(line, 0)),
+    }
+}
+
+// The end of the input: a request that lacks operand lines is refused.
+pub(crate) fn finish(s: Session) {
+    if s.due > 0 {
+        print(Decision::Refused(Errno::Invalid));
+    }
+}
