@@ -1,12 +1,12 @@
 -- What a valid request has. Assumes nothing.
-use mathlib.Core.Bool.{Bool, true, false, _&&_, _||_, true≢false}
+use mathlib.Core.Bool.{Bool, true, false, _&&_, true≢false}
 use mathlib.Core.Path.{_≡_, refl, sym, _∙_}
 use Rattle.label.specs.Label
 use Rattle.range.specs.Range
 use Rattle.range.specs.Tuple
 use Rattle.label.proofs.BoolLaws.{both, first-true, not-so, same-truth, second-true, three-true}
 use Rattle.range.proofs.RangeLaws.{contains-valid}
-use Rattle.monitor.specs.Monitor.{attributeValid, credentialsValid, implies, intentsValid, kindValid, labelValid, objectValid, tupleValid, validOf}
+use Rattle.monitor.specs.Monitor.{attributeValid, credentialsValid, implies, intentsValid, kindValid, labelOrTuple, labelValid, objectValid, tupleValid, validOf}
 use Rattle.monitor.specs.declared.Credentials.{Credentials}
 use Rattle.monitor.specs.declared.Object.{Object}
 use Rattle.monitor.specs.declared.Request.{Request}
@@ -44,7 +44,7 @@ subject-valid c e = three-true (Range.validOf (c .range)) (Label.validOf (c .lab
 
 pub tuple-valid : (o : Object) → objectValid o ≡ true → tupleValid o ≡ true
 unfolding objectValid
-tuple-valid o e = three-true (o .present .label || o .present .tuple) (labelValid o) _ e .2
+tuple-valid o e = three-true (labelOrTuple o) (labelValid o) _ e .2
 
 implies-both : (p q s : Bool) → implies p q ≡ true → s ≡ true → implies p (q && s) ≡ true
 implies-both true q s e f = both e f

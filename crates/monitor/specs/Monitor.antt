@@ -130,16 +130,19 @@ intentsValid intents = ltb 0 intents && leb intents 63 && not (asks intents inte
 unfoldable pub credentialsValid : Credentials → Bool
 credentialsValid c = Range.validOf (c .range) && Label.validOf (c .label) && Range.containsOf (c .range) (c .label)
 
--- a label or a tuple that is there is valid
+-- a label, a tuple or both
+abbrev pub labelOrTuple : Object → Bool
+labelOrTuple o = o .present .label || o .present .tuple
+
+-- each that is there is valid
 abbrev pub labelValid : Object → Bool
 labelValid o = implies (o .present .label) (Label.validOf (o .label))
 
 abbrev pub tupleValid : Object → Bool
 tupleValid o = implies (o .present .tuple) (Tuple.validOf (o .tuple))
 
--- a label, a tuple or both, each of them valid
 unfoldable pub objectValid : Object → Bool
-objectValid o = (o .present .label || o .present .tuple) && labelValid o && tupleValid o
+objectValid o = labelOrTuple o && labelValid o && tupleValid o
 
 abbrev pub isFile : ObjectClass → Bool
 isFile File = true

@@ -1,5 +1,5 @@
-// A request as it is put together: from the numbers of its command line, then from one operand line after the other.
-use label::answer::Outcome;
+// A request as it is put together: the numbers of its command line, then one operand line after the other.
+use label::Label;
 use label::answer::granted;
 use monitor::Credentials;
 use monitor::FileKind;
@@ -8,12 +8,104 @@ use monitor::ObjectClass;
 use monitor::Presence;
 use monitor::Privileges;
 use monitor::Request;
+use range::Range;
 use range::tuple;
+use range::tuple::Tuple;
+
+// How many operand lines a request has: the subject's label and range, the object's label and tuple.
+pub(crate) const OPERANDS: usize = 4;
 
 // What is known of a request, and whether all of it is good so far.
 pub(crate) struct Draft {
     pub good: bool,
-    pub request: Request,
+    pub numbers: [u64; 5],
+    pub subject: Label,
+    pub range: Range,
+    pub present: Presence,
+    pub label: Label,
+    pub tuple: Tuple,
+}
+
+// A request with its numbers and no operand yet: privileges, class and kind have to be some that there are.
+pub(crate) fn of_numbers(numbers: [u64; 5]) -> Draft {
+    Draft {
+        good: (numbers[0] <= 7) & (numbers[1] <= 5) & (numbers[2] <= 2),
+        numbers,
+        subject: label::zero(),
+        range: range::zero(),
+        present: Presence {
+            label: false,
+            tuple: false,
+        },
+        label: label::zero(),
+        tuple: tuple::empty(),
+    }
+}
+
+// Whether an operand is left out: its line is `-`.
+fn left_out(line: &[u8]) -> bool {
+    if line.len() != 2 {
+        return false;
+    }
+    (line[0] == b'-') & (line[1] == b'\n')
+}
+
+fn with_subject(mut d: Draft, line: &[u8]) -> Draft {
+    let read = hexline::read_label(line);
+    let outcome = read.outcome;
+    let l = read.label;
+    d.subject = l;
+    d.good = d.good & granted(outcome);
+    d
+}
+
+fn with_range(mut d: Draft, line: &[u8]) -> Draft {
+    let read = hexline::read_range(line);
+    let outcome = read.outcome;
+    let x = read.range;
+    d.range = x;
+    d.good = d.good & granted(outcome);
+    d
+}
+
+fn with_label(mut d: Draft, line: &[u8]) -> Draft {
+    if left_out(line) {
+        return d;
+    }
+    let read = hexline::read_label(line);
+    let outcome = read.outcome;
+    let l = read.label;
+    d.present.label = true;
+    d.label = l;
+    d.good = d.good & granted(outcome);
+    d
+}
+
+fn with_tuple(mut d: Draft, line: &[u8]) -> Draft {
+    if left_out(line) {
+        return d;
+    }
+    let read = hexline::read_tuple(line);
+    let outcome = read.outcome;
+    let t = read.tuple;
+    d.present.tuple = true;
+    d.tuple = t;
+    d.good = d.good & granted(outcome);
+    d
+}
+
+// The draft with one more operand line, where `due` of them were still to come.
+pub(crate) fn with_operand(d: Draft, due: usize, line: &[u8]) -> Draft {
+    if due == 4 {
+        return with_subject(d, line);
+    }
+    if due == 3 {
+        return with_range(d, line);
+    }
+    if due == 2 {
+        return with_label(d, line);
+    }
+    with_tuple(d, line)
 }
 
 fn class_of(n: u64) -> ObjectClass {
@@ -53,116 +145,28 @@ fn privileges_of(n: u64) -> Privileges {
     }
 }
 
-fn object_of(class: u64, kind: u64) -> Object {
-    Object {
-        class: class_of(class),
-        kind: kind_of(kind),
-        present: Presence {
-            label: false,
-            tuple: false,
+// The request, once all of it is there.
+pub(crate) fn of_draft(d: Draft) -> Request {
+    let numbers = d.numbers;
+    let present = d.present;
+    let subject = d.subject;
+    let range = d.range;
+    let label = d.label;
+    let tuple = d.tuple;
+    Request {
+        credentials: Credentials {
+            label: subject,
+            range,
+            privileges: privileges_of(numbers[0]),
         },
-        label: label::zero(),
-        tuple: tuple::empty(),
-    }
-}
-
-// A request with its numbers and no operand: privileges, class and kind have to be some that there are.
-pub(crate) fn draft(numbers: [u64; 5]) -> Draft {
-    let privileges = numbers[0];
-    let class = numbers[1];
-    let kind = numbers[2];
-    Draft {
-        good: (privileges <= 7) & (class <= 5) & (kind <= 2),
-        request: Request {
-            credentials: Credentials {
-                label: label::zero(),
-                range: range::zero(),
-                privileges: privileges_of(privileges),
-            },
-            object: object_of(class, kind),
-            intents: numbers[3],
-            attribute: numbers[4],
+        object: Object {
+            class: class_of(numbers[1]),
+            kind: kind_of(numbers[2]),
+            present,
+            label,
+            tuple,
         },
+        intents: numbers[3],
+        attribute: numbers[4],
     }
-}
-
-// The draft with what an operand line made of its request.
-fn drafted(good: bool, outcome: Outcome, request: Request) -> Draft {
-    Draft {
-        good: good & granted(outcome),
-        request,
-    }
-}
-
-// Whether an operand is left out: the line is `-`.
-fn left_out(line: &[u8]) -> bool {
-    if line.len() != 2 {
-        return false;
-    }
-    (line[0] == b'-') & (line[1] == b'\n')
-}
-
-fn with_subject_label(d: Draft, line: &[u8]) -> Draft {
-    let read = hexline::read_label(line);
-    let outcome = read.outcome;
-    let mut r = d.request;
-    let mut c = r.credentials;
-    c.label = read.label;
-    r.credentials = c;
-    drafted(d.good, outcome, r)
-}
-
-fn with_subject_range(d: Draft, line: &[u8]) -> Draft {
-    let read = hexline::read_range(line);
-    let outcome = read.outcome;
-    let mut r = d.request;
-    let mut c = r.credentials;
-    c.range = read.range;
-    r.credentials = c;
-    drafted(d.good, outcome, r)
-}
-
-fn with_object_label(d: Draft, line: &[u8]) -> Draft {
-    if left_out(line) {
-        return d;
-    }
-    let read = hexline::read_label(line);
-    let outcome = read.outcome;
-    let mut r = d.request;
-    let mut o = r.object;
-    o.present.label = true;
-    o.label = read.label;
-    r.object = o;
-    drafted(d.good, outcome, r)
-}
-
-fn with_object_tuple(d: Draft, line: &[u8]) -> Draft {
-    if left_out(line) {
-        return d;
-    }
-    let read = hexline::read_tuple(line);
-    let outcome = read.outcome;
-    let mut r = d.request;
-    let mut o = r.object;
-    o.present.tuple = true;
-    o.tuple = read.tuple;
-    r.object = o;
-    drafted(d.good, outcome, r)
-}
-
-// The operand lines of a request, in their order: the subject's label and range, the object's label and tuple.
-pub(crate) const OPERANDS: usize = 4;
-
-// The draft with one more operand line, where `due` of them were still to come.
-pub(crate) fn with_operand(d: Draft, due: usize, line: &[u8]) -> Draft {
-    if due == 4 {
-        return with_subject_label(d, line);
-    }
-    if due == 3 {
-        return with_subject_range(d, line);
-    }
-    if due == 2 {
-        return with_object_label(d, line);
-    }
-    with_object_tuple(d, line)
 }

@@ -19,7 +19,7 @@ pub(crate) struct Session {
 
 pub(crate) fn start() -> Session {
     Session {
-        draft: request::draft([0; 5]),
+        draft: request::of_numbers([0; 5]),
         due: 0,
     }
 }
@@ -53,8 +53,9 @@ fn take_command(line: &[u8]) -> Session {
     if !command::is_word(line, b"check") | !c.valid | (c.count != 5) {
         return refuse();
     }
+    let numbers = c.numbers;
     Session {
-        draft: request::draft(c.numbers),
+        draft: request::of_numbers(numbers),
         due: OPERANDS,
     }
 }
@@ -71,7 +72,7 @@ fn take_operand(s: Session, line: &[u8]) -> Session {
     if !draft.good {
         return refuse();
     }
-    print(monitor::check(draft.request));
+    print(monitor::check(request::of_draft(draft)));
     start()
 }
 
