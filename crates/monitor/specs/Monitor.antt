@@ -22,7 +22,7 @@ use Rattle.monitor.specs.declared.ObjectClass.the-variants.{File, Fifo, 
 use Rattle.monitor.specs.declared.Privileges.{Privileges}
 use Rattle.monitor.specs.declared.Request.{Request}
 
--- ---- what is asked
+-- ---- the intents
 
 -- the intents, by their bits
 abbrev pub intentWrite : ℕ
@@ -50,77 +50,7 @@ asks intents intent = bit intents intent
 abbrev pub implies : Bool → Bool → Bool
 implies p q = not p || q
 
--- ---- the table of intents
-
--- what an access needs under a label
-abbrev pub underLabel : Access → Label → Label → Bool
-underLabel Observe subject object = Label.dominatesOf subject object
-underLabel Modify subject object = Label.equalOf subject object
-
--- the override by which it passes where its test is not met
-abbrev pub overrideOf : Access → Privileges → Bool
-overrideOf Observe p = p .read
-overrideOf Modify p = p .write
-
--- an intent, what it does, and to objects of which class
-pub record Row : Type 0 where
-  pub intent : ℕ
-  pub access : Access
-  pub on : ObjectClass → Bool
-
-abbrev pub row : ℕ → Access → (ObjectClass → Bool) → Row
-row intent access on = record { intent = intent; access = access; on = on }
-
-abbrev pub anyClass : ObjectClass → Bool
-anyClass c = true
-
--- where a read takes away what it reads: it is a read and a write together
-abbrev pub destructiveRead : ObjectClass → Bool
-destructiveRead File = false
-destructiveRead Fifo = true
-destructiveRead Process = false
-destructiveRead MessageQueue = false
-destructiveRead SharedMemory = false
-destructiveRead Semaphore = false
-
-unfoldable pub table : List Row
-table =
-    row intentWrite Modify anyClass
-    ∷ row intentRead Observe anyClass
-    ∷ row intentRead Modify destructiveRead
-    ∷ row intentExecute Observe anyClass
-    ∷ row intentSearch Observe anyClass
-    ∷ row intentGet Observe anyClass
-    ∷ row intentSet Modify anyClass
-    ∷ []
-
--- whether a row of the table is asked for
-abbrev pub applies : Request → Row → Bool
-applies r x = asks (r .intents) (x .intent) && x .on (r .object .class)
-
--- what each access needs under a tuple: that it contains the subject's label
-abbrev pub underTuple : Label → Object → Bool
-underTuple subject o = o .present .tuple && Tuple.containsOf (o .tuple) subject
-
--- whether the test of an access is met. A label governs where both are there
-unfoldable pub metOf : Label → Object → Access → Bool
-metOf subject o a = cond (o .present .label) (underLabel a subject (o .label)) (underTuple subject o)
-
--- whether a row is asked for and its test is not met
-abbrev pub unmet : Request → Row → Bool
-unmet r x = applies r x && not (metOf (r .credentials .label) (r .object) (x .access))
-
--- whether a row is asked for and neither is its test met nor is there the override
-abbrev pub denied : Request → Row → Bool
-denied r x =
-    applies r x
-    && not (metOf (r .credentials .label) (r .object) (x .access) || overrideOf (x .access) (r .credentials .privileges))
-
-unfoldable pub any : (Row → Bool) → List Row → Bool
-any f [] = false
-any f (x ∷ xs) = f x || any f xs
-
--- ---- what is refused with 22
+-- ---- the first step: what is refused with 22
 
 -- 1 to 63, and not execute with search
 unfoldable pub intentsValid : ℕ → Bool
@@ -179,7 +109,77 @@ validOf r =
     && kindValid (r .intents) (r .object .class) (r .object .kind)
     && attributeValid (r .intents) (r .attribute)
 
--- ---- the three steps
+-- ---- the second step: the table of intents
+
+-- an intent observes the object or modifies it: what that needs under a label
+abbrev pub underLabel : Access → Label → Label → Bool
+underLabel Observe subject object = Label.dominatesOf subject object
+underLabel Modify subject object = Label.equalOf subject object
+
+-- what either needs under a tuple: that it is there and contains the subject's label
+abbrev pub underTuple : Label → Object → Bool
+underTuple subject o = o .present .tuple && Tuple.containsOf (o .tuple) subject
+
+-- the override by which it passes where its test is not met
+abbrev pub overrideOf : Access → Privileges → Bool
+overrideOf Observe p = p .read
+overrideOf Modify p = p .write
+
+-- an intent, what it does, and to objects of which class
+pub record Row : Type 0 where
+  pub intent : ℕ
+  pub access : Access
+  pub on : ObjectClass → Bool
+
+abbrev pub row : ℕ → Access → (ObjectClass → Bool) → Row
+row intent access on = record { intent = intent; access = access; on = on }
+
+abbrev pub anyClass : ObjectClass → Bool
+anyClass c = true
+
+-- where a read takes away what it reads: it is a read and a write together
+abbrev pub destructiveRead : ObjectClass → Bool
+destructiveRead File = false
+destructiveRead Fifo = true
+destructiveRead Process = false
+destructiveRead MessageQueue = false
+destructiveRead SharedMemory = false
+destructiveRead Semaphore = false
+
+unfoldable pub table : List Row
+table =
+    row intentWrite Modify anyClass
+    ∷ row intentRead Observe anyClass
+    ∷ row intentRead Modify destructiveRead
+    ∷ row intentExecute Observe anyClass
+    ∷ row intentSearch Observe anyClass
+    ∷ row intentGet Observe anyClass
+    ∷ row intentSet Modify anyClass
+    ∷ []
+
+-- whether a row of the table is asked for
+abbrev pub applies : Request → Row → Bool
+applies r x = asks (r .intents) (x .intent) && x .on (r .object .class)
+
+-- whether the test of an access is met. A label governs where both are there
+unfoldable pub metOf : Label → Object → Access → Bool
+metOf subject o a = cond (o .present .label) (underLabel a subject (o .label)) (underTuple subject o)
+
+-- whether a row is asked for and its test is not met
+abbrev pub unmet : Request → Row → Bool
+unmet r x = applies r x && not (metOf (r .credentials .label) (r .object) (x .access))
+
+-- whether a row is asked for and neither is its test met nor is there the override
+abbrev pub denied : Request → Row → Bool
+denied r x =
+    applies r x
+    && not (metOf (r .credentials .label) (r .object) (x .access) || overrideOf (x .access) (r .credentials .privileges))
+
+unfoldable pub any : (Row → Bool) → List Row → Bool
+any f [] = false
+any f (x ∷ xs) = f x || any f xs
+
+-- ---- the three steps, and the answer
 
 -- what a grant answers: 1 if any privilege was needed, and set attribute always needs one, else 0
 unfoldable pub grantBy : List Row → Request → ℕ
@@ -191,6 +191,7 @@ decideBy rows r =
     (require (not (any (denied r) rows)) 13
     (require (not (asks (r .intents) intentSet && not (r .credentials .privileges .relabel))) 1 (granted (grantBy rows r))))
 
+-- the monitor's decision
 abbrev pub decide : Request → Answer ℕ
 decide r = decideBy table r
 
