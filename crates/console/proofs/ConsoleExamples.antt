@@ -7,7 +7,7 @@ use Prim.Native.Nat.{ℕ, _-_, _^_}
 use lib.ListN.{replicate}
 use Rattle.label.specs.declared.errno.Errno.the-variants.{TooBig, Invalid}
 use Rattle.console.specs.Bytes.{blank, indexOf, lf, putAt, sameBytes}
-use Rattle.console.specs.Command.{bodyCommandOf, bodyOf, commandOf, digits, endedOf, invalid, numberOf, numbersOf, split, valueFrom, withNumbers, wordOf}
+use Rattle.console.specs.Command.{bodyCommandOf, bodyOf, commandOf, digits, endedOf, invalid, numberOf, numbersOf, skippedOf, split, valueFrom, withNumbers, wordOf}
 use Rattle.console.specs.Lines.{bufferOf, fitsOf, held, lastOf, piece, pieceOf, skipped}
 use Rattle.console.specs.Text.{appendedOf, carriedText, decimalIn, decimalOf, errorText, errorWord, pastOf, refusalText}
 use Rattle.console.specs.declared.lines.Line.the-variants.{More, Whole, Bad}
@@ -132,6 +132,11 @@ words = (refl, refl, refl)
 same-word : (sameBytes abc abc ≡ true) × (sameBytes abc (97 ∷ 98 ∷ []) ≡ false)
 unfolding sameBytes
 same-word = (refl, refl)
+
+-- an empty line and a comment are skipped; a word, and no bytes at all, are not
+skips : (skippedOf (lf ∷ []) ≡ true) × (skippedOf (35 ∷ abc) ≡ true) × (skippedOf abc ≡ false) × (skippedOf [] ≡ false)
+unfolding skippedOf
+skips = (refl, refl, refl, refl)
 
 -- ---- text
 

@@ -1,5 +1,5 @@
 -- A command line: a word and numbers, one blank between. Assumes nothing.
-use mathlib.Core.Bool.{Bool, true, false, _&&_, cond}
+use mathlib.Core.Bool.{Bool, true, false, _&&_, _||_, cond}
 use mathlib.Core.List.{List, [], _∷_, _++_}
 use mathlib.Core.Option.{Option, none, some}
 use Prim.Native.Nat.{ℕ, _+_, _-_, _*_, _^_}
@@ -95,3 +95,8 @@ bodyCommandOf body = ofNumbers (numbersOf (othersOf (split blank body)))
 -- what a command line says
 unfoldable pub commandOf : List ℕ → Command
 commandOf line = cond (endedOf line) (bodyCommandOf (bodyOf line)) invalid
+
+-- whether the line is empty, so that its first byte is its LF, or a comment, which begins with `#`
+unfoldable pub skippedOf : List ℕ → Bool
+skippedOf [] = false
+skippedOf (b ∷ bs) = eqb b lf || eqb b 35

@@ -4,7 +4,7 @@ use crate::bytes::BLANK;
 use crate::bytes::LF;
 ghost use mathlib.Core.Path.{_≡_};
 ghost use Rattle.console.specs.Bytes.{sameBytes};
-ghost use Rattle.console.specs.Command.{bodyCommandOf, commandOf, invalid, numberAnswerOf, numberOf, wordOf};
+ghost use Rattle.console.specs.Command.{bodyCommandOf, commandOf, invalid, numberAnswerOf, numberOf, skippedOf, wordOf};
 
 // How many numbers a command has at most.
 pub const MAX_NUMBERS: usize = 5;
@@ -109,4 +109,15 @@ pub fn is_word(line: &[u8], word: &[u8]) -> bool
     let body = &line[..end];
     let n = bytes::index_of(BLANK, body);
     bytes::same(&body[..n], word)
+}
+
+// Whether a line between requests gets no answer: an empty line or a comment. A bad line, which comes as no bytes at all, gets one.
+pub fn is_skipped(line: &[u8]) -> bool
+    ensures { λ r. ⌜ r ≡ skippedOf (now (line .entry)) ⌝ }
+{
+    if line.len() == 0 {
+        return false;
+    }
+    let first = line[0];
+    (first == LF) | (first == b'#')
 }

@@ -5,13 +5,10 @@ use crate::request::Request;
 use console::command;
 use console::lines;
 use console::lines::Line;
-use console::lines::Partial;
 use libc::STDOUT_FILENO;
 
-// Where the input stands. Between requests no operand line is due.
+// Where the requests stand. Between two no operand line is due.
 pub(crate) struct Session {
-    // What is held of a line.
-    pub partial: Partial,
     pub request: Request,
     pub number: u64,
     // How many operand lines are still to come.
@@ -20,13 +17,8 @@ pub(crate) struct Session {
     pub kept: usize,
 }
 
-pub(crate) fn start() -> Session {
-    between(lines::start())
-}
-
-fn between(partial: Partial) -> Session {
+pub(crate) fn between() -> Session {
     Session {
-        partial,
         request: Request::Unknown,
         number: 0,
         due: 0,
@@ -41,35 +33,25 @@ fn print(r: Request, number: u64, a: &[u8], b: &[u8]) {
     io::write_all(STDOUT_FILENO, lines::front(&out, n));
 }
 
-// Whether a line between requests gets no answer: an empty line or a comment.
-fn is_skipped(line: &[u8]) -> bool {
-    if line.len() == 0 {
-        return false;
-    }
-    (line[0] == b'\n') | (line[0] == b'#')
-}
-
 // A line where a command line is due. A bad line comes as no bytes at all.
-fn take_command(s: Session, line: &[u8]) -> Session {
-    let partial = s.partial;
-    if is_skipped(line) {
-        return between(partial);
+fn take_command(line: &[u8]) -> Session {
+    if command::is_skipped(line) {
+        return between();
     }
     let r = request::of_line(line);
     let c = command::parse(line);
     if !c.valid | (c.count != request::number_count(r)) {
         print(Request::Unknown, 0, line, line);
-        return between(partial);
+        return between();
     }
     let due = request::operand_count(r);
     let numbers = c.numbers;
     let number = numbers[0];
     if due == 0 {
         print(r, number, line, line);
-        return between(partial);
+        return between();
     }
     Session {
-        partial,
         request: r,
         number,
         due,
@@ -79,12 +61,10 @@ fn take_command(s: Session, line: &[u8]) -> Session {
 
 // A line where an operand line is due. Of two, the first is kept until the second is there.
 fn take_operand(s: Session, line: &[u8], operand: &mut [u8]) -> Session {
-    let partial = s.partial;
     let r = s.request;
     if s.due > 1 {
         let kept = console::text::append(operand, 0, line);
         return Session {
-            partial,
             request: r,
             number: s.number,
             due: 1,
@@ -96,18 +76,18 @@ fn take_operand(s: Session, line: &[u8], operand: &mut [u8]) -> Session {
     } else {
         print(r, s.number, line, line);
     }
-    between(partial)
+    between()
 }
 
 fn take_line(s: Session, line: &[u8], operand: &mut [u8]) -> Session {
     if s.due == 0 {
-        return take_command(s, line);
+        return take_command(line);
     }
     take_operand(s, line, operand)
 }
 
-// What a piece of the input makes: no line yet, a line at the front of the buffer, or a bad one.
-fn take_piece(s: Session, l: Line, line: &[u8], operand: &mut [u8]) -> Session {
+// What a step of the input makes: no line yet, a line at the front of the buffer, or a bad one.
+pub(crate) fn take_piece(s: Session, l: Line, line: &[u8], operand: &mut [u8]) -> Session {
     match l {
         Line::More => s,
         Line::Whole(n) => take_line(s, lines::front(line, n), operand),
@@ -115,39 +95,10 @@ fn take_piece(s: Session, l: Line, line: &[u8], operand: &mut [u8]) -> Session {
     }
 }
 
-fn with_partial(s: Session, partial: Partial) -> Session {
-    let request = s.request;
-    Session {
-        partial,
-        request,
-        number: s.number,
-        due: s.due,
-        kept: s.kept,
-    }
-}
-
-// Works through a chunk of the input.
-pub(crate) fn work(s: Session, chunk: &[u8], line: &mut [u8], operand: &mut [u8]) -> Session {
-    let mut session = s;
-    let mut at = 0;
-    while at < chunk.len() {
-        let partial = session.partial;
-        let piece = lines::take(chunk, at, line, partial);
-        let l = piece.line;
-        let held = piece.partial;
-        session = take_piece(with_partial(session, held), l, line, operand);
-        at = piece.next;
-    }
-    session
-}
-
-// The end of the input: a last line that has no LF is a bad line, and a request that lacks operand lines is refused.
-pub(crate) fn finish(s: Session, operand: &mut [u8]) {
-    let partial = s.partial;
-    let l = lines::last(partial);
-    let none = [0u8; 1];
-    let end = take_piece(s, l, &none, operand);
-    if end.due > 0 {
+// The end of the input: a request that lacks operand lines is refused.
+pub(crate) fn finish(s: Session) {
+    if s.due > 0 {
+        let none = [0u8; 1];
         print(Request::Unknown, 0, &none, &none);
     }
 }

@@ -2,15 +2,16 @@
 mod request;
 mod session;
 
+// Answers the requests of the input, which is read into the chunk. The line at hand is in the second buffer.
 fn run(chunk: &mut [u8], line: &mut [u8]) {
-    let mut s = session::start();
     let mut i = input::start();
+    let mut s = session::between();
     let mut turns = u64::MAX;
     while turns > 0 {
         let turn = input::step(i, chunk, line);
-        i = turn.input;
         let l = turn.line;
         s = session::take_piece(s, l, line);
+        i = turn.input;
         turns = input::turns_left(turns, i);
     }
     session::finish(s);

@@ -10,14 +10,14 @@ use label::errno::Errno;
 use libc::STDOUT_FILENO;
 use monitor::Decision;
 
-// Where the input stands. Between requests no operand line is due.
+// Where the requests stand. Between two no operand line is due.
 pub(crate) struct Session {
     pub draft: Draft,
     // How many operand lines are still to come.
     pub due: usize,
 }
 
-pub(crate) fn start() -> Session {
+pub(crate) fn between() -> Session {
     Session {
         draft: request::of_numbers([0; 5]),
         due: 0,
@@ -41,13 +41,13 @@ fn print(d: Decision) {
 // Prints that a request is bad; then the next one is due.
 fn refuse() -> Session {
     print(Decision::Refused(Errno::Invalid));
-    start()
+    between()
 }
 
 // A line where a command line is due. A bad line comes as no bytes at all.
 fn take_command(line: &[u8]) -> Session {
     if command::is_skipped(line) {
-        return start();
+        return between();
     }
     let c = command::parse(line);
     if !command::is_word(line, b"check") | !c.valid | (c.count != 5) {
@@ -73,7 +73,7 @@ fn take_operand(s: Session, line: &[u8]) -> Session {
         return refuse();
     }
     print(monitor::check(request::of_draft(draft)));
-    start()
+    between()
 }
 
 fn take_line(s: Session, line: &[u8]) -> Session {
@@ -83,7 +83,7 @@ fn take_line(s: Session, line: &[u8]) -> Session {
     take_operand(s, line)
 }
 
-// What a piece of the input makes: no line yet, a line at the front of the buffer, or a bad one.
+// What a step of the input makes: no line yet, a line at the front of the buffer, or a bad one.
 pub(crate) fn take_piece(s: Session, l: Line, line: &[u8]) -> Session {
     match l {
         Line::More => s,

@@ -5,19 +5,25 @@ use Rattle.mac_cmd.proofs.run.Statement.{statement}
 use Rattle.mac_cmd.proofs.run.Tie as tie
 
 abbrev Inv-loop : tie.InvT-loop
-Inv-loop line₀ operand₀ s₀ turns₀ line operand s turns = (length line ≡ length line₀) × (length operand ≡ length operand₀)
+Inv-loop chunk₀ line₀ operand₀ i₀ s₀ turns₀ chunk line operand i s turns = (length chunk ≡ length chunk₀) × (length line ≡ length line₀) × (length operand ≡ length operand₀)
 
 abbrev μ-loop : tie.MeasureT-loop
-μ-loop line₀ operand₀ s₀ turns₀ line operand s turns = turns
+μ-loop chunk₀ line₀ operand₀ i₀ s₀ turns₀ chunk line operand i s turns = turns
 
 start-requires : tie.Need-start-requires Inv-loop μ-loop
 start-requires c κs = search needs
 
+between-requires : tie.Need-between-requires Inv-loop μ-loop
+between-requires c κs = search needs
+
 loop-holds : tie.Need-loop-holds Inv-loop μ-loop
 loop-holds c = search needs
 
-read-some-requires : tie.Need-read-some-requires Inv-loop μ-loop
-read-some-requires c κs = search needs
+step-requires : tie.Need-step-requires Inv-loop μ-loop
+step-requires c κs = search needs
+
+take-piece-requires : tie.Need-take-piece-requires Inv-loop μ-loop
+take-piece-requires c κs = search needs
 
 turns-left-requires : tie.Need-turns-left-requires Inv-loop μ-loop
 turns-left-requires c κs = search needs
@@ -37,6 +43,9 @@ same-length c = search needs
 same-length-2 : tie.Need-same-length-2 Inv-loop μ-loop
 same-length-2 c = search needs
 
+same-length-3 : tie.Need-same-length-3 Inv-loop μ-loop
+same-length-3 c = search needs
+
 returns : tie.Need-returns Inv-loop μ-loop
 returns c = search needs
 
@@ -47,12 +56,15 @@ run-spec =
     Inv-loop
     μ-loop
     start-requires
+    between-requires
     loop-holds
-    read-some-requires
+    step-requires
+    take-piece-requires
     turns-left-requires
     loop-less
     loop-again
     finish-requires
     same-length
     same-length-2
+    same-length-3
     returns)

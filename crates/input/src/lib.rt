@@ -1,0 +1,113 @@
+// Lines of standard input, one step at a time, in two buffers that the program lends: a chunk to read into, and one for a line. A program takes
+// a step and works on its line until the input has ended.
+use console::lines;
+use console::lines::Line;
+use console::lines::Partial;
+use libc::STDIN_FILENO;
+ghost use mathlib.Core.Bool.{false};
+ghost use mathlib.Core.Path.{_≡_};
+ghost use lib.ListN.{length};
+ghost use Rattle.input.specs.Input.{Pieced, Refilled, Stepped, TurnsLeft, fresh};
+
+// Where the input stands.
+pub struct Input {
+    // What is held of a line.
+    pub partial: Partial,
+    // Of the chunk, the bytes from index at up to index filled are left to take.
+    pub at: usize,
+    pub filled: usize,
+    // The last step found the end of the input.
+    pub ended: bool,
+}
+
+// What a step makes: no line yet, a line at the front of the buffer, or a bad one; and where the input stands then.
+pub struct Turn {
+    pub input: Input,
+    pub line: Line,
+}
+
+// Nothing is held and nothing is left to take.
+fn fresh(ended: bool) -> Input
+    ensures { λ r. ⌜ r ≡ fresh ended ⌝ }
+{
+    Input {
+        partial: lines::start(),
+        at: 0,
+        filled: 0,
+        ended,
+    }
+}
+
+pub fn start() -> Input
+    ensures { λ r. ⌜ r ≡ fresh false ⌝ }
+{
+    fresh(false)
+}
+
+// Takes the next piece of the chunk.
+fn next_piece(i: Input, chunk: &[u8], line: &mut [u8]) -> Turn
+    ensures { λ r. ⌜ Pieced i (now (chunk .entry)) (now (line .entry)) r (now (line .exit)) ⌝ }
+{
+    let partial = i.partial;
+    let piece = lines::take(lines::front(chunk, i.filled), i.at, line, partial);
+    let held = piece.partial;
+    let l = piece.line;
+    let input = Input {
+        partial: held,
+        at: piece.next,
+        filled: i.filled,
+        ended: false,
+    };
+    Turn { input, line: l }
+}
+
+// Reads once. No bytes are the end of the input, or a read that failed.
+fn refill(partial: Partial, chunk: &mut [u8]) -> Turn
+    ensures { λ r. ⌜ Refilled partial (length (now (chunk .entry))) r ⌝ }
+{
+    let got = libc::read(STDIN_FILENO, chunk);
+    let n = io::count(got, chunk);
+    if n == 0 {
+        let input = fresh(true);
+        return Turn {
+            input,
+            line: lines::last(partial),
+        };
+    }
+    let input = Input {
+        partial,
+        at: 0,
+        filled: n,
+        ended: false,
+    };
+    Turn {
+        input,
+        line: Line::More,
+    }
+}
+
+// Takes the next piece of the chunk where some of it is left, and reads once where none is. What is read is open: the contract says nothing of
+// the bytes, and of their number that the chunk has room for them and that none are the end.
+pub fn step(i: Input, chunk: &mut [u8], line: &mut [u8]) -> Turn
+    ensures { λ r. ⌜ Stepped i (now (chunk .entry)) (now (line .entry)) r (now (chunk .exit)) (now (line .exit)) ⌝ }
+{
+    if (i.at < i.filled) & (i.at < chunk.len()) {
+        return next_piece(i, chunk, line);
+    }
+    let partial = i.partial;
+    refill(partial, chunk)
+}
+
+// The turns that are left to a program's loop: none at the end of the input. A proved loop has to end, and nothing says that the input does, so
+// its turns are counted down, from a number that no run uses up.
+pub fn turns_left(turns: u64, i: Input) -> u64
+    ensures { λ r. ⌜ TurnsLeft turns i r ⌝ }
+{
+    if i.ended {
+        return 0;
+    }
+    if turns == 0 {
+        return 0;
+    }
+    turns - 1
+}
