@@ -4,6 +4,7 @@ use mathlib.Core.List.{List, [], _∷_}
 use mathlib.Core.Logic.{_⊎_, inl, inr}
 use mathlib.Core.Path.{_≡_, refl, sym, ap, ap₂, _∙_}
 use Prim.Native.Nat.{ℕ}
+use borrow.Author.Tests.{not-true}
 use Rattle.label.specs.Answer.{Answer, granted, require}
 use Rattle.label.specs.declared.Label.{Label}
 use Rattle.range.specs.Tuple
@@ -106,10 +107,6 @@ pub record Granted (r : Request) (n : ℕ) : Type 0 where
   pub relabel : (asks (r .intents) intentSet && not (r .credentials .privileges .relabel)) ≡ false
   pub answer : n ≡ grantBy table r
 
-not-false : (b : Bool) → not b ≡ true → b ≡ false
-not-false true e = absurd (true≢false (sym e))
-not-false false e = refl
-
 pub granted-parts : (r : Request) (n : ℕ) → decide r ≡ granted n → Granted r n
 unfolding decideBy
 granted-parts r n e =
@@ -119,7 +116,7 @@ granted-parts r n e =
     let a = grant-passed (validOf r) 22 n (require (not d) 13 third) (sym e) in
     let b = grant-passed (not d) 13 n third (a .1) in
     let c = grant-passed (not s) 1 n (granted (grantBy table r)) (b .1) in
-    record { valid = a .0; allowed = not-false d (b .0); relabel = not-false s (c .0); answer = grants-same n (grantBy table r) (c .1) }
+    record { valid = a .0; allowed = not-true d (b .0); relabel = not-true s (c .0); answer = grants-same n (grantBy table r) (c .1) }
 
 pub parts-granted : (r : Request) (n : ℕ) → Granted r n → decide r ≡ granted n
 unfolding decideBy

@@ -78,18 +78,21 @@ neither true true p = refl
 neither true false p = refl
 neither false m p = refl
 
-pub unmet-needed : (r : Request) → any (unmet r) table ≡ (neededOf r .read || neededOf r .write)
+unmet-needed : (r : Request) → any (unmet r) table ≡ (neededOf r .read || neededOf r .write)
 unfolding neededOf
 unmet-needed r = table-by-access r (λ a. not (metOf (r .credentials .label) (r .object) a))
 
-pub denied-needed : (r : Request) →
+denied-needed : (r : Request) →
     any (denied r) table
     ≡ (neededOf r .read && not (r .credentials .privileges .read) || neededOf r .write && not (r .credentials .privileges .write))
 unfolding neededOf
 denied-needed r =
     let met = metOf (r .credentials .label) (r .object) in
     let p = r .credentials .privileges in
-    table-by-access r (λ a. not (met a || overrideOf a p)) ∙ ap₂ _||_ (neither (observesOf (r .intents)) (met Observe) (p .read)) (neither (modifiesOf (r .intents) (r .object .class)) (met Modify) (p .write))
+    table-by-access r (λ a. not (met a || overrideOf a p))
+    ∙ ap₂ _||_
+    (neither (observesOf (r .intents)) (met Observe) (p .read))
+    (neither (modifiesOf (r .intents) (r .object .class)) (met Modify) (p .write))
 
 pub decide-needed : (r : Request) → decide r ≡ require (validOf r) 22 (answerBy (neededOf r) (r .credentials .privileges))
 unfolding decideBy grantBy answerBy neededOf

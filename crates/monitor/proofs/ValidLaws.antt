@@ -11,8 +11,6 @@ use Rattle.monitor.specs.declared.Credentials.{Credentials}
 use Rattle.monitor.specs.declared.Object.{Object}
 use Rattle.monitor.specs.declared.Request.{Request}
 
--- ---- what a valid request has
-
 pub record Valid (r : Request) : Type 0 where
   pub intents : intentsValid (r .intents) ≡ true
   pub credentials : credentialsValid (r .credentials) ≡ true

@@ -1,4 +1,5 @@
 // A request as it is put together: the numbers of its command line, then one operand line after the other.
+use console::command::MAX_NUMBERS;
 use label::Label;
 use label::answer::granted;
 use monitor::Credentials;
@@ -12,13 +13,16 @@ use range::Range;
 use range::tuple;
 use range::tuple::Tuple;
 
+// How many numbers a request has: privileges, class, kind, intents, attribute type.
+pub(crate) const NUMBERS: usize = 5;
+
 // How many operand lines a request has: the subject's label and range, the object's label and tuple.
 pub(crate) const OPERANDS: usize = 4;
 
 // What is known of a request, and whether all of it is good so far.
 pub(crate) struct Draft {
     pub good: bool,
-    pub numbers: [u64; 5],
+    pub numbers: [u64; MAX_NUMBERS],
     pub subject: Label,
     pub range: Range,
     pub present: Presence,
@@ -27,7 +31,7 @@ pub(crate) struct Draft {
 }
 
 // A request with its numbers and no operand yet: privileges, class and kind have to be some that there are.
-pub(crate) fn of_numbers(numbers: [u64; 5]) -> Draft {
+pub(crate) fn of_numbers(numbers: [u64; MAX_NUMBERS]) -> Draft {
     Draft {
         good: (numbers[0] <= 7) & (numbers[1] <= 5) & (numbers[2] <= 2),
         numbers,

@@ -1,8 +1,10 @@
 // The lines of the input as requests: a command line, then its operand lines, then one answer.
 use crate::request;
 use crate::request::Draft;
+use crate::request::NUMBERS;
 use crate::request::OPERANDS;
 use console::command;
+use console::command::MAX_NUMBERS;
 use console::lines;
 use console::lines::Line;
 use console::text;
@@ -19,7 +21,7 @@ pub(crate) struct Session {
 
 pub(crate) fn between() -> Session {
     Session {
-        draft: request::of_numbers([0; 5]),
+        draft: request::of_numbers([0; MAX_NUMBERS]),
         due: 0,
     }
 }
@@ -50,7 +52,7 @@ fn take_command(line: &[u8]) -> Session {
         return between();
     }
     let c = command::parse(line);
-    if !command::is_word(line, b"check") | !c.valid | (c.count != 5) {
+    if !command::is_word(line, b"check") | !c.valid | (c.count != NUMBERS) {
         return refuse();
     }
     let numbers = c.numbers;
