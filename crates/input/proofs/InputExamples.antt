@@ -7,7 +7,7 @@ use Rattle.console.specs.Bytes.{indexOf, lf}
 use Rattle.console.specs.Lines.{fitsOf, held, lastOf, pieceOf}
 use Rattle.console.specs.declared.lines.Line.{Line}
 use Rattle.console.specs.declared.lines.Line.the-variants.{More, Whole, Bad}
-use Rattle.input.specs.Input.{fresh, going, leftOf, ofPiece, readOf, someLeft}
+use Rattle.input.specs.Input.{emptyInput, inputOf, leftOf, ofPiece, readOf, someLeft}
 use Rattle.input.specs.declared.Input.{Input}
 use Rattle.input.specs.declared.Turn.{Turn}
 
@@ -18,26 +18,26 @@ chunk = 97 ∷ 98 ∷ lf ∷ 99 ∷ 7 ∷ 7 ∷ []
 abbrev turn : Input → Line → Turn
 turn i l = record { input = i; line = l }
 
-four-bytes : readOf (held 0) 4 ≡ turn (going (held 0) 0 4) More
+four-bytes : readOf (held 0) 4 ≡ turn (inputOf (held 0) 0 4) More
 unfolding readOf
 four-bytes = refl
 
 -- the line, in a buffer of 5 bytes
-whole-line : ofPiece 4 (pieceOf (leftOf (going (held 0) 0 4) chunk) 0 5 (held 0)) ≡ turn (going (held 0) 3 4) (Whole 3)
+whole-line : ofPiece 4 (pieceOf (leftOf (inputOf (held 0) 0 4) chunk) 0 5 (held 0)) ≡ turn (inputOf (held 0) 3 4) (Whole 3)
 unfolding leftOf pieceOf indexOf fitsOf
 whole-line = refl
 
 -- the byte that begins the next, and not the two that no read filled
-part-held : ofPiece 4 (pieceOf (leftOf (going (held 0) 3 4) chunk) 3 5 (held 0)) ≡ turn (going (held 1) 4 4) More
+part-held : ofPiece 4 (pieceOf (leftOf (inputOf (held 0) 3 4) chunk) 3 5 (held 0)) ≡ turn (inputOf (held 1) 4 4) More
 unfolding leftOf pieceOf indexOf fitsOf
 part-held = refl
 
 -- bytes are left at index 3, and at index 4 none are
-left : (someLeft (going (held 0) 3 4) 6 ≡ true) × (someLeft (going (held 1) 4 4) 6 ≡ false)
+left : (someLeft (inputOf (held 0) 3 4) 6 ≡ true) × (someLeft (inputOf (held 1) 4 4) 6 ≡ false)
 unfolding someLeft
 left = (refl, refl)
 
 -- the end, with a byte held and with none
-ends : (readOf (held 1) 0 ≡ turn (fresh true) Bad) × (readOf (held 0) 0 ≡ turn (fresh true) More)
+ends : (readOf (held 1) 0 ≡ turn (emptyInput true) Bad) × (readOf (held 0) 0 ≡ turn (emptyInput true) More)
 unfolding readOf lastOf
 ends = (refl, refl)

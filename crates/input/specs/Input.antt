@@ -13,12 +13,12 @@ use Rattle.input.specs.declared.Input.{Input}
 use Rattle.input.specs.declared.Turn.{Turn}
 
 -- nothing is held and nothing is left to take
-abbrev pub fresh : Bool → Input
-fresh ended = record { partial = held 0; at = 0; filled = 0; ended = ended }
+abbrev pub emptyInput : Bool → Input
+emptyInput ended = record { partial = held 0; at = 0; filled = 0; ended = ended }
 
 -- p is held, and the bytes of the chunk from index at up to index filled are left to take
-abbrev pub going : Partial → ℕ → ℕ → Input
-going p at filled = record { partial = p; at = at; filled = filled; ended = false }
+abbrev pub inputOf : Partial → ℕ → ℕ → Input
+inputOf p at filled = record { partial = p; at = at; filled = filled; ended = false }
 
 -- whether bytes of the chunk, which has size bytes, are left to take
 unfoldable pub someLeft : Input → ℕ → Bool
@@ -30,15 +30,15 @@ leftOf i chunk = drop (i .at) (take (i .filled) chunk)
 
 -- the step that a piece of the chunk makes
 abbrev pub ofPiece : ℕ → Piece → Turn
-ofPiece filled p = record { input = going (p .partial) (p .next) filled; line = p .line }
+ofPiece filled p = record { input = inputOf (p .partial) (p .next) filled; line = p .line }
 
 -- the step at the end of the input, where p is held of a line: a line with no LF is bad
 abbrev pub atEnd : Partial → Turn
-atEnd p = record { input = fresh true; line = lastOf p }
+atEnd p = record { input = emptyInput true; line = lastOf p }
 
 -- the step that fills the first n bytes of the chunk
 abbrev pub filledBy : Partial → ℕ → Turn
-filledBy p n = record { input = going p 0 n; line = More }
+filledBy p n = record { input = inputOf p 0 n; line = More }
 
 -- the step that a read of n bytes makes: none are the end
 unfoldable pub readOf : Partial → ℕ → Turn

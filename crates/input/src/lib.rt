@@ -7,7 +7,7 @@ use libc::STDIN_FILENO;
 ghost use mathlib.Core.Bool.{false};
 ghost use mathlib.Core.Path.{_≡_};
 ghost use lib.ListN.{length};
-ghost use Rattle.input.specs.Input.{Pieced, Refilled, Stepped, TurnsLeft, fresh};
+ghost use Rattle.input.specs.Input.{Pieced, Refilled, Stepped, TurnsLeft, emptyInput};
 
 // Where the input stands.
 pub struct Input {
@@ -27,8 +27,8 @@ pub struct Turn {
 }
 
 // Nothing is held and nothing is left to take.
-fn fresh(ended: bool) -> Input
-    ensures { λ r. ⌜ r ≡ fresh ended ⌝ }
+fn empty_input(ended: bool) -> Input
+    ensures { λ r. ⌜ r ≡ emptyInput ended ⌝ }
 {
     Input {
         partial: lines::start(),
@@ -39,9 +39,9 @@ fn fresh(ended: bool) -> Input
 }
 
 pub fn start() -> Input
-    ensures { λ r. ⌜ r ≡ fresh false ⌝ }
+    ensures { λ r. ⌜ r ≡ emptyInput false ⌝ }
 {
-    fresh(false)
+    empty_input(false)
 }
 
 // Takes the next piece of the chunk.
@@ -68,7 +68,7 @@ fn refill(partial: Partial, chunk: &mut [u8]) -> Turn
     let got = libc::read(STDIN_FILENO, chunk);
     let n = io::count(got, chunk);
     if n == 0 {
-        let input = fresh(true);
+        let input = empty_input(true);
         return Turn {
             input,
             line: lines::last(partial),

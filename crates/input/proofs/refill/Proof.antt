@@ -10,8 +10,8 @@ read-requires c κs = search needs
 count-requires : tie.Need-count-requires
 count-requires c κs = search needs
 
-fresh-requires : tie.Need-fresh-requires
-fresh-requires c κs = search needs
+empty-input-requires : tie.Need-empty-input-requires
+empty-input-requires c κs = search needs
 
 last-requires : tie.Need-last-requires
 last-requires c κs = search needs
@@ -24,7 +24,7 @@ unfolding readOf
 returns c =
     let t = c .before .before in
     let n = t .before .count in
-    record { count = n .result; within = search needs; turn-is = rw (eq-eqb (n .result) 0 (t .if1 .taken), c .before .fresh .ensures, c .last .ensures) }
+    record { count = n .result; within = search needs; turn-is = rw (eq-eqb (n .result) 0 (t .if1 .taken), c .before .empty-input .ensures, c .last .ensures) }
 
 same-length-2 : tie.Need-same-length-2
 same-length-2 c = search needs
@@ -40,7 +40,7 @@ refill-spec =
     (tie.spec
     read-requires
     count-requires
-    fresh-requires
+    empty-input-requires
     last-requires
     same-length
     returns
