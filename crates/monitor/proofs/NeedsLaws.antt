@@ -1,12 +1,14 @@
 -- What is decided by the privileges that a request needs is what is decided by the table of intents. Assumes nothing.
-use mathlib.Core.Bool.{Bool, true, false, not, _&&_, _||_, and-true, and-false, or-assoc, or-false}
+use mathlib.Core.Bool.{Bool, true, false, cond, not, _&&_, _||_, and-true, and-false, or-assoc, or-false}
 use mathlib.Core.List.{List, [], _∷_}
+use mathlib.Core.Option.{none}
 use mathlib.Core.Path.{_≡_, refl, ap, ap₂, _∙_}
-use Rattle.label.specs.Answer.{require}
+use Rattle.label.specs.Answer.{granted, refused, require}
 use Rattle.monitor.specs.Monitor.{Row, any, applies, decide, decideBy, denied, grantBy, metOf, overrideOf, table, unmet, validOf}
 use Rattle.monitor.specs.Needs.{answerBy, modifiesOf, neededOf, observesOf}
 use Rattle.monitor.specs.declared.Access.{Access}
 use Rattle.monitor.specs.declared.Access.the-variants.{Observe, Modify}
+use Rattle.monitor.specs.declared.Privileges.{Privileges}
 use Rattle.monitor.specs.declared.Request.{Request}
 
 -- ---- rows by their access
@@ -97,3 +99,24 @@ denied-needed r =
 pub decide-needed : (r : Request) → decide r ≡ require (validOf r) 22 (answerBy (neededOf r) (r .credentials .privileges))
 unfolding decideBy grantBy answerBy neededOf
 decide-needed r = rw (denied-needed r, unmet-needed r)
+
+-- ---- what is answered to a valid request, case by case
+
+module _ (n p : Privileges) where
+  abbrev Denied : Bool
+  Denied = n .read && not (p .read) || n .write && not (p .write)
+
+  abbrev NoRelabel : Bool
+  NoRelabel = n .relabel && not (p .relabel)
+
+  pub answer-denied : Denied ≡ true → answerBy n p ≡ refused 13 none
+  unfolding answerBy
+  answer-denied d = rw d
+
+  pub answer-no-relabel : Denied ≡ false → NoRelabel ≡ true → answerBy n p ≡ refused 1 none
+  unfolding answerBy
+  answer-no-relabel d u = rw (d, u)
+
+  pub answer-granted : Denied ≡ false → NoRelabel ≡ false → answerBy n p ≡ granted (cond (n .read || n .write || n .relabel) 1 0)
+  unfolding answerBy
+  answer-granted d u = rw (d, u)

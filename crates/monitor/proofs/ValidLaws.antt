@@ -1,7 +1,9 @@
 -- What a valid request has. Assumes nothing.
 use mathlib.Core.Bool.{Bool, true, false, _&&_, true≢false}
 use mathlib.Core.Path.{_≡_, refl, sym, _∙_}
+use Rattle.label.specs.Answer.{Answer, granted, require}
 use Rattle.label.specs.Label
+use Rattle.label.specs.declared.Label.{Label}
 use Rattle.range.specs.Range
 use Rattle.range.specs.Tuple
 use Rattle.label.proofs.BoolLaws.{both, first-true, not-so, same-truth, second-true, three-true}
@@ -52,10 +54,22 @@ pub implies-first : (p q s : Bool) → implies p (q && s) ≡ true → implies p
 implies-first true q s e = first-true q s e
 implies-first false q s e = refl
 
+-- ---- the object's tuple, which is tested together with the subject's label
+
+-- what is tested of the two
+abbrev pub tested : Label → Object → Bool
+tested subject o = implies (o .present .tuple) (Tuple.validOf (o .tuple) && Label.validOf subject)
+
+-- where it is there, the answer of the test v and what it asked, k; where it is not, no
+pub tested-there : (there v k : Bool) (a : Answer Bool) → there ≡ true → a ≡ require v 22 (granted k)
+    → a ≡ require (implies there v) 22 (granted (there && k))
+tested-there there v k a e h = rw e h
+
+pub tested-absent : (there v k : Bool) → there ≡ false → granted false ≡ require (implies there v) 22 (granted (there && k))
+tested-absent there v k e = rw e
+
 -- a request whose tuple is there is invalid, if the tuple or the subject's label is
-pub tuple-refused : (r : Request) →
-    implies (r .object .present .tuple) (Tuple.validOf (r .object .tuple) && Label.validOf (r .credentials .label)) ≡ false
-    → validOf r ≡ false
+pub tuple-refused : (r : Request) → tested (r .credentials .label) (r .object) ≡ false → validOf r ≡ false
 tuple-refused r e =
     not-so (validOf r) (λ h.
     let v = valid-parts r h in

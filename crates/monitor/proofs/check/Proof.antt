@@ -1,21 +1,15 @@
 use borrow.Author.Needs.{needs}
-use mathlib.Core.Bool.{Bool, _&&_}
 use mathlib.Core.Path.{sym, ap, _∙_}
 use Rattle.label.specs.Answer.{granted, testOf}
 use Rattle.label.specs.Errno.{detailOf, numberOf}
 use Rattle.label.specs.Label
 use Rattle.label.proofs.AnswerLaws.{grant-passed, grants-same, refusal-stopped, stopped}
 use Rattle.range.specs.Tuple
-use Rattle.monitor.specs.Monitor.{implies, underTuple}
-use Rattle.monitor.specs.declared.Request.{Request}
-use Rattle.monitor.proofs.ValidLaws.{implies-first, tuple-refused}
+use Rattle.monitor.specs.Monitor.{underTuple}
+use Rattle.monitor.proofs.ValidLaws.{implies-first, tested, tuple-refused}
 use Rattle.monitor.proofs.NeedsLaws.{decide-needed}
 use Rattle.monitor.proofs.check.Statement.{statement}
 use Rattle.monitor.proofs.check.Tie as tie
-
--- what `contained` tests
-abbrev tested : Request → Bool
-tested r = implies (r .object .present .tuple) (Tuple.validOf (r .object .tuple) && Label.validOf (r .credentials .label))
 
 contained-requires : tie.Need-contained-requires
 contained-requires c κs = search needs
@@ -28,7 +22,7 @@ check-tested-requires c κs =
     let k = c .before .before .before in
     let r = k .before .args .r in
     let inside = underTuple (r .credentials .label) (r .object) in
-    let h = grant-passed (tested r) 22 (c .before .t .given .0 .0) (granted inside) (ap testOf (sym (c .before .t .given .1)) ∙ k .contained .ensures) in
+    let h = grant-passed (tested (r .credentials .label) (r .object)) 22 (c .before .t .given .0 .0) (granted inside) (ap testOf (sym (c .before .t .given .1)) ∙ k .contained .ensures) in
     (implies-first (r .object .present .tuple) _ _ (h .0), grants-same _ inside (h .1))
 
 enum-told : tie.Need-enum-told
@@ -42,7 +36,7 @@ returns-2 c =
     let k = c .before .before in
     let r = k .before .args .r in
     let e = c .enum-told .given .0 .0 in
-    let h = refusal-stopped (tested r) 22 (numberOf e) (detailOf e) (underTuple (r .credentials .label) (r .object)) (ap testOf (sym (c .enum-told .given .1)) ∙ k .contained .ensures) in
+    let h = refusal-stopped (tested (r .credentials .label) (r .object)) 22 (numberOf e) (detailOf e) (underTuple (r .credentials .label) (r .object)) (ap testOf (sym (c .enum-told .given .1)) ∙ k .contained .ensures) in
     sym (decide-needed r ∙ stopped _ 22 _ (tuple-refused r h))
 
 pub check-spec : {M : Type 1} → statement M
