@@ -7,7 +7,7 @@ use libc::STDIN_FILENO;
 ghost use mathlib.Core.Bool.{false};
 ghost use mathlib.Core.Path.{_≡_};
 ghost use lib.ListN.{length};
-ghost use Rattle.input.specs.Input.{Pieced, Refilled, Stepped, TurnsLeft, emptyInput};
+ghost use Rattle.input.specs.Input.{Pieced, Refilled, Stepped, TurnsLeft, emptyInput, readOf};
 
 // Where the input stands.
 pub struct Input {
@@ -61,12 +61,10 @@ fn next_piece(i: Input, chunk: &[u8], line: &mut [u8]) -> Turn
     Turn { input, line: l }
 }
 
-// Reads once. No bytes are the end of the input, or a read that failed.
-fn refill(partial: Partial, chunk: &mut [u8]) -> Turn
-    ensures { λ r. ⌜ Refilled partial (length (now (chunk .entry))) r ⌝ }
+// What a read of n bytes makes. No bytes are the end of the input, or a read that failed.
+fn after_read(partial: Partial, n: usize) -> Turn
+    ensures { λ r. ⌜ r ≡ readOf partial n ⌝ }
 {
-    let got = libc::read(STDIN_FILENO, chunk);
-    let n = io::count(got, chunk);
     if n == 0 {
         let input = empty_input(true);
         return Turn {
@@ -84,6 +82,14 @@ fn refill(partial: Partial, chunk: &mut [u8]) -> Turn
         input,
         line: Line::More,
     }
+}
+
+// Reads once. What the read answered can be named in no contract: these two lines are all that depends on it.
+fn refill(partial: Partial, chunk: &mut [u8]) -> Turn
+    ensures { λ r. ⌜ Refilled partial (length (now (chunk .entry))) r ⌝ }
+{
+    let got = libc::read(STDIN_FILENO, chunk);
+    after_read(partial, io::count(got, chunk))
 }
 
 // Takes the next piece of the chunk where some of it is left, and reads once where none is. What is read is open: the contract says nothing of

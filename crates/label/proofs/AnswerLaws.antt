@@ -22,7 +22,7 @@ answers-refusal e value z x h f = record { outcome = sym h; beside = rw h f }
 
 -- ---- what an answer tells of the check before it
 
--- the yes of a test that is one, u, and no where it is refused
+-- a call that tests t and tells the value: where a refusal is taken for a no, it says whether both hold
 pub value-of-test : (u u′ : Test) (t value : Bool) (n : ℕ) → u ≡ u′ → testOf u ≡ require t n (granted value)
     → valueOr false (testOf u′) ≡ (t && value)
 value-of-test u u′ t value n e h = ap (λ (v : Test). valueOr false (testOf v)) (sym e) ∙ ap (valueOr false) h ∙ by t

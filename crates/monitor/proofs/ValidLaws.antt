@@ -38,9 +38,22 @@ valid-parts r e =
       attribute = second-true (i && c && o && k) _ e;
     }
 
+-- a label inside a valid range is valid
 pub subject-valid : (c : Credentials) → credentialsValid c ≡ true → Label.validOf (c .label) ≡ true
 unfolding credentialsValid
-subject-valid c e = three-true (Range.validOf (c .range)) (Label.validOf (c .label)) _ e .1
+subject-valid c e =
+    let v = Range.validOf (c .range) in
+    contains-valid (c .range) (c .label) (first-true v _ e) (second-true v _ e)
+
+-- so that `range::contains`, which tests the label too, tests no more than the credentials
+pub credentials-tested : (c : Credentials) →
+    (Range.validOf (c .range) && Label.validOf (c .label) && Range.containsOf (c .range) (c .label)) ≡ credentialsValid c
+unfolding credentialsValid
+credentials-tested c =
+    let v = Range.validOf (c .range) in
+    let i = Range.containsOf (c .range) (c .label) in
+    same-truth _ _ (λ e. let t = three-true v (Label.validOf (c .label)) i e in both (t .0) (t .2)) (λ e.
+    both (both (first-true v i e) (subject-valid c e)) (second-true v i e))
 
 pub tuple-valid : (o : Object) → objectValid o ≡ true → tupleValid o ≡ true
 unfolding objectValid
@@ -60,7 +73,7 @@ implies-first false q s e = refl
 abbrev pub tested : Label → Object → Bool
 tested subject o = implies (o .present .tuple) (Tuple.validOf (o .tuple) && Label.validOf subject)
 
--- where it is there, the answer of the test v and what it asked, k; where it is not, no
+-- where the tuple is there, what a call answers that tests v and tells k; where it is not, no
 pub tested-there : (there v k : Bool) (a : Answer Bool) → there ≡ true → a ≡ require v 22 (granted k)
     → a ≡ require (implies there v) 22 (granted (there && k))
 tested-there there v k a e h = rw e h
@@ -74,24 +87,3 @@ tuple-refused r e =
     not-so (validOf r) (λ h.
     let v = valid-parts r h in
     true≢false (sym (implies-both (r .object .present .tuple) _ _ (tuple-valid (r .object) (v .object)) (subject-valid (r .credentials) (v .credentials))) ∙ e))
-
--- "a label inside a valid range": such a label is valid
-pub credentials-exact : (c : Credentials) → credentialsValid c ≡ (Range.validOf (c .range) && Range.containsOf (c .range) (c .label))
-unfolding credentialsValid
-credentials-exact c =
-    same-truth _ _ (λ e. both (three-true v l i e .0) (three-true v l i e .2)) (λ e.
-    let h = first-true v i e in
-    let k = second-true v i e in
-    both (both h (inside h k)) k)
-  where
-    v : Bool
-    v = Range.validOf (c .range)
-
-    l : Bool
-    l = Label.validOf (c .label)
-
-    i : Bool
-    i = Range.containsOf (c .range) (c .label)
-
-    inside : v ≡ true → i ≡ true → l ≡ true
-    inside h k = contains-valid (c .range) (c .label) h k

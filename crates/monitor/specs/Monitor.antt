@@ -58,7 +58,7 @@ intentsValid intents = ltb 0 intents && leb intents 63 && not (asks intents inte
 
 -- a label inside a valid range
 unfoldable pub credentialsValid : Credentials → Bool
-credentialsValid c = Range.validOf (c .range) && Label.validOf (c .label) && Range.containsOf (c .range) (c .label)
+credentialsValid c = Range.validOf (c .range) && Range.containsOf (c .range) (c .label)
 
 -- a label, a tuple or both
 abbrev pub labelOrTuple : Object → Bool

@@ -1,6 +1,6 @@
 use borrow.Author.Needs.{needs}
 use mathlib.Core.Bool.{false, _&&_}
-use mathlib.Core.Path.{_≡_}
+use mathlib.Core.Path.{_≡_, _∙_}
 use Rattle.label.specs.Answer.{granted, require, testOf, valueOr}
 use Rattle.label.specs.Label
 use Rattle.label.specs.declared.answer.Test.{Test}
@@ -8,16 +8,17 @@ use Rattle.label.proofs.AnswerLaws.{value-of-test}
 use Rattle.range.specs.Range
 use Rattle.monitor.specs.Monitor.{credentialsValid}
 use Rattle.monitor.specs.declared.Credentials.{Credentials}
+use Rattle.monitor.proofs.ValidLaws.{credentials-tested}
 use Rattle.monitor.proofs.credentials_valid.Statement.{statement}
 use Rattle.monitor.proofs.credentials_valid.Tie as tie
 
--- the yes of a test that was made, and no where it was refused
+-- a yes, and no where the call refuses
 made : (x : Credentials) (t t′ : Test) → t ≡ t′
     → testOf t ≡ require (Range.validOf (x .range) && Label.validOf (x .label)) 22 (granted (Range.containsOf (x .range) (x .label)))
     → valueOr false (testOf t′) ≡ credentialsValid x
-unfolding credentialsValid
 made x t t′ e h =
     value-of-test t t′ (Range.validOf (x .range) && Label.validOf (x .label)) (Range.containsOf (x .range) (x .label)) 22 e h
+    ∙ credentials-tested x
 
 contains-requires : tie.Need-contains-requires
 contains-requires c κs = search needs

@@ -1,0 +1,24 @@
+use borrow.Author.Needs.{needs}
+use borrow.Author.Tests.{eq-eqb, ne-eqb}
+use Rattle.input.specs.Input.{readOf}
+use Rattle.input.proofs.after_read.Statement.{statement}
+use Rattle.input.proofs.after_read.Tie as tie
+
+empty-input-requires : tie.Need-empty-input-requires
+empty-input-requires c κs = search needs
+
+last-requires : tie.Need-last-requires
+last-requires c κs = search needs
+
+returns : tie.Need-returns
+unfolding readOf
+returns c =
+    let t = c .before .before in
+    rw (eq-eqb (t .before .args .n) 0 (t .if1 .taken), c .before .empty-input .ensures, c .last .ensures)
+
+returns-2 : tie.Need-returns-2
+unfolding readOf
+returns-2 c = rw (ne-eqb (c .before .args .n) 0 (c .if1 .left))
+
+pub after-read-spec : {M : Type 1} → statement M
+after-read-spec = tie.close (tie.spec empty-input-requires last-requires returns returns-2)
