@@ -4,10 +4,10 @@ use mathlib.Core.List.{List, [], _∷_}
 use mathlib.Core.Option.{none, some}
 use mathlib.Core.Path.{_≡_, refl}
 use Prim.Native.Nat.{ℕ, _+_, _^_}
-use Rattle.label.specs.Index.{every, tabulate}
+use Rattle.label.specs.Index.{every, firstFrom, tabulate}
 use Rattle.label.specs.Label.{dominatesOf, equalOf, labelOf, lowerBoundOf, upperBoundOf, validOf}
 use Rattle.label.specs.Region.{regionOf}
-use Rattle.label.specs.Words.{bit, combine, firstFrom, has, includesOf, intersectionOf, membersBelow, membersOf, nextOf, sameOf, unionOf}
+use Rattle.label.specs.Words.{bit, combine, has, includesOf, intersectionOf, membersBelow, membersOf, nextOf, sameOf, unionOf}
 use Rattle.label.specs.declared.Label.{Label}
 
 -- the word of a set of categories below 64, each given once

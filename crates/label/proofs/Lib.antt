@@ -1,5 +1,6 @@
 pub mod BoolLaws
 pub mod IndexLaws
+pub mod SearchLaws
 pub mod BitLaws
 pub mod WordLaws
 pub mod ListingLaws

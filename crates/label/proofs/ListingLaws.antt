@@ -14,9 +14,11 @@ use lib.Dec.{eqb}
 use lib.ListN.{length, getD, length-append, List·getD-append, List·getD-eq-default}
 use lib.Pow.{pow-pos, mod-pow-add, shr-shr, shr-le}
 use lib.Seq.{getD-at}
-use Rattle.label.specs.Words.{bit, firstFrom, firstOr, has, listedIf, membersBelow, membersOf, nextOf, wordAt}
+use Rattle.label.specs.Index.{firstFrom}
+use Rattle.label.specs.Words.{bit, has, listedIf, membersBelow, membersOf, nextOf, wordAt}
 use Rattle.label.proofs.BitLaws.{bit-high, bit-suc, bit-zero}
 use Rattle.label.proofs.IndexLaws.{le-or-lt}
+use Rattle.label.proofs.SearchLaws.{Least, first-least, first-none, hit, pass}
 use Rattle.label.proofs.WordLaws.{has-at}
 
 no-bit : (j : ℕ) → bit 0 j ≡ false
@@ -98,29 +100,7 @@ tz-hit (suc k) x p h = go (x % 2) refl (λ q. tz-hit k (x / 2) q (div-lt-iff-lt-
     go zero e ih = bit-suc x _ ∙ ih (omega arith)
     go (suc r) e ih = bit-zero x ∙ ap (λ (z : ℕ). eqb z 1) (is-one x r e)
 
--- ---- the search, over numbers that are passed and the one that is hit
-
-pass-one : (ws : List ℕ) (c n : ℕ) → has ws c ≡ false → firstFrom ws c (suc n) ≡ firstFrom ws (suc c) n
-unfolding firstFrom
-pass-one ws c n e = ap (λ (p : Bool). firstOr p c (firstFrom ws (suc c) n)) e
-
-pass : (ws : List ℕ) (c m n : ℕ) → ((j : ℕ) → j < m → has ws (c + j) ≡ false) → firstFrom ws c (m + n) ≡ firstFrom ws (c + m) n
-pass ws c zero n h = rw (zero-add, add-zero)
-pass ws c (suc m) n h =
-    ap (firstFrom ws c) (suc-add m n)
-    ∙ pass-one ws c (m + n) (ap (has ws) (sym (add-zero c)) ∙ h 0 (zero-lt-suc m))
-    ∙ pass ws (suc c) m n (λ j l. ap (has ws) (over c j) ∙ h (suc j) (suc-le-suc l))
-    ∙ ap (λ (k : ℕ). firstFrom ws k n) (over c m)
-  where
-    over : (a b : ℕ) → suc a + b ≡ a + suc b
-    over a b = omega arith
-
-hit : (ws : List ℕ) (c n t : ℕ) → t < n → ((j : ℕ) → j < t → has ws (c + j) ≡ false) → has ws (c + t) ≡ true → firstFrom ws c n ≡ some (c + t)
-unfolding firstFrom
-hit ws c n t l h e =
-    let f : n ≡ t + suc (n - suc t) = omega arith in
-    ap (firstFrom ws c) f ∙ pass ws c t (suc (n - suc t)) h
-    ∙ ap (λ (p : Bool). firstOr p (c + t) (firstFrom ws (suc (c + t)) (n - suc t))) e
+-- ---- the next category, word by word
 
 -- the bits from category c on, to the end of its word
 abbrev pub shifted : List ℕ → ℕ → ℕ
@@ -147,7 +127,7 @@ pub next-hit : (ws : List ℕ) (c : ℕ) → c < length ws * 64 → wordAt ws (c
 unfolding nextOf
 next-hit ws c l h p =
     let s : c % 64 + trailingZeros 64 (shifted ws c) < 64 = tz-inside (wordAt ws (c / 64)) (c % 64) h p in
-    sym (hit ws c (length ws * 64 - c) (trailingZeros 64 (shifted ws c)) (omega arith)
+    sym (hit (has ws) c (length ws * 64 - c) (trailingZeros 64 (shifted ws c)) (omega arith)
     (λ j k. has-shifted ws c j (omega arith) ∙ tz-low 64 (shifted ws c) j k)
     (has-shifted ws c _ s ∙ tz-hit 64 (shifted ws c) p (lt-of-le-of-lt (shr-le (wordAt ws (c / 64)) (c % 64)) h)))
 
@@ -156,64 +136,37 @@ unfolding nextOf
 next-pass ws c l e =
     let f : length ws * 64 - c ≡ (64 - c % 64) + (length ws * 64 - (c / 64 + 1) * 64) = omega arith in
     let g : c + (64 - c % 64) ≡ (c / 64 + 1) * 64 = omega arith in
-    ap (firstFrom ws c) f
-    ∙ pass ws c (64 - c % 64) _ (λ j k. has-shifted ws c j (omega arith) ∙ ap (λ (x : ℕ). bit x j) e ∙ no-bit j)
-    ∙ ap (λ (k : ℕ). firstFrom ws k (length ws * 64 - (c / 64 + 1) * 64)) g
+    ap (firstFrom (has ws) c) f
+    ∙ pass (has ws) c (64 - c % 64) _ (λ j k. has-shifted ws c j (omega arith) ∙ ap (λ (x : ℕ). bit x j) e ∙ no-bit j)
+    ∙ ap (λ (k : ℕ). firstFrom (has ws) k (length ws * 64 - (c / 64 + 1) * 64)) g
 
 pub next-end : (ws : List ℕ) (c : ℕ) → length ws * 64 ≤ c → nextOf ws c ≡ none
 unfolding nextOf firstFrom
-next-end ws c h = let e : length ws * 64 - c ≡ 0 = omega arith in ap (firstFrom ws c) e
+next-end ws c h = let e : length ws * 64 - c ≡ 0 = omega arith in ap (firstFrom (has ws) c) e
 
 -- ---- the next category is the least at or above, and there is none exactly if the set has none there
 
-pub record Least (ws : List ℕ) (c k : ℕ) : Type 0 where
-  pub above : c ≤ k
-  pub there : has ws k ≡ true
-  pub none-before : (j : ℕ) → c ≤ j → j < k → has ws j ≡ false
-
-first-least : (ws : List ℕ) (c n k : ℕ) → firstFrom ws c n ≡ some k → Least ws c k
-unfolding firstFrom
-first-least ws c zero k e = let z : _≡_ {A = ℕ} 0 1 = cc in absurd (omega arith)
-first-least ws c (suc n) k e = go (has ws c) refl e (first-least ws (suc c) n k)
-  where
-    go : (p : Bool) → has ws c ≡ p → firstOr p c (firstFrom ws (suc c) n) ≡ some k → (firstFrom ws (suc c) n ≡ some k → Least ws (suc c) k) → Least ws c k
-    go true h f ih =
-        let q : c ≡ k = cc in
-        record { above = omega arith; there = ap (has ws) (sym q) ∙ h; none-before = λ j a b. absurd (omega arith) }
-    go false h f ih =
-        let r = ih f in
-        record { above = omega arith; there = r .there; none-before = λ j a b. ⊎-elim (λ u. ap (has ws) (sym u) ∙ h) (λ u. r .none-before j u b) (eq-or-lt-of-le a) }
-
-next-least : (ws : List ℕ) (c k : ℕ) → nextOf ws c ≡ some k → Least ws c k
+next-least : (ws : List ℕ) (c k : ℕ) → nextOf ws c ≡ some k → Least (has ws) c k
 unfolding nextOf
-next-least ws c k e = first-least ws c _ k e
-
-first-none : (ws : List ℕ) (c n : ℕ) → firstFrom ws c n ≡ none → (j : ℕ) → c ≤ j → j < c + n → has ws j ≡ false
-unfolding firstFrom
-first-none ws c zero e j a b = absurd (omega arith)
-first-none ws c (suc n) e j a b = go (has ws c) refl e (λ f u. first-none ws (suc c) n f j u (omega arith))
-  where
-    go : (p : Bool) → has ws c ≡ p → firstOr p c (firstFrom ws (suc c) n) ≡ none → (firstFrom ws (suc c) n ≡ none → suc c ≤ j → has ws j ≡ false) → has ws j ≡ false
-    go true h f ih = let z : _≡_ {A = ℕ} 0 1 = cc in absurd (omega arith)
-    go false h f ih = ⊎-elim (λ u. ap (has ws) (sym u) ∙ h) (ih f) (eq-or-lt-of-le a)
+next-least ws c k e = first-least (has ws) c _ k e .0
 
 pub next-none : (ws : List ℕ) (c : ℕ) → (nextOf ws c ≡ none) ↔ ((k : ℕ) → c ≤ k → has ws k ≡ false)
 unfolding nextOf
-next-none ws c = (λ e k a. ⊎-elim (has-beyond ws k) (λ l. first-none ws c _ e k a (omega arith)) (le-or-lt (length ws * 64) k), λ h. go h (nextOf ws c) refl)
+next-none ws c = (λ e k a. ⊎-elim (has-beyond ws k) (λ l. first-none (has ws) c _ e k a (omega arith)) (le-or-lt (length ws * 64) k), λ h. go h (nextOf ws c) refl)
   where
     go : ((k : ℕ) → c ≤ k → has ws k ≡ false) → (o : Option ℕ) → nextOf ws c ≡ o → nextOf ws c ≡ none
     go h none e = e
     go h (some k) e = let r = next-least ws c k e in absurd (true≢false (sym (r .there) ∙ h k (r .above)))
 
 -- the least is what the search answers
-pub next-exact : (ws : List ℕ) (c k : ℕ) → (nextOf ws c ≡ some k) ↔ Least ws c k
+pub next-exact : (ws : List ℕ) (c k : ℕ) → (nextOf ws c ≡ some k) ↔ Least (has ws) c k
 next-exact ws c k = (next-least ws c k, λ l. go l (nextOf ws c) refl)
   where
-    go : Least ws c k → (o : Option ℕ) → nextOf ws c ≡ o → nextOf ws c ≡ some k
+    go : Least (has ws) c k → (o : Option ℕ) → nextOf ws c ≡ o → nextOf ws c ≡ some k
     go l none e = absurd (true≢false (sym (l .there) ∙ next-none ws c .0 e k (l .above)))
     go l (some m) e = e ∙ ap some (only (next-least ws c m e))
       where
-        only : Least ws c m → m ≡ k
+        only : Least (has ws) c m → m ≡ k
         only r = ⊎-elim (λ u. ⊎-elim (λ v. v) (λ v. absurd (true≢false (sym (r .there) ∙ l .none-before m (r .above) v))) (eq-or-lt-of-le u))
             (λ u. absurd (true≢false (sym (l .there) ∙ r .none-before k (l .above) u))) (le-or-lt m k)
 

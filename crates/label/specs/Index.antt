@@ -1,7 +1,8 @@
--- Lists and tests by the index, for what goes word by word or region by region. Assumes nothing.
-use mathlib.Core.Bool.{Bool, true, _&&_}
+-- Lists, tests, searches and sums by the index, for what goes word by word, region by region or slot by slot. Assumes nothing.
+use mathlib.Core.Bool.{Bool, true, false, not, _&&_}
 use mathlib.Core.List.{List, [], _∷_, _++_}
-use Prim.Native.Nat.{ℕ, zero, suc}
+use mathlib.Core.Option.{Option, none, some}
+use Prim.Native.Nat.{ℕ, zero, suc, _+_}
 
 -- the list f 0, f 1, .. of n elements
 unfoldable pub tabulate : {A : Type 0} → (ℕ → A) → ℕ → List A
@@ -12,3 +13,21 @@ tabulate f (suc n) = tabulate f n ++ (f n ∷ [])
 unfoldable pub every : (ℕ → Bool) → ℕ → Bool
 every f zero = true
 every f (suc n) = every f n && f n
+
+-- whether f holds at some number below n
+abbrev pub any : (ℕ → Bool) → ℕ → Bool
+any f n = not (every (λ i. not (f i)) n)
+
+abbrev pub firstOr : Bool → ℕ → Option ℕ → Option ℕ
+firstOr true k rest = some k
+firstOr false k rest = rest
+
+-- the first among the n numbers from k on at which f holds
+unfoldable pub firstFrom : (ℕ → Bool) → ℕ → ℕ → Option ℕ
+firstFrom f k zero = none
+firstFrom f k (suc n) = firstOr (f k) k (firstFrom f (suc k) n)
+
+-- f k + f (k + 1) + .. , n terms
+unfoldable pub sumFrom : (ℕ → ℕ) → ℕ → ℕ → ℕ
+sumFrom f k zero = 0
+sumFrom f k (suc n) = f k + sumFrom f (suc k) n

@@ -7,7 +7,7 @@ use Prim.Native.Nat.{ℕ, zero, suc, _*_, _-_, _/_, _%_, _^_, max}
 use lib.Bits.{bitAnd, bitOr}
 use lib.Dec.{eqb}
 use lib.ListN.{getD, length}
-use Rattle.label.specs.Index.{every, tabulate}
+use Rattle.label.specs.Index.{every, firstFrom, tabulate}
 use Rattle.label.specs.declared.words.Found.{Found}
 use Rattle.label.specs.declared.words.Found.the-variants.{At, Nothing}
 
@@ -65,18 +65,9 @@ membersBelow ws (suc c) = listedIf (has ws c) c (membersBelow ws c)
 unfoldable pub membersOf : List ℕ → List ℕ
 membersOf ws = membersBelow ws (length ws * 64)
 
-abbrev pub firstOr : Bool → ℕ → Option ℕ → Option ℕ
-firstOr true c rest = some c
-firstOr false c rest = rest
-
--- the first category among the n numbers from c on
-unfoldable pub firstFrom : List ℕ → ℕ → ℕ → Option ℕ
-firstFrom ws c zero = none
-firstFrom ws c (suc n) = firstOr (has ws c) c (firstFrom ws (suc c) n)
-
 -- the least category at or above c, if there is one
 unfoldable pub nextOf : List ℕ → ℕ → Option ℕ
-nextOf ws c = firstFrom ws c (length ws * 64 - c)
+nextOf ws c = firstFrom (has ws) c (length ws * 64 - c)
 
 -- what the enum Found says
 abbrev pub foundOf : Found → Option ℕ

@@ -1,0 +1,2 @@
+pub mod SlotsLaws
+pub mod SegmentsExamples

@@ -1,0 +1,55 @@
+-- What a call on the state answers, and the state that it leaves. Assumes nothing.
+use mathlib.Core.Path.{_≡_}
+use Rattle.label.specs.Answer as answers
+use Rattle.label.specs.Label
+use Rattle.label.specs.declared.Label.{Label}
+use Rattle.segments.specs.Segments.{segmentOf}
+use Rattle.segments.specs.declared.Answer.{Answer}
+use Rattle.segments.specs.declared.Outcome.{Outcome}
+use Rattle.segments.specs.declared.Reply.{Reply}
+use Rattle.segments.specs.declared.Reply.the-variants.{Done, Opened, Shown, Refused}
+use Rattle.segments.specs.declared.Segment.{Segment}
+use Rattle.segments.specs.declared.SegmentTable.{SegmentTable}
+use Rattle.segments.specs.declared.Slot.{Slot}
+
+-- what a grant answers: an open its slot, a look the three things shown, the others nothing more
+pub data Grant : Type 0 where
+  done : Grant
+  opened : Slot → Grant
+  shown : Segment → Grant
+
+-- what the enum Reply says, with the label beside it
+abbrev pub replyOf : Reply → Label → answers.Answer Grant
+replyOf Done l = answers.granted done
+replyOf (Opened p) l = answers.granted (opened p)
+replyOf (Shown x) l = answers.granted (shown (segmentOf l (x .pages) (x .version)))
+replyOf (Refused e) l = answers.refusedBy e
+
+abbrev pub shownLabel : Grant → Label
+shownLabel done = Label.zeroLabel
+shownLabel (opened p) = Label.zeroLabel
+shownLabel (shown x) = x .label
+
+-- the label beside an answer: the one that is shown, else zeros
+abbrev pub labelBeside : answers.Answer Grant → Label
+labelBeside (answers.granted g) = shownLabel g
+labelBeside (answers.refused n detail) = Label.zeroLabel
+
+-- a state and an answer
+pub record Step : Type 0 where
+  pub table : SegmentTable
+  pub answer : answers.Answer Grant
+
+-- a grant leaves the state that it makes; a refusal leaves the state as it was
+abbrev pub left : SegmentTable → SegmentTable → answers.Answer Grant → SegmentTable
+left s next (answers.granted g) = next
+left s next (answers.refused n detail) = s
+
+abbrev pub leaving : SegmentTable → SegmentTable → answers.Answer Grant → Step
+leaving s next a = record { table = left s next a; answer = a }
+
+-- the code's outcome is x, whole
+pub record Results (o : Outcome) (x : Step) : Type 0 where
+  pub table : o .table ≡ x .table
+  pub answer : replyOf (o .answer .reply) (o .answer .label) ≡ x .answer
+  pub label : o .answer .label ≡ labelBeside (x .answer)

@@ -1,0 +1,46 @@
+-- Document 01, "The board": when a state is sound. Assumes nothing.
+use mathlib.Core.Bool.{Bool, cond, not, _&&_}
+use Prim.Native.Nat.{ℕ}
+use lib.Dec.{eqb, leb, ltb}
+use Rattle.label.specs.Index.{any, every}
+use Rattle.label.specs.Label
+use Rattle.range.specs.Tuple
+use Rattle.segments.specs.Segments.{ceilingAt, clearanceAt, pagesValid, segmentAt, slot, slots, tenantAt, tenantId, tenants}
+use Rattle.segments.specs.Slots.{ceilingsOf, filled, owns, pagesOf}
+use Rattle.segments.specs.declared.Segment.{Segment}
+use Rattle.segments.specs.declared.SegmentTable.{SegmentTable}
+use Rattle.segments.specs.declared.Slot.{Slot}
+use Rattle.segments.specs.declared.Tenant.{Tenant}
+use Rattle.segments.specs.declared.TenantId.{TenantId}
+
+-- whether t is admitted: it has a ceiling of at least 1
+unfoldable pub admitted : SegmentTable → TenantId → Bool
+admitted s t = ltb (t .0) tenants && leb 1 (ceilingAt s t)
+
+-- an admitted tenant has a valid, non-empty clearance; one not admitted holds zeros, as an empty valid tuple does
+unfoldable pub tenantSound : Tenant → Bool
+tenantSound x = Tuple.validOf (x .clearance) && cond (leb 1 (x .ceiling)) (not (Tuple.emptyOf (x .clearance))) (Tuple.emptyOf (x .clearance))
+
+-- whether p is owned by t and holds a label in t's clearance
+unfoldable pub clearedBy : SegmentTable → Slot → TenantId → Bool
+clearedBy s p t = owns s t p && Tuple.containsOf (clearanceAt s t) (segmentAt s p .label)
+
+-- a segment of zeros, as an empty slot holds
+unfoldable pub zeros : Segment → Bool
+zeros x = Label.equalOf (x .label) Label.zeroLabel && eqb (x .pages) 0 && eqb (x .version) 0
+
+-- a filled slot holds a label in its owner's clearance; an empty one holds zeros
+unfoldable pub slotSound : SegmentTable → Slot → Bool
+slotSound s p = cond (filled s p) (any (λ t. clearedBy s p (tenantId t)) tenants) (zeros (segmentAt s p))
+
+-- t's pages are at most its ceiling
+unfoldable pub underCeiling : SegmentTable → TenantId → Bool
+underCeiling s t = leb (pagesOf s t) (ceilingAt s t)
+
+unfoldable pub sound : SegmentTable → Bool
+sound s =
+    pagesValid (s .pool)
+    && every (λ t. tenantSound (tenantAt s (tenantId t))) tenants
+    && every (λ p. slotSound s (slot p)) slots
+    && leb (ceilingsOf s) (s .pool)
+    && every (λ t. underCeiling s (tenantId t)) tenants

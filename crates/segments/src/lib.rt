@@ -1,0 +1,108 @@
+// The account of shared memory segments: who holds which slot, with how many pages, under which label.
+use label::Label;
+use label::errno::Errno;
+use range::tuple::Tuple;
+ghost use Rattle.segments.specs.Segments.{Lengths};
+
+// How many tenants, and how many slots, a machine has.
+pub const TENANTS: usize = 8;
+pub const SLOTS: usize = 64;
+
+// The greatest pool, and the most pages that a call may name.
+pub const MAX_PAGES: u64 = 1048576;
+
+// A tenant's number, and a slot's (document 01: place): two kinds, so that neither is taken for the other.
+pub struct TenantId(pub u64);
+
+pub struct Slot(pub u64);
+
+// A tenant's record: zeros where the tenant is not admitted.
+pub struct Tenant {
+    pub ceiling: u64,
+    pub clearance: Tuple,
+}
+
+// What a slot holds (version is document 01's edition): zeros where the slot is empty.
+pub struct Segment {
+    pub label: Label,
+    pub pages: u64,
+    pub version: u64,
+}
+
+// The state (document 01: the board).
+pub struct SegmentTable {
+    pub pool: u64,
+    pub tenants: [Tenant; TENANTS],
+    pub segments: [Segment; SLOTS],
+}
+
+// ---- the tenant calls, each with its numbers
+
+pub struct OpenCall {
+    pub pages: u64,
+}
+
+pub struct SizeCall {
+    pub slot: Slot,
+    pub pages: u64,
+}
+
+pub struct PostCall {
+    pub slot: Slot,
+    pub version: u64,
+}
+
+pub struct LookCall {
+    pub slot: Slot,
+}
+
+pub struct CloseCall {
+    pub slot: Slot,
+}
+
+pub enum Action {
+    Open(OpenCall),
+    Size(SizeCall),
+    Post(PostCall),
+    Look(LookCall),
+    Close(CloseCall),
+}
+
+// A tenant's call, with the label of its subject.
+pub struct Call {
+    pub tenant: TenantId,
+    pub label: Label,
+    pub action: Action,
+}
+
+// ---- what a call answers
+
+// The numbers that a look shows.
+pub struct Shown {
+    pub pages: u64,
+    pub version: u64,
+}
+
+pub enum Reply {
+    Done,
+    Opened(Slot),
+    Shown(Shown),
+    Refused(Errno),
+}
+
+// A reply, and the label that a look shows: zeros beside any other.
+pub struct Answer {
+    pub reply: Reply,
+    pub label: Label,
+}
+
+// The state that a call leaves, and its answer.
+pub struct Outcome {
+    pub table: SegmentTable,
+    pub answer: Answer,
+}
+
+// Every state has the lengths of its type.
+fn lengths(s: SegmentTable)
+    ensures { λ _. ⌜ Lengths s ⌝ }
+{}
