@@ -1,6 +1,6 @@
 -- The laws of `tabulate` and `every`, and what a loop over the index needs of them. Assumes nothing.
 use mathlib.Core.Bool.{Bool, true, false, true≢false}
-use mathlib.Core.List.{List, [], _∷_, _++_}
+use mathlib.Core.List.{List, [], _∷_, _++_, map}
 use mathlib.Core.Logic.{_⊎_, inl, inr, ⊎-elim}
 use mathlib.Core.Path.{_≡_, refl, sym, ap, _∙_}
 use Prim.Native.Nat.{ℕ, zero, suc, _+_, _≤_, _<_}
@@ -8,7 +8,7 @@ use native.Mathlib.Nat.{eq-or-lt-of-le, le-of-suc-le-suc}
 use native.Mathlib.Numerals.{add-one}
 use native.Mathlib.Omega.{arith}
 use lib.Dec.{leb}
-use lib.ListN.{length, getD, set, take, length-append, List·getD-append, List·getD-eq-default}
+use lib.ListN.{length, getD, set, take, length-append, length-map, List·getD-append, List·getD-eq-default}
 use lib.Seq.{getD-at, take-suc-set, take-all}
 use borrow.Author.Tests.{leb-true, leb-false}
 use Rattle.label.specs.Index.{every, tabulate}
@@ -20,6 +20,10 @@ le-or-lt m n = pick (leb m n) refl
     pick : (p : Bool) → leb m n ≡ p → (m ≤ n) ⊎ (n < m)
     pick true e = inl (leb-true m n e)
     pick false e = inr (leb-false m n e)
+
+-- a list is as long as what is made of each of its elements: for the length of an array of structs
+pub length-mapped : (X Y : Type 0) (f : X → Y) (l : List X) (n : ℕ) → length (map f l) ≡ n → length l ≡ n
+length-mapped X Y f l n e = sym (length-map l f) ∙ e
 
 -- ---- tabulate
 

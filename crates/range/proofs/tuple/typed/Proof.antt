@@ -1,11 +1,9 @@
 use borrow.Author.Needs.{needs}
-use mathlib.Core.List.{List, map}
-use mathlib.Core.Path.{_≡_, sym, _∙_}
 use Prim.Native.Nat.{ℕ, _≤_, _<_, _-_}
 use native.Mathlib.Omega.{arith}
-use lib.ListN.{length, length-map}
 use borrow.Author.Count.{below-more}
 use Rattle.label.specs.Region.{regions}
+use Rattle.label.proofs.IndexLaws.{length-mapped}
 use Rattle.range.specs.Range.{TypedRange}
 use Rattle.range.specs.Tuple.{rangeAt}
 use Rattle.range.proofs.tuple.typed.Statement.{statement}
@@ -16,9 +14,6 @@ Inv-loop t r₀ r = (r ≤ regions) × ((k : ℕ) → k < r → TypedRange (rang
 
 abbrev μ-loop : tie.MeasureT-loop
 μ-loop t r₀ r = regions - r
-
-length-mapped : (X Y : Type 0) (f : X → Y) (l : List X) (n : ℕ) → length (map f l) ≡ n → length l ≡ n
-length-mapped X Y f l n e = sym (length-map l f) ∙ e
 
 loop-holds : tie.Need-loop-holds Inv-loop μ-loop
 loop-holds c = (search needs, λ k l. absurd (omega arith))
