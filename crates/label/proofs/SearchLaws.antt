@@ -148,3 +148,8 @@ unfolding sumFrom
 sum-term f i k zero a b = absurd (omega (arith, add-zero k))
 sum-term f i k (suc n) a b =
     ⊎-elim (λ (q : k ≡ i). omega (arith, ap f q)) (λ (q : k ≡ i → ⊥). let r = sum-term f i (suc k) n (omega (arith, q)) (omega arith) in omega arith) (same-or-not k i)
+
+pub sum-zero : (f : ℕ → ℕ) (k n : ℕ) → ((j : ℕ) → k ≤ j → j < k + n → f j ≡ 0) → sumFrom f k n ≡ 0
+unfolding sumFrom
+sum-zero f k zero h = refl
+sum-zero f k (suc n) h = let a = h k (omega arith) (omega arith) in let b = sum-zero f (suc k) n (λ j a b. h j (omega arith) (omega arith)) in omega arith

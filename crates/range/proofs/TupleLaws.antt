@@ -225,15 +225,16 @@ within-exact t u s v =
 
 -- ---- empty exactly if there is no label
 
+pub empty-none : (t : Tuple) (l : Label) → emptyOf t ≡ true → containsOf t l ≡ true → ⊥
+unfolding emptyOf
+empty-none t l w h =
+    let n = every-at (λ r. not (rangeAt t r .present)) regions (regionOf (l .hierarchy)) w (region-within (l .hierarchy) .known) in
+    true≢false (sym n ∙ ap not (contained t l h .present))
+
 pub empty-exact : (t : Tuple) → TypedTuple t → validOf t ≡ true → (emptyOf t ≡ true) ↔ ((l : Label) → Typed l → Label.validOf l ≡ true → containsOf t l ≡ true → ⊥)
 unfolding emptyOf
-empty-exact t s v = (there, λ h. every-all (λ r. not (rangeAt t r .present)) regions (back h))
+empty-exact t s v = (λ w l tl vl. empty-none t l w, λ h. every-all (λ r. not (rangeAt t r .present)) regions (back h))
   where
-    there : emptyOf t ≡ true → (l : Label) → Typed l → Label.validOf l ≡ true → containsOf t l ≡ true → ⊥
-    there w l tl vl h =
-        let n = every-at (λ r. not (rangeAt t r .present)) regions (regionOf (l .hierarchy)) w (region-within (l .hierarchy) .known) in
-        true≢false (sym n ∙ ap not (contained t l h .present))
-
     back : ((l : Label) → Typed l → Label.validOf l ≡ true → containsOf t l ≡ true → ⊥) → (r : ℕ) → r < regions → not (rangeAt t r .present) ≡ true
     back h r k = ap not (not-so (rangeAt t r .present) (λ p.
         let x : Range = rangeAt t r .range in

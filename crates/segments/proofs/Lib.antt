@@ -1,2 +1,5 @@
+pub mod SegmentsLaws
 pub mod SlotsLaws
+pub mod CallsLaws
+pub mod SoundLaws
 pub mod SegmentsExamples

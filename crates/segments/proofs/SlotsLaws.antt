@@ -6,10 +6,11 @@ use native.Mathlib.Omega.{arith}
 use borrow.Author.Tests.{le-leb, leb-true, lt-ltb, ltb-true}
 use lib.Dec.{leb, ltb}
 use Rattle.label.proofs.BoolLaws.{both, three-true}
-use Rattle.segments.specs.Segments.{slot, slots, tenantId, tenants}
+use Rattle.segments.specs.Segments.{slot, slots, tenantId, tenants, withTenant}
 use Rattle.segments.specs.Slots.{firstSlot, owns, slotCount}
 use Rattle.segments.specs.declared.SegmentTable.{SegmentTable}
 use Rattle.segments.specs.declared.Slot.{Slot}
+use Rattle.segments.specs.declared.Tenant.{Tenant}
 use Rattle.segments.specs.declared.TenantId.{TenantId}
 
 -- slots and tenants with the same number are the same
@@ -64,6 +65,15 @@ pub count-kept : (s u : SegmentTable) (t : TenantId) → s .tenants ≡ u .tenan
 unfolding slotCount
 count-kept s u t e = refl
 
+-- and of these neither ceilings nor clearances: another record for a tenant leaves every slot to its owner
+pub first-stays : (s : SegmentTable) (t u : TenantId) (x : Tenant) → firstSlot (withTenant s t x) u ≡ firstSlot s u
+unfolding firstSlot
+first-stays s t u x = refl
+
+pub count-stays : (s : SegmentTable) (t u : TenantId) (x : Tenant) → slotCount (withTenant s t x) u ≡ slotCount s u
+unfolding slotCount
+count-stays s t u x = refl
+
 -- ---- what follows
 
 pub own-slot : (s : SegmentTable) (t : TenantId) (p : Slot) → owns s t p ≡ true → p .0 < slots
@@ -76,3 +86,7 @@ own-slot s t p e =
 pub owns-kept : (s u : SegmentTable) (t : TenantId) (p : Slot) → s .tenants ≡ u .tenants → owns s t p ≡ owns u t p
 unfolding owns
 owns-kept s u t p e = rw (first-kept s u t e, count-kept s u t e)
+
+pub owns-stays : (s : SegmentTable) (t u : TenantId) (x : Tenant) (p : Slot) → owns (withTenant s t x) u p ≡ owns s u p
+unfolding owns
+owns-stays s t u x p = rw (first-stays s t u x, count-stays s t u x)

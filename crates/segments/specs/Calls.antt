@@ -94,6 +94,14 @@ grantOf p x (Close y) = done
 
 -- ---- the calls
 
+-- the slot that a look names
+abbrev pub lookedAt : Action → Option Slot
+lookedAt (Open x) = none
+lookedAt (Size x) = none
+lookedAt (Post x) = none
+lookedAt (Look x) = some (x .slot)
+lookedAt (Close x) = none
+
 abbrev pub found : Option Slot → Bool
 found none = false
 found (some p) = true

@@ -1,0 +1,397 @@
+-- What a tenant call reads and what it changes: its caller's own slots, what no tenant call changes, and, for a look at another's slot,
+-- what is visible of that slot. Nothing above these laws opens `stepOf`. Assumes nothing.
+use mathlib.Core.Bool.{Bool, true, false, cond, not, _&&_, true≢false}
+use mathlib.Core.Logic.{_⊎_, inl, inr, ⊎-elim}
+use mathlib.Core.Option.{Option, none, some}
+use mathlib.Core.Path.{_≡_, refl, sym, ap, ap₂, _∙_}
+use Prim.Native.Nat.{ℕ, _+_, _-_, _<_, _≤_}
+use native.Mathlib.Omega.{arith}
+use borrow.Author.Tests.{leb-true, lt-ltb, ltb-true}
+use lib.Dec.{leb, ltb}
+use Rattle.label.specs.Answer.{Answer, granted, refused, require}
+use Rattle.label.specs.Index.{firstFrom, sumFrom}
+use Rattle.label.specs.Label
+use Rattle.label.specs.declared.Label.{Label}
+use Rattle.label.proofs.BoolLaws.{both, first-true, not-so, second-true, three-true}
+use Rattle.label.proofs.SearchLaws.{first-least, first-same, same-or-not, sum-same}
+use Rattle.range.specs.Tuple
+use Rattle.segments.specs.Calls.{accessOf, answerOf, callOf, callValid, cleared, found, grantOf, lookedAt, numbersValid, pagesFit, permitted, slotFor, slotOr0, stepOf, target, visible, writable, written}
+use Rattle.segments.specs.Replies.{Grant, left, shown}
+use Rattle.segments.specs.Segments.{Lengths, ceilingAt, pagesAt, segmentAt, slot, slots, tenants, withSegment}
+use Rattle.segments.specs.Slots.{asSlot, emptyAt, filled, firstSlot, lowestEmpty, owns, pagesOf, slotCount}
+use Rattle.segments.specs.Sound.{admitted, sound}
+use Rattle.segments.specs.declared.Action.{Action}
+use Rattle.segments.specs.declared.Action.the-variants.{Open, Size, Post, Look, Close}
+use Rattle.segments.specs.declared.Call.{Call}
+use Rattle.segments.specs.declared.Segment.{Segment}
+use Rattle.segments.specs.declared.SegmentTable.{SegmentTable}
+use Rattle.segments.specs.declared.Slot.{Slot}
+use Rattle.segments.specs.declared.Tenant.{Tenant}
+use Rattle.segments.specs.declared.TenantId.{TenantId}
+use Rattle.segments.proofs.SegmentsLaws.{lengths-kept, segment-kept, segment-same, segment-written, tenant-same}
+use Rattle.segments.proofs.SlotsLaws.{count-kept, first-kept, own-of, own-parts, own-slot, owns-kept, same-slot}
+
+-- ---- checks
+
+-- a check that two states pass alike, with what follows alike where it is passed
+pub require-same : {A : Type 0} (p q : Bool) (n : ℕ) (x y : Answer A) → p ≡ q → (p ≡ true → x ≡ y) → require p n x ≡ require q n y
+require-same true q n x y e h = rw (← e) (h refl)
+require-same false q n x y e h = rw (← e) refl
+
+-- a grant has passed the check before it
+pub passed-grant : {A : Type 0} (p : Bool) (n : ℕ) (x : Answer A) (g : A) → require p n x ≡ granted g → (p ≡ true) × (x ≡ granted g)
+passed-grant true n x g e = (refl, e)
+passed-grant false n x g e = let z : _≡_ {A = ℕ} 0 1 = cc in absurd (omega arith)
+
+-- ---- the slot that a call is about
+
+-- a slot that is found for an open is its tenant's own, and empty
+pub lowest-own : (s : SegmentTable) (t : TenantId) (p : Slot) → t .0 < tenants → lowestEmpty s t ≡ some p → (owns s t p ≡ true) × (emptyAt s (p .0) ≡ true)
+unfolding lowestEmpty
+lowest-own s t p h e = go (firstFrom (emptyAt s) (firstSlot s t) (slotCount s t)) refl e
+  where
+    go : (o : Option ℕ) → firstFrom (emptyAt s) (firstSlot s t) (slotCount s t) ≡ o → asSlot o ≡ some p → (owns s t p ≡ true) × (emptyAt s (p .0) ≡ true)
+    go none f e = let z : _≡_ {A = ℕ} 0 1 = cc in absurd (omega arith)
+    go (some k) f e =
+        let q : slot k ≡ p = cc in
+        let r = first-least (emptyAt s) (firstSlot s t) (slotCount s t) k f in
+        let a : owns s t (slot k) ≡ true = own-of s t (slot k) h (r .0 .above) (r .1) in
+        let b : emptyAt s k ≡ true = r .0 .there in
+        (ap (owns s t) (sym q) ∙ a, ap (λ (p : Slot). emptyAt s (p .0)) (sym q) ∙ b)
+
+pub writable-own : (s : SegmentTable) (t : TenantId) (l : Label) (p : Slot) → writable s t l p ≡ true → (owns s t p ≡ true) × (filled s p ≡ true)
+unfolding writable
+writable-own s t l p e =
+    let h = three-true (owns s t p) (filled s p) (Label.equalOf l (segmentAt s p .label)) e in
+    (h .0, h .1)
+
+-- a call that looks, if at all, at a slot of its caller's own
+abbrev pub Inward : SegmentTable → TenantId → Action → Type 0
+Inward s t a = (p : Slot) → lookedAt a ≡ some p → owns s t p ≡ true
+
+-- such a call is about a slot of its caller's own
+pub target-own : (s : SegmentTable) (t : TenantId) (l : Label) (a : Action) (p : Slot) → t .0 < tenants → Inward s t a
+    → permitted s t l a ≡ true → slotFor s t a ≡ some p → owns s t p ≡ true
+target-own s t l (Open x) p h m e f = lowest-own s t p h f .0
+target-own s t l (Size x) p h m e f = let q : x .slot ≡ p = cc in ap (owns s t) (sym q) ∙ writable-own s t l (x .slot) e .0
+target-own s t l (Post x) p h m e f = let q : x .slot ≡ p = cc in ap (owns s t) (sym q) ∙ writable-own s t l (x .slot) e .0
+target-own s t l (Look x) p h m e f = m p f
+target-own s t l (Close x) p h m e f = let q : x .slot ≡ p = cc in ap (owns s t) (sym q) ∙ writable-own s t l (x .slot) e .0
+
+-- a valid call's tenant is one
+pub valid-tenant : (s : SegmentTable) (t : TenantId) (l : Label) (a : Action) → callValid s (callOf t l a) ≡ true → t .0 < tenants
+unfolding callValid admitted
+valid-tenant s t l a e =
+    ltb-true (t .0) tenants (first-true _ (leb 1 (ceilingAt s t)) (three-true (ltb (t .0) tenants && leb 1 (ceilingAt s t)) (Label.validOf l) (numbersValid a) e .0))
+
+-- ---- two states that are alike for a tenant
+
+-- both sound, the same in what no tenant call changes, and the same in t's own slots
+pub record Alike (t : TenantId) (s u : SegmentTable) : Type 0 where
+  pub sounds : (sound s ≡ true) × (sound u ≡ true)
+  pub lengths : Lengths s × Lengths u
+  pub pool : s .pool ≡ u .pool
+  pub records : s .tenants ≡ u .tenants
+  pub own : (p : Slot) → owns s t p ≡ true → segmentAt s p ≡ segmentAt u p
+
+pub alike-itself : (t : TenantId) (s : SegmentTable) → sound s ≡ true → Lengths s → Alike t s s
+alike-itself t s h l = record { sounds = (h, h); lengths = (l, l); pool = refl; records = refl; own = λ p e. refl }
+
+pub alike-swap : (t : TenantId) (s u : SegmentTable) → Alike t s u → Alike t u s
+alike-swap t s u a =
+    record {
+      sounds = (a .sounds .1, a .sounds .0);
+      lengths = (a .lengths .1, a .lengths .0);
+      pool = sym (a .pool);
+      records = sym (a .records);
+      own = λ p e. sym (a .own p (owns-kept s u t p (a .records) ∙ e));
+    }
+
+pub alike-join : (t : TenantId) (s u v : SegmentTable) → Alike t s u → Alike t u v → Alike t s v
+alike-join t s u v a b =
+    record {
+      sounds = (a .sounds .0, b .sounds .1);
+      lengths = (a .lengths .0, b .lengths .1);
+      pool = a .pool ∙ b .pool;
+      records = a .records ∙ b .records;
+      own = λ p e. a .own p e ∙ b .own p (sym (owns-kept s u t p (a .records)) ∙ e);
+    }
+
+pub visible-same : (s u : SegmentTable) (l : Label) (p : Slot) → segmentAt s p ≡ segmentAt u p → visible s l p ≡ visible u l p
+unfolding visible filled
+visible-same s u l p e = ap (λ (x : Segment). leb 1 (x .pages) && Label.dominatesOf l (x .label)) e
+
+module _ (t : TenantId) (s u : SegmentTable) (k : Alike t s u) where
+  ceiling-same : ceilingAt s t ≡ ceilingAt u t
+  ceiling-same = ap (λ (x : Tenant). x .ceiling) (tenant-same s u t (k .records))
+
+  pages-same : t .0 < tenants → pagesOf s t ≡ pagesOf u t
+  unfolding pagesOf
+  pages-same h =
+      sum-same (λ p. pagesAt s (slot p)) (λ p. pagesAt u (slot p)) (firstSlot s t) (slotCount s t)
+      (λ j a b. ap (λ (x : Segment). x .pages) (k .own (slot j) (own-of s t (slot j) h a b)))
+      ∙ ap₂ (sumFrom (λ p. pagesAt u (slot p))) (first-kept s u t (k .records)) (count-kept s u t (k .records))
+
+  lowest-same : t .0 < tenants → lowestEmpty s t ≡ lowestEmpty u t
+  unfolding lowestEmpty filled
+  lowest-same h =
+      ap asSlot
+      (first-same (emptyAt s) (emptyAt u) (firstSlot s t) (slotCount s t)
+      (λ j a b. ap (λ (x : Segment). not (leb 1 (x .pages))) (k .own (slot j) (own-of s t (slot j) h a b)))
+      ∙ ap₂ (firstFrom (emptyAt u)) (first-kept s u t (k .records)) (count-kept s u t (k .records)))
+
+  writable-same : (l : Label) (p : Slot) → writable s t l p ≡ writable u t l p
+  unfolding writable filled
+  writable-same l p = go (owns s t p) refl
+    where
+      go : (b : Bool) → owns s t p ≡ b
+          → ((owns s t p && leb 1 (pagesAt s p)) && Label.equalOf l (segmentAt s p .label)) ≡ ((owns u t p && leb 1 (pagesAt u p)) && Label.equalOf l (segmentAt u p .label))
+      go true e =
+          ap₂ (λ (b : Bool) (x : Segment). (b && leb 1 (x .pages)) && Label.equalOf l (x .label)) (owns-kept s u t p (k .records)) (k .own p e)
+      go false e = rw (sym (owns-kept s u t p (k .records)) ∙ e, e)
+
+  permitted-same : (l : Label) (a : Action) → Inward s t a → permitted s t l a ≡ permitted u t l a
+  permitted-same l (Open x) m = refl
+  permitted-same l (Size x) m = writable-same l (x .slot)
+  permitted-same l (Post x) m = writable-same l (x .slot)
+  permitted-same l (Look x) m = visible-same s u l (x .slot) (k .own (x .slot) (m (x .slot) refl))
+  permitted-same l (Close x) m = writable-same l (x .slot)
+
+  slot-for-same : t .0 < tenants → (a : Action) → slotFor s t a ≡ slotFor u t a
+  slot-for-same h (Open x) = lowest-same h
+  slot-for-same h (Size x) = refl
+  slot-for-same h (Post x) = refl
+  slot-for-same h (Look x) = refl
+  slot-for-same h (Close x) = refl
+
+  fit-same : t .0 < tenants → (l : Label) (a : Action) → permitted s t l a ≡ true → pagesFit s t a ≡ pagesFit u t a
+  fit-same h l (Open x) e = rw (pages-same h, ceiling-same)
+  fit-same h l (Size x) e =
+      rw (pages-same h, ceiling-same)
+      (ap (λ (y : Segment). leb (pagesOf u t - y .pages + x .pages) (ceilingAt u t)) (k .own (x .slot) (writable-own s t l (x .slot) e .0)))
+  fit-same h l (Post x) e = refl
+  fit-same h l (Look x) e = refl
+  fit-same h l (Close x) e = refl
+
+  -- the slot is the same, and it holds the same
+  target-same : t .0 < tenants → (l : Label) (a : Action) → slotOr0 (slotFor s t a) ≡ slotOr0 (slotFor u t a)
+  target-same h l a = ap slotOr0 (slot-for-same h a)
+
+  found-same : t .0 < tenants → (l : Label) (a : Action) → Inward s t a → permitted s t l a ≡ true → found (slotFor s t a) ≡ true
+      → segmentAt s (slotOr0 (slotFor s t a)) ≡ segmentAt u (slotOr0 (slotFor u t a))
+  found-same h l a m e f = go (slotFor s t a) refl f ∙ ap (segmentAt u) (target-same h l a)
+    where
+      go : (o : Option Slot) → slotFor s t a ≡ o → found o ≡ true → segmentAt s (slotOr0 o) ≡ segmentAt u (slotOr0 o)
+      go none i f = absurd (true≢false (sym f))
+      go (some p) i f = k .own p (target-own s t l a p h m e i)
+
+  access-same : t .0 < tenants → (l : Label) (a : Action) → Inward s t a → accessOf s (callOf t l a) ≡ accessOf u (callOf t l a)
+  unfolding accessOf
+  access-same h l a m =
+      require-same _ _ 13 _ _ (permitted-same l a m)
+      (λ e. require-same _ _ 28 _ _ (ap found (slot-for-same h a))
+      (λ f. require-same _ _ 12 _ _ (fit-same h l a e)
+      (λ g. ap granted (ap₂ (λ (p : Slot) (x : Segment). grantOf p x a) (target-same h l a) (found-same h l a m e f)))))
+
+  valid-same : (l : Label) (a : Action) → callValid s (callOf t l a) ≡ callValid u (callOf t l a)
+  unfolding callValid admitted
+  valid-same l a =
+      ap (λ (x : Tenant). (ltb (t .0) tenants && leb 1 (x .ceiling)) && Label.validOf l && numbersValid a) (tenant-same s u t (k .records))
+
+  cleared-same : (l : Label) (a : Action) → cleared s (callOf t l a) ≡ cleared u (callOf t l a)
+  unfolding cleared
+  cleared-same l a = ap (λ (x : Tenant). Tuple.containsOf (x .clearance) l) (tenant-same s u t (k .records))
+
+  -- what a call answers depends on its caller's own slots and on what never changes
+  pub answer-same : (l : Label) (a : Action) → Inward s t a → answerOf s (callOf t l a) ≡ answerOf u (callOf t l a)
+  unfolding answerOf
+  answer-same l a m =
+      require-same _ _ 22 _ _ (k .sounds .0 ∙ sym (k .sounds .1))
+      (λ e. require-same _ _ 22 _ _ (valid-same l a)
+      (λ f. require-same _ _ 1 _ _ (cleared-same l a)
+      (λ g. access-same (valid-tenant s t l a f) l a m)))
+
+-- ---- what a call changes
+
+pub next-refused : (s : SegmentTable) (c : Call) (n : ℕ) (detail : Option ℕ) → answerOf s c ≡ refused n detail → stepOf s c .table ≡ s
+unfolding stepOf
+next-refused s c n detail e = rw e
+
+pub next-granted : (s : SegmentTable) (c : Call) (g : Grant) → answerOf s c ≡ granted g
+    → stepOf s c .table ≡ withSegment s (target s c) (written (segmentAt s (target s c)) (c .label) (c .action))
+unfolding stepOf
+next-granted s c g e = rw e
+
+-- what a granted call has passed
+pub record Passed (s : SegmentTable) (t : TenantId) (l : Label) (a : Action) : Type 0 where
+  pub is-sound : sound s ≡ true
+  pub is-valid : callValid s (callOf t l a) ≡ true
+  pub is-cleared : cleared s (callOf t l a) ≡ true
+  pub is-permitted : permitted s t l a ≡ true
+  pub slot : Slot
+  pub slot-is : slotFor s t a ≡ some slot
+  pub fits : pagesFit s t a ≡ true
+
+slot-found : (o : Option Slot) → found o ≡ true → o ≡ some (slotOr0 o)
+slot-found none e = absurd (true≢false (sym e))
+slot-found (some p) e = refl
+
+pub granted-passed : (s : SegmentTable) (t : TenantId) (l : Label) (a : Action) (g : Grant) → answerOf s (callOf t l a) ≡ granted g → Passed s t l a
+unfolding answerOf accessOf
+granted-passed s t l a g e =
+    let e1 = passed-grant (sound s) 22 _ g e in
+    let e2 = passed-grant (callValid s (callOf t l a)) 22 _ g (e1 .1) in
+    let e3 = passed-grant (cleared s (callOf t l a)) 1 _ g (e2 .1) in
+    let e4 = passed-grant (permitted s t l a) 13 _ g (e3 .1) in
+    let e5 = passed-grant (found (slotFor s t a)) 28 _ g (e4 .1) in
+    let e6 = passed-grant (pagesFit s t a) 12 _ g (e5 .1) in
+    record {
+      is-sound = e1 .0;
+      is-valid = e2 .0;
+      is-cleared = e3 .0;
+      is-permitted = e4 .0;
+      slot = slotOr0 (slotFor s t a);
+      slot-is = slot-found (slotFor s t a) (e5 .0);
+      fits = e6 .0;
+    }
+
+-- pool, clearances and ceilings stay, and so do the lengths
+pub pool-kept : (s : SegmentTable) (c : Call) → stepOf s c .table .pool ≡ s .pool
+unfolding stepOf
+pool-kept s c = go (answerOf s c)
+  where
+    go : (x : Answer Grant) → left s (withSegment s (target s c) (written (segmentAt s (target s c)) (c .label) (c .action))) x .pool ≡ s .pool
+    go (granted g) = refl
+    go (refused n detail) = refl
+
+pub records-kept : (s : SegmentTable) (c : Call) → stepOf s c .table .tenants ≡ s .tenants
+unfolding stepOf
+records-kept s c = go (answerOf s c)
+  where
+    go : (x : Answer Grant) → left s (withSegment s (target s c) (written (segmentAt s (target s c)) (c .label) (c .action))) x .tenants ≡ s .tenants
+    go (granted g) = refl
+    go (refused n detail) = refl
+
+pub next-lengths : (s : SegmentTable) (c : Call) → Lengths s → Lengths (stepOf s c .table)
+unfolding stepOf
+next-lengths s c h = go (answerOf s c)
+  where
+    go : (x : Answer Grant) → Lengths (left s (withSegment s (target s c) (written (segmentAt s (target s c)) (c .label) (c .action))) x)
+    go (granted g) = lengths-kept s (target s c) _ h
+    go (refused n detail) = h
+
+-- a look changes nothing
+pub look-next : (s : SegmentTable) (t : TenantId) (l : Label) (a : Action) (p : Slot) → lookedAt a ≡ some p → stepOf s (callOf t l a) .table ≡ s
+unfolding stepOf
+look-next s t l (Open x) p e = let z : _≡_ {A = ℕ} 0 1 = cc in absurd (omega arith)
+look-next s t l (Size x) p e = let z : _≡_ {A = ℕ} 0 1 = cc in absurd (omega arith)
+look-next s t l (Post x) p e = let z : _≡_ {A = ℕ} 0 1 = cc in absurd (omega arith)
+look-next s t l (Look x) p e = go (answerOf s (callOf t l (Look x)))
+  where
+    go : (y : Answer Grant) → left s (withSegment s (x .slot) (segmentAt s (x .slot))) y ≡ s
+    go (granted g) = segment-same s (x .slot)
+    go (refused n detail) = refl
+look-next s t l (Close x) p e = let z : _≡_ {A = ℕ} 0 1 = cc in absurd (omega arith)
+
+-- a call that doesn't look
+pub inward : (s : SegmentTable) (t : TenantId) (a : Action) → lookedAt a ≡ none → Inward s t a
+inward s t a e p f = let z : none ≡ some p = sym e ∙ f in let y : _≡_ {A = ℕ} 0 1 = cc in absurd (omega arith)
+
+-- a call leaves the slots of all others as they were
+pub untouched : (s : SegmentTable) (t : TenantId) (l : Label) (a : Action) (p : Slot) → owns s t p ≡ false → segmentAt (stepOf s (callOf t l a) .table) p ≡ segmentAt s p
+untouched s t l a p h = looks (lookedAt a) refl
+  where
+    other : Inward s t a → (x : Answer Grant) → answerOf s (callOf t l a) ≡ x → segmentAt (stepOf s (callOf t l a) .table) p ≡ segmentAt s p
+    other m (refused n detail) e = ap (λ (u : SegmentTable). segmentAt u p) (next-refused s (callOf t l a) n detail e)
+    other m (granted g) e =
+        let r = granted-passed s t l a g e in
+        let q = slotOr0 (slotFor s t a) in
+        let o : owns s t (r .slot) ≡ true = target-own s t l a (r .slot) (valid-tenant s t l a (r .is-valid)) m (r .is-permitted) (r .slot-is) in
+        let w : slotOr0 (slotFor s t a) ≡ r .slot = ap slotOr0 (r .slot-is) in
+        ap (λ (u : SegmentTable). segmentAt u p) (next-granted s (callOf t l a) g e)
+        ∙ segment-kept s q p _ (λ i. true≢false (sym (ap (owns s t) (same-slot p (r .slot) (i ∙ ap (λ (p : Slot). p .0) w)) ∙ o) ∙ h))
+    looks : (o : Option Slot) → lookedAt a ≡ o → segmentAt (stepOf s (callOf t l a) .table) p ≡ segmentAt s p
+    looks none e = other (inward s t a e) (answerOf s (callOf t l a)) refl
+    looks (some q) e = ap (λ (u : SegmentTable). segmentAt u p) (look-next s t l a q e)
+
+-- what a call makes of its caller's own slots depends on these and on what never changes
+module _ (t : TenantId) (s u : SegmentTable) (k : Alike t s u) where
+  -- the same segment put into the same slot
+  written-same : (q : Slot) (x : Segment) (p : Slot) → q .0 < slots → segmentAt s p ≡ segmentAt u p → segmentAt (withSegment s q x) p ≡ segmentAt (withSegment u q x) p
+  written-same q x p h e =
+      ⊎-elim
+      (λ (i : p .0 ≡ q .0).
+      rw (same-slot p q i) (segment-written s q x (k .lengths .0) h ∙ sym (segment-written u q x (k .lengths .1) h)))
+      (λ (i : p .0 ≡ q .0 → ⊥). segment-kept s q p x i ∙ e ∙ sym (segment-kept u q p x i))
+      (same-or-not (p .0) (q .0))
+
+  pub own-next : (l : Label) (a : Action) (p : Slot) → owns s t p ≡ true → segmentAt (stepOf s (callOf t l a) .table) p ≡ segmentAt (stepOf u (callOf t l a) .table) p
+  own-next l a p h = looks (lookedAt a) refl
+    where
+      next : (v : SegmentTable) (g : Grant) → answerOf v (callOf t l a) ≡ granted g
+          → segmentAt (stepOf v (callOf t l a) .table) p ≡ segmentAt (withSegment v (slotOr0 (slotFor v t a)) (written (segmentAt v (slotOr0 (slotFor v t a))) l a)) p
+      next v g e = ap (λ (w : SegmentTable). segmentAt w p) (next-granted v (callOf t l a) g e)
+      other : Inward s t a → (x : Answer Grant) → answerOf s (callOf t l a) ≡ x
+          → segmentAt (stepOf s (callOf t l a) .table) p ≡ segmentAt (stepOf u (callOf t l a) .table) p
+      other m (refused n detail) e =
+          rw (next-refused s (callOf t l a) n detail e, next-refused u (callOf t l a) n detail (sym (answer-same t s u k l a m) ∙ e)) (k .own p h)
+      other m (granted g) e =
+          let r = granted-passed s t l a g e in
+          let v = valid-tenant s t l a (r .is-valid) in
+          let i : slotOr0 (slotFor s t a) ≡ slotOr0 (slotFor u t a) = target-same t s u k v l a in
+          let w : slotOr0 (slotFor s t a) ≡ r .slot = ap slotOr0 (r .slot-is) in
+          let o : owns s t (slotOr0 (slotFor s t a)) ≡ true = ap (owns s t) w ∙ target-own s t l a (r .slot) v m (r .is-permitted) (r .slot-is) in
+          let f : segmentAt s (slotOr0 (slotFor s t a)) ≡ segmentAt u (slotOr0 (slotFor s t a)) = k .own _ o in
+          next s g e
+          ∙ written-same (slotOr0 (slotFor s t a)) (written (segmentAt s (slotOr0 (slotFor s t a))) l a) p (own-slot s t _ o) (k .own p h)
+          ∙ ap (λ (x : Segment). segmentAt (withSegment u (slotOr0 (slotFor s t a)) (written x l a)) p) f
+          ∙ ap (λ (q : Slot). segmentAt (withSegment u q (written (segmentAt u q) l a)) p) i
+          ∙ sym (next u g (sym (answer-same t s u k l a m) ∙ e))
+      looks : (o : Option Slot) → lookedAt a ≡ o → segmentAt (stepOf s (callOf t l a) .table) p ≡ segmentAt (stepOf u (callOf t l a) .table) p
+      looks none e = other (inward s t a e) (answerOf s (callOf t l a)) refl
+      looks (some q) e = rw (look-next s t l a q e, look-next u t l a q e) (k .own p h)
+
+-- ---- a look
+
+-- the checks before the slots are looked into end alike: refused with 22, refused with 1, or passed
+front : {A : Type 0} → Bool → Bool → Bool → Answer A → Answer A
+front p q r x = require p 22 (require q 22 (require r 1 x))
+
+pub data Checked (s u : SegmentTable) (c : Call) : Type 0 where
+  both-refused : (n : ℕ) → (n ≡ 22) ⊎ (n ≡ 1) → answerOf s c ≡ refused n none → answerOf u c ≡ refused n none → Checked s u c
+  both-passed : answerOf s c ≡ accessOf s c → answerOf u c ≡ accessOf u c → Checked s u c
+
+pub checked : (t : TenantId) (s u : SegmentTable) → Alike t s u → (l : Label) (a : Action) → Checked s u (callOf t l a)
+unfolding answerOf
+checked t s u k l a =
+    go (callValid u (callOf t l a)) (cleared u (callOf t l a)) refl refl
+  where
+    c : Call
+    c = callOf t l a
+    go : (q r : Bool) → callValid u (callOf t l a) ≡ q → cleared u (callOf t l a) ≡ r → Checked s u (callOf t l a)
+    go false r e f =
+        both-refused 22 (inl refl)
+        (rw (k .sounds .0, valid-same t s u k l a, e) refl)
+        (rw (k .sounds .1, e) refl)
+    go true false e f =
+        both-refused 1 (inr refl)
+        (rw (k .sounds .0, valid-same t s u k l a, e, cleared-same t s u k l a, f) refl)
+        (rw (k .sounds .1, e, f) refl)
+    go true true e f =
+        both-passed
+        (rw (k .sounds .0, valid-same t s u k l a, e, cleared-same t s u k l a, f) refl)
+        (rw (k .sounds .1, e, f) refl)
+
+-- what a look shows once it has passed: the slot, if it is visible
+pub look-access : (s : SegmentTable) (t : TenantId) (l : Label) (a : Action) (p : Slot) → lookedAt a ≡ some p
+    → accessOf s (callOf t l a) ≡ require (visible s l p) 13 (granted (shown (segmentAt s p)))
+unfolding accessOf
+look-access s t l (Open x) p e = let z : _≡_ {A = ℕ} 0 1 = cc in absurd (omega arith)
+look-access s t l (Size x) p e = let z : _≡_ {A = ℕ} 0 1 = cc in absurd (omega arith)
+look-access s t l (Post x) p e = let z : _≡_ {A = ℕ} 0 1 = cc in absurd (omega arith)
+look-access s t l (Look x) p e = let q : x .slot ≡ p = cc in ap (λ (p : Slot). require (visible s l p) 13 (granted (shown (segmentAt s p)))) q
+look-access s t l (Close x) p e = let z : _≡_ {A = ℕ} 0 1 = cc in absurd (omega arith)
+
+pub step-answer : (s : SegmentTable) (c : Call) → stepOf s c .answer ≡ answerOf s c
+unfolding stepOf
+step-answer s c = refl

@@ -1,0 +1,66 @@
+-- What a state holds after a segment or a tenant's record in it is replaced. Assumes nothing.
+use mathlib.Core.List.{List}
+use mathlib.Core.Path.{_≡_, refl, sym, ap, ap₂, _∙_}
+use Prim.Native.Nat.{ℕ, _<_}
+use native.Mathlib.Omega.{arith}
+use lib.ListN.{getD, length, length-set, set}
+use lib.Seq.{ext-getD, getD-set-other, getD-set-same}
+use mathlib.Core.Logic.{⊎-elim}
+use Rattle.label.proofs.SearchLaws.{same-or-not}
+use Rattle.segments.specs.Segments.{Lengths, segmentAt, segmentOf, slot, slots, tableOf, tenantAt, tenants, withSegment, withTenant}
+use Rattle.segments.specs.declared.Segment.{Segment}
+use Rattle.segments.specs.declared.SegmentTable.{SegmentTable}
+use Rattle.segments.specs.declared.Slot.{Slot}
+use Rattle.segments.specs.declared.Tenant.{Tenant}
+use Rattle.segments.specs.declared.TenantId.{TenantId}
+
+-- ---- lists
+
+-- an element put where it stands
+pub set-same : {A : Type 0} (xs : List A) (i : ℕ) (d : A) → set xs i (getD xs i d) ≡ xs
+set-same xs i d =
+    ext-getD d (set xs i (getD xs i d)) xs (length-set xs i (getD xs i d))
+    (λ j l.
+    let k = length-set xs i (getD xs i d) in
+    ⊎-elim
+    (λ (e : j ≡ i). ap (λ (n : ℕ). getD (set xs i (getD xs i d)) n d) e ∙ getD-set-same xs i (getD xs i d) d (omega arith) ∙ ap (λ (n : ℕ). getD xs n d) (sym e))
+    (λ (h : j ≡ i → ⊥). getD-set-other xs i j (getD xs i d) d h)
+    (same-or-not j i))
+
+-- ---- states
+
+module _ (s : SegmentTable) where
+  pub segment-written : (p : Slot) (x : Segment) → Lengths s → p .0 < slots → segmentAt (withSegment s p x) p ≡ x
+  segment-written p x l h = let k = l .segments-are in getD-set-same (s .segments) (p .0) x _ (omega arith)
+
+  pub segment-kept : (p q : Slot) (x : Segment) → (q .0 ≡ p .0 → ⊥) → segmentAt (withSegment s p x) q ≡ segmentAt s q
+  segment-kept p q x h = getD-set-other (s .segments) (p .0) (q .0) x _ h
+
+  pub segment-same : (p : Slot) → withSegment s p (segmentAt s p) ≡ s
+  segment-same p = ap (tableOf (s .pool) (s .tenants)) (set-same (s .segments) (p .0) _)
+
+  pub lengths-kept : (p : Slot) (x : Segment) → Lengths s → Lengths (withSegment s p x)
+  lengths-kept p x l = record { tenants-are = l .tenants-are; segments-are = length-set (s .segments) (p .0) x ∙ l .segments-are }
+
+  pub tenant-written : (t : TenantId) (x : Tenant) → Lengths s → t .0 < tenants → tenantAt (withTenant s t x) t ≡ x
+  tenant-written t x l h = let k = l .tenants-are in getD-set-same (s .tenants) (t .0) x _ (omega arith)
+
+  pub tenant-kept : (t u : TenantId) (x : Tenant) → (u .0 ≡ t .0 → ⊥) → tenantAt (withTenant s t x) u ≡ tenantAt s u
+  tenant-kept t u x h = getD-set-other (s .tenants) (t .0) (u .0) x _ h
+
+-- states with the same records have the same record for each tenant
+pub tenant-same : (s u : SegmentTable) (t : TenantId) → s .tenants ≡ u .tenants → tenantAt s t ≡ tenantAt u t
+tenant-same s u t e = ap (λ (ts : List Tenant). tenantAt (tableOf 0 ts (s .segments)) t) e
+
+-- segments with the same three things are the same
+pub same-segment : (x y : Segment) → x .label ≡ y .label → x .pages ≡ y .pages → x .version ≡ y .version → x ≡ y
+same-segment x y e f g =
+    ap (λ l. segmentOf l (x .pages) (x .version)) e ∙ ap₂ (segmentOf (y .label)) f g
+
+-- states with the same pool, the same records and the same segment in each slot are the same
+pub same-table : (s u : SegmentTable) → Lengths s → Lengths u → s .pool ≡ u .pool → s .tenants ≡ u .tenants
+    → ((p : Slot) → p .0 < slots → segmentAt s p ≡ segmentAt u p) → s ≡ u
+same-table s u l m e f h =
+    let a = l .segments-are in
+    let g : s .segments ≡ u .segments = ext-getD _ (s .segments) (u .segments) (l .segments-are ∙ sym (m .segments-are)) (λ i b. h (slot i) (omega arith)) in
+    ap (λ n. tableOf n (s .tenants) (s .segments)) e ∙ ap₂ (tableOf (u .pool)) f g

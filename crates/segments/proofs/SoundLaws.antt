@@ -1,0 +1,243 @@
+-- Soundness part by part, and that every call keeps it. Assumes nothing.
+use mathlib.Core.Bool.{Bool, true, false, cond, not, _&&_, true≢false}
+use mathlib.Core.Logic.{⊎-elim}
+use mathlib.Core.Option.{Option, none, some}
+use mathlib.Core.Path.{_≡_, refl, sym, ap, ap₂, _∙_}
+use Prim.Native.Nat.{ℕ, _+_, _-_, _<_, _≤_}
+use native.Mathlib.Omega.{arith}
+use borrow.Author.Tests.{le-leb, leb-false, leb-true, lt-leb}
+use lib.Dec.{eqb, leb}
+use Rattle.label.specs.Answer.{Answer, granted, refused}
+use Rattle.label.specs.Index.{any, every, sumFrom}
+use Rattle.label.specs.Label
+use Rattle.label.specs.declared.Label.{Label}
+use Rattle.label.proofs.BoolLaws.{both, first-true, second-true, three-true}
+use Rattle.label.proofs.IndexLaws.{every-all, every-at}
+use Rattle.label.proofs.LabelLaws.{equal-exact}
+use Rattle.label.proofs.SearchLaws.{any-of, any-then, same-or-not, sum-but, sum-same, sum-term}
+use Rattle.range.specs.Tuple
+use Rattle.segments.specs.Calls.{answerOf, callOf, callValid, cleared, lookedAt, numbersValid, pagesFit, permitted, slotFor, slotOr0, slotValid, stepOf, writable, written}
+use Rattle.segments.specs.Replies.{Grant}
+use Rattle.segments.specs.Segments.{Lengths, ceilingAt, clearanceAt, maxPages, pagesAt, pagesValid, segmentAt, segmentOf, slot, slots, tenantAt, tenantId, tenants, withSegment, zeroSegment}
+use Rattle.segments.specs.Slots.{ceilingsOf, emptyAt, filled, firstSlot, owns, pagesOf, slotCount}
+use Rattle.segments.specs.Sound.{admitted, clearedBy, slotSound, sound, tenantSound, underCeiling, zeros}
+use Rattle.segments.specs.declared.Action.{Action}
+use Rattle.segments.specs.declared.Action.the-variants.{Open, Size, Post, Look, Close}
+use Rattle.segments.specs.declared.Call.{Call}
+use Rattle.segments.specs.declared.Segment.{Segment}
+use Rattle.segments.specs.declared.SegmentTable.{SegmentTable}
+use Rattle.segments.specs.declared.Slot.{Slot}
+use Rattle.segments.specs.declared.TenantId.{TenantId}
+use Rattle.segments.proofs.CallsLaws.{Inward, Passed, granted-passed, inward, look-next, lowest-own, next-granted, next-refused, target-own, valid-tenant, writable-own}
+use Rattle.segments.proofs.SegmentsLaws.{segment-kept, segment-written}
+use Rattle.segments.proofs.SlotsLaws.{count-kept, first-kept, own-of, own-parts, own-slot, owner-unique, owns-kept, same-slot, same-tenant}
+
+-- ---- the parts
+
+pub record Sound (s : SegmentTable) : Type 0 where
+  pub pool : pagesValid (s .pool) ≡ true
+  pub tenant : (t : TenantId) → t .0 < tenants → tenantSound (tenantAt s t) ≡ true
+  pub segment : (p : Slot) → p .0 < slots → slotSound s p ≡ true
+  pub ceilings : ceilingsOf s ≤ s .pool
+  pub pages : (t : TenantId) → t .0 < tenants → pagesOf s t ≤ ceilingAt s t
+
+pub sound-parts : (s : SegmentTable) → sound s ≡ true → Sound s
+unfolding sound underCeiling
+sound-parts s e =
+    let a : Bool = pagesValid (s .pool) in
+    let b : Bool = every (λ t. tenantSound (tenantAt s (tenantId t))) tenants in
+    let c : Bool = every (λ p. slotSound s (slot p)) slots in
+    let d : Bool = leb (ceilingsOf s) (s .pool) in
+    let f : Bool = every (λ t. underCeiling s (tenantId t)) tenants in
+    let h = first-true (((a && b) && c) && d) f e in
+    let g = first-true ((a && b) && c) d h in
+    let i = three-true a b c g in
+    record {
+      pool = i .0;
+      tenant = λ t l. every-at (λ t. tenantSound (tenantAt s (tenantId t))) tenants (t .0) (i .1) l;
+      segment = λ p l. every-at (λ p. slotSound s (slot p)) slots (p .0) (i .2) l;
+      ceilings = leb-true _ _ (second-true ((a && b) && c) d h);
+      pages = λ t l. leb-true _ _ (every-at (λ t. underCeiling s (tenantId t)) tenants (t .0) (second-true (((a && b) && c) && d) f e) l);
+    }
+
+pub parts-sound : (s : SegmentTable) → Sound s → sound s ≡ true
+unfolding sound underCeiling
+parts-sound s h =
+    both (both (both (both (h .pool)
+    (every-all (λ t. tenantSound (tenantAt s (tenantId t))) tenants (λ t l. h .tenant (tenantId t) l)))
+    (every-all (λ p. slotSound s (slot p)) slots (λ p l. h .segment (slot p) l)))
+    (le-leb _ _ (h .ceilings)))
+    (every-all (λ t. underCeiling s (tenantId t)) tenants (λ t l. le-leb _ _ (h .pages (tenantId t) l)))
+
+-- ---- what a slot may hold
+
+-- whether slot p may hold x
+abbrev held : SegmentTable → Slot → Segment → Bool
+held s p x = cond (leb 1 (x .pages)) (any (λ t. owns s (tenantId t) p && Tuple.containsOf (clearanceAt s (tenantId t)) (x .label)) tenants) (zeros x)
+
+slot-held : (s : SegmentTable) (p : Slot) → slotSound s p ≡ held s p (segmentAt s p)
+unfolding slotSound filled clearedBy
+slot-held s p = refl
+
+held-filled : (s : SegmentTable) (p : Slot) (x : Segment) (u : TenantId) → 1 ≤ x .pages → u .0 < tenants → owns s u p ≡ true → Tuple.containsOf (clearanceAt s u) (x .label) ≡ true → held s p x ≡ true
+held-filled s p x u h l o e =
+    rw (le-leb 1 (x .pages) h)
+    (any-of (λ t. owns s (tenantId t) p && Tuple.containsOf (clearanceAt s (tenantId t)) (x .label)) tenants (u .0) l (both o e))
+
+-- where a filled slot may hold x, x's label is in its owner's clearance
+pub held-cleared : (s : SegmentTable) (p : Slot) (x : Segment) (t : TenantId) → 1 ≤ x .pages → owns s t p ≡ true → held s p x ≡ true → Tuple.containsOf (clearanceAt s t) (x .label) ≡ true
+held-cleared s p x t h o e =
+    any-then (λ u. owns s (tenantId u) p && Tuple.containsOf (clearanceAt s (tenantId u)) (x .label)) tenants
+    (sym (ap (λ (b : Bool). cond b (any (λ t. owns s (tenantId t) p && Tuple.containsOf (clearanceAt s (tenantId t)) (x .label)) tenants) (zeros x)) (le-leb 1 (x .pages) h)) ∙ e)
+    (λ i l f.
+    let a = first-true (owns s (tenantId i) p) (Tuple.containsOf (clearanceAt s (tenantId i)) (x .label)) f in
+    let b = second-true (owns s (tenantId i) p) (Tuple.containsOf (clearanceAt s (tenantId i)) (x .label)) f in
+    ap (λ (u : TenantId). Tuple.containsOf (clearanceAt s u) (x .label)) (owner-unique s t (tenantId i) p o a) ∙ b)
+
+zeros-held : (s : SegmentTable) (p : Slot) → held s p zeroSegment ≡ true
+unfolding zeros
+zeros-held s p = rw (equal-exact Label.zeroLabel Label.zeroLabel refl .1 refl)
+
+-- ---- a segment put into a slot of its tenant's own
+
+module _ (s : SegmentTable) (t : TenantId) (q : Slot) (x : Segment) (lengths : Lengths s) (own : owns s t q ≡ true) where
+  abbrev next : SegmentTable
+  next = withSegment s q x
+
+  held-same : (p : Slot) (y : Segment) → held next p y ≡ held s p y
+  held-same p y =
+      let e : _≡_ {A = ℕ → Bool} (λ u. owns next (tenantId u) p && Tuple.containsOf (clearanceAt s (tenantId u)) (y .label)) (λ u. owns s (tenantId u) p && Tuple.containsOf (clearanceAt s (tenantId u)) (y .label)) =
+      λ i u. owns-kept next s (tenantId u) p refl i && Tuple.containsOf (clearanceAt s (tenantId u)) (y .label) in
+      ap (λ (f : ℕ → Bool). cond (leb 1 (y .pages)) (any f tenants) (zeros y)) e
+
+  here : segmentAt next q ≡ x
+  here = segment-written s q x lengths (own-slot s t q own)
+
+  -- its tenant has the new pages in place of the old ones
+  pages-written : pagesOf next t + pagesAt s q ≡ pagesOf s t + x .pages
+  unfolding pagesOf
+  pages-written =
+      let o = own-parts s t q own in
+      let r = sum-but (λ p. pagesAt s (slot p)) (λ p. pagesAt next (slot p)) (q .0) (firstSlot s t) (slotCount s t)
+          (λ j h. ap (λ (y : Segment). y .pages) (segment-kept s q (slot j) x h)) (o .from) (o .to) in
+      rw (first-kept next s t refl, count-kept next s t refl) (r ∙ ap (λ (y : Segment). pagesOf s t + y .pages) here)
+
+  -- all others have what they had
+  pages-others : (u : TenantId) → u .0 < tenants → (u .0 ≡ t .0 → ⊥) → pagesOf next u ≡ pagesOf s u
+  unfolding pagesOf
+  pages-others u l h =
+      rw (first-kept next s u refl, count-kept next s u refl)
+      (sum-same (λ p. pagesAt next (slot p)) (λ p. pagesAt s (slot p)) (firstSlot s u) (slotCount s u)
+      (λ j a b. ap (λ (y : Segment). y .pages) (segment-kept s q (slot j) x
+      (λ i. h (ap (λ (v : TenantId). v .0) (owner-unique s u t q (ap (owns s u) (same-slot q (slot j) (sym i)) ∙ own-of s u (slot j) l a b) own))))))
+
+  written-sound : Sound s → held s q x ≡ true → pagesOf s t + x .pages ≤ ceilingAt s t + pagesAt s q → Sound next
+  unfolding ceilingsOf
+  written-sound h e f =
+      record {
+        pool = h .pool;
+        tenant = h .tenant;
+        segment = λ p l.
+            slot-held next p ∙ held-same p (segmentAt next p)
+            ∙ ⊎-elim
+            (λ (i : p .0 ≡ q .0). ap (λ (p : Slot). held s p (segmentAt next p)) (same-slot p q i) ∙ ap (held s q) here ∙ e)
+            (λ (i : p .0 ≡ q .0 → ⊥). ap (held s p) (segment-kept s q p x i) ∙ sym (slot-held s p) ∙ h .segment p l)
+            (same-or-not (p .0) (q .0));
+        ceilings = h .ceilings;
+        pages = λ u l.
+            ⊎-elim
+            (λ (i : u .0 ≡ t .0).
+            let j = same-tenant u t i in
+            let k = pages-written in
+            let g : pagesOf next t ≤ ceilingAt s t = omega arith in
+            rw j g)
+            (λ (i : u .0 ≡ t .0 → ⊥). rw (pages-others u l i) (h .pages u l))
+            (same-or-not (u .0) (t .0));
+      }
+
+-- ---- a tenant call
+
+valid-numbers : (s : SegmentTable) (t : TenantId) (l : Label) (a : Action) → callValid s (callOf t l a) ≡ true → numbersValid a ≡ true
+unfolding callValid
+valid-numbers s t l a e = three-true (admitted s t) (Label.validOf l) (numbersValid a) e .2
+
+cleared-label : (s : SegmentTable) (t : TenantId) (l : Label) (a : Action) → cleared s (callOf t l a) ≡ true → Tuple.containsOf (clearanceAt s t) l ≡ true
+unfolding cleared
+cleared-label s t l a e = e
+
+valid-pages : (n : ℕ) → pagesValid n ≡ true → 1 ≤ n
+valid-pages n e = leb-true 1 n (first-true (leb 1 n) (leb n maxPages) e)
+
+-- what a granted call writes may be held by its slot
+module _ (s : SegmentTable) (t : TenantId) (l : Label) (h : Sound s) where
+  filled-pages : (p : Slot) → filled s p ≡ true → 1 ≤ pagesAt s p
+  unfolding filled
+  filled-pages p e = leb-true 1 (pagesAt s p) e
+
+  empty-pages : (p : Slot) → emptyAt s (p .0) ≡ true → pagesAt s p ≡ 0
+  unfolding filled
+  empty-pages p e = none-left (pagesAt s p) e
+    where
+      none-left : (n : ℕ) → not (leb 1 n) ≡ true → n ≡ 0
+      none-left n e = ⊎-elim (λ (i : n ≡ 0). i) (λ (i : n ≡ 0 → ⊥). absurd (true≢false (sym e ∙ ap not (le-leb 1 n (omega (arith, i)))))) (same-or-not n 0)
+
+  -- a slot that is its caller's own and filled holds a label in its caller's clearance
+  own-cleared : (p : Slot) → writable s t l p ≡ true → Tuple.containsOf (clearanceAt s t) (segmentAt s p .label) ≡ true
+  own-cleared p e =
+      let w = writable-own s t l p e in
+      held-cleared s p (segmentAt s p) t (filled-pages p (w .1)) (w .0) (sym (slot-held s p) ∙ h .segment p (own-slot s t p (w .0)))
+
+  -- a segment of at least a page under a label of the caller's clearance
+  own-held : (p : Slot) (x : Segment) → owns s t p ≡ true → 1 ≤ x .pages → Tuple.containsOf (clearanceAt s t) (x .label) ≡ true → held s p x ≡ true
+  own-held p x o g e = held-filled s p x t g (own-parts s t p o .tenant) o e
+
+  written-held : (a : Action) (p : Slot) → Passed s t l a → lookedAt a ≡ none → slotFor s t a ≡ some p → held s p (written (segmentAt s p) l a) ≡ true
+  written-held (Open x) p r n f =
+      own-held p (segmentOf l (x .pages) 0) (lowest-own s t p (valid-tenant s t l (Open x) (r .is-valid)) f .0)
+      (valid-pages (x .pages) (valid-numbers s t l (Open x) (r .is-valid))) (cleared-label s t l (Open x) (r .is-cleared))
+  written-held (Size x) p r n f =
+      let q : x .slot ≡ p = cc in
+      let w : writable s t l p ≡ true = ap (writable s t l) (sym q) ∙ r .is-permitted in
+      own-held p (segmentOf (segmentAt s p .label) (x .pages) (segmentAt s p .version)) (writable-own s t l p w .0)
+      (valid-pages (x .pages) (second-true (slotValid (x .slot)) (pagesValid (x .pages)) (valid-numbers s t l (Size x) (r .is-valid)))) (own-cleared p w)
+  written-held (Post x) p r n f =
+      let q : x .slot ≡ p = cc in
+      let w : writable s t l p ≡ true = ap (writable s t l) (sym q) ∙ r .is-permitted in
+      own-held p (segmentOf (segmentAt s p .label) (segmentAt s p .pages) (x .version)) (writable-own s t l p w .0) (filled-pages p (writable-own s t l p w .1)) (own-cleared p w)
+  written-held (Look x) p r n f = let z : _≡_ {A = ℕ} 0 1 = cc in absurd (omega arith)
+  written-held (Close x) p r n f = zeros-held s p
+
+  -- and its caller's pages stay under the ceiling
+  own-pages : (p : Slot) → owns s t p ≡ true → pagesAt s p ≤ pagesOf s t
+  unfolding pagesOf
+  own-pages p o = let k = own-parts s t p o in sum-term (λ p. pagesAt s (slot p)) (p .0) (firstSlot s t) (slotCount s t) (k .from) (k .to)
+
+  written-fits : (a : Action) (p : Slot) → Passed s t l a → slotFor s t a ≡ some p → owns s t p ≡ true
+      → pagesOf s t + written (segmentAt s p) l a .pages ≤ ceilingAt s t + pagesAt s p
+  written-fits (Open x) p r f o = let e = leb-true (pagesOf s t + x .pages) (ceilingAt s t) (r .fits) in omega arith
+  written-fits (Size x) p r f o =
+      let q : x .slot ≡ p = cc in
+      let e = leb-true (pagesOf s t - pagesAt s (x .slot) + x .pages) (ceilingAt s t) (r .fits) in
+      let g : pagesAt s (x .slot) ≡ pagesAt s p = ap (pagesAt s) q in
+      let k = own-pages p o in
+      omega arith
+  written-fits (Post x) p r f o = let k = h .pages t (own-parts s t p o .tenant) in omega arith
+  written-fits (Look x) p r f o = let k = h .pages t (own-parts s t p o .tenant) in omega arith
+  written-fits (Close x) p r f o = let k = h .pages t (own-parts s t p o .tenant) in omega arith
+
+-- every tenant call keeps soundness
+pub call-sound : (s : SegmentTable) (t : TenantId) (l : Label) (a : Action) → Lengths s → sound s ≡ true → sound (stepOf s (callOf t l a) .table) ≡ true
+call-sound s t l a n h = looks (lookedAt a) refl
+  where
+    other : lookedAt a ≡ none → (x : Answer Grant) → answerOf s (callOf t l a) ≡ x → sound (stepOf s (callOf t l a) .table) ≡ true
+    other m (refused k detail) e = ap sound (next-refused s (callOf t l a) k detail e) ∙ h
+    other m (granted g) e =
+        let r = granted-passed s t l a g e in
+        let i : slotOr0 (slotFor s t a) ≡ r .slot = ap slotOr0 (r .slot-is) in
+        let o : owns s t (r .slot) ≡ true = target-own s t l a (r .slot) (valid-tenant s t l a (r .is-valid)) (inward s t a m) (r .is-permitted) (r .slot-is) in
+        let z = sound-parts s h in
+        ap sound (next-granted s (callOf t l a) g e ∙ ap (λ (p : Slot). withSegment s p (written (segmentAt s p) l a)) i)
+        ∙ parts-sound _ (written-sound s t (r .slot) (written (segmentAt s (r .slot)) l a) n o z (written-held s t l z a (r .slot) r m (r .slot-is)) (written-fits s t l z a (r .slot) r (r .slot-is) o))
+    looks : (o : Option Slot) → lookedAt a ≡ o → sound (stepOf s (callOf t l a) .table) ≡ true
+    looks none e = other e (answerOf s (callOf t l a)) refl
+    looks (some p) e = ap sound (look-next s t l a p e) ∙ h
