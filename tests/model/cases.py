@@ -46,7 +46,7 @@ class Program:
     good: tuple  # good requests, the shortest first
     numbered: object  # makes a good request with a command line of a given size
     with_first: object  # makes a request of a line for its first operand, which should be a label
-    with_last: object  # makes a request of a line for its last operand, with others before it
+    with_last: object  # makes a request of a line for its last operand, with others before it where there are any
     numbers: dict = field(default_factory=dict)  # by word, the numbers of a good request where zeros are not good
 
     def request(self, word, *operands, numbers=None):
@@ -84,6 +84,20 @@ def bad_operands(program):
                                program.request(word, *good[:at], line, *good[at + 1:]))
         if len(good) > 1:
             yield case(f"{word.decode()}, every operand bad", program.request(word, *(sum_changed(line, 1) for line in good)))
+
+
+def kinds_of_operands(count):
+    """All sequences of `count` kinds."""
+    if count == 0:
+        return [()]
+    return [kinds + (kind,) for kinds in kinds_of_operands(count - 1) for kind in SAMPLES]
+
+
+def every_kind(program):
+    for word, command in program.commands.items():
+        for kinds in kinds_of_operands(len(command.forms[0])):
+            names = " ".join(kind.__name__.lower() for kind in kinds)
+            yield case(f"{word.decode()} {names}".rstrip(), program.request(word, *samples(kinds)))
 
 
 # Command lines
@@ -138,6 +152,19 @@ BAD_NUMBERS = [
     b"%d" % (NUMBERS_END - 1) + b"0", b"99999999999999999999", b"%d" % (2 ** 128), b"%d" % (2 ** 128 + 20), b"9" * 400,
 ]
 SEPARATORS = [b"", b"\t", b"\0", b"\xa0", b"=", b":", b"\r", b"  "]  # what is not one blank
+
+
+def number_forms(word, numbers, operands):
+    """Each number of a good request in turn in every form. One with a bad form takes no operand."""
+    good = [b"%d" % number for number in numbers]
+    for at in range(len(good)):
+        before, after = [word, *good[:at]], good[at + 1:]
+        for digits in GOOD_NUMBERS:
+            yield b" ".join([*before, digits, *after]) + b"\n" + operands
+        for digits in BAD_NUMBERS:
+            yield b" ".join([*before, digits, *after]) + b"\n"
+        for separator in SEPARATORS:
+            yield b" ".join(before) + separator + b" ".join(good[at:]) + b"\n"
 
 
 # Lines

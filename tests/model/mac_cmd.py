@@ -29,4 +29,4 @@ COMMANDS = {
 answers = functools.partial(protocol.answers, COMMANDS)
 
 if __name__ == "__main__":
-    protocol.run(COMMANDS)
+    protocol.run(answers)

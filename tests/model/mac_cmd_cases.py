@@ -7,7 +7,7 @@ from mac_cmd import COMMANDS
 from protocol import NUMBERS_END
 from rules import (CATEGORIES, LONGEST_ABBREVIATION, LONGEST_NAME, OF_CATEGORY, OF_HIERARCHY, OF_LABEL, REGIONS,
                    Alias, Label, Range, Tuple, sealed, write)
-from samples import (ALIAS, ANY, BORDER_HIERARCHIES, BORDER_LABELS, BORDER_TUPLES, FULL_TUPLE, LABEL, RANGE, SAMPLES,
+from samples import (ALIAS, ANY, BORDER_HIERARCHIES, BORDER_LABELS, BORDER_TUPLES, FULL_TUPLE, LABEL, RANGE,
                      WORD_BORDERS, label, near, sum_changed, tuple_of, unchecked_line)
 
 RANDOM_REQUESTS = 600
@@ -207,20 +207,6 @@ def echoes():
         yield case(what, request(b"echo", line))
 
 
-def kinds_of_operands(count):
-    """All sequences of `count` kinds."""
-    if count == 0:
-        return [()]
-    return [kinds + (kind,) for kinds in kinds_of_operands(count - 1) for kind in SAMPLES]
-
-
-def every_kind():
-    for word, command in COMMANDS.items():
-        for kinds in kinds_of_operands(len(command.forms[0])):
-            names = " ".join(kind.__name__.lower() for kind in kinds)
-            yield case(f"{word.decode()} {names}".rstrip(), request(word, *cases.samples(kinds)))
-
-
 def misplaced_lines():
     good = write(LABEL)
     yield case("empty lines and comments between requests", b"\n\n#\n##\n#valid 20\n# valid 20\n\n", request(b"valid", numbers=[20]))
@@ -319,7 +305,7 @@ def random_requests(rng):
 SECTIONS = [
     ("Lines of each kind, good and faulty", echoes),
     ("Bad operands", lambda: cases.bad_operands(PROGRAM)),
-    ("Operands of every kind", every_kind),
+    ("Operands of every kind", lambda: cases.every_kind(PROGRAM)),
     ("Lines between requests and in the place of operands", misplaced_lines),
     ("Bad command lines", lambda: cases.bad_words(PROGRAM, range(4), UNKNOWN_WORDS)),
     ("Numbers", number_forms),

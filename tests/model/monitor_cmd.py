@@ -30,4 +30,4 @@ COMMANDS = {b"check": Command(5, FORMS, check)}
 answers = functools.partial(protocol.answers, COMMANDS)
 
 if __name__ == "__main__":
-    protocol.run(COMMANDS)
+    protocol.run(answers)

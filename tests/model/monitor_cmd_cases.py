@@ -6,7 +6,7 @@ import itertools
 
 import cases
 import mac_cmd
-from cases import BAD_NUMBERS, GOOD_NUMBERS, SEPARATORS, Program, case, command_line, filled, operand_line
+from cases import Program, case, command_line, filled, operand_line
 from monitor import (DIRECTORY, EXECUTE, FIFO, FILE, FILE_KINDS, GET_ATTRIBUTE, INTENTS, OF_LABEL, OF_TUPLE, OTHER,
                      PRIVILEGES, READ, READ_OVERRIDE, REGULAR, RELABEL, SEARCH, SET_ATTRIBUTE, TYPES, WRITE,
                      WRITE_OVERRIDE)
@@ -343,15 +343,9 @@ UNKNOWN_WORDS = [*(command_line(word, [0] * command.numbers)[:-1] for word, comm
 
 
 def number_forms():
-    good = [b"0", b"0", b"0", b"2", b"0"]
-    for at in range(len(good)):
-        for digits in GOOD_NUMBERS:
-            yield b" ".join([b"check", *good[:at], digits, *good[at + 1:]]) + b"\n" + OPERANDS
-        for digits in BAD_NUMBERS:
-            yield b" ".join([b"check", *good[:at], digits, *good[at + 1:]]) + b"\n"
-        for separator in SEPARATORS:
-            yield b" ".join([b"check", *good[:at]]) + separator + b" ".join(good[at:]) + b"\n"
-    yield b"check " + b" ".join(b"0" * 50 + digit for digit in good) + b"\n" + OPERANDS
+    numbers = PROGRAM.numbers[b"check"]
+    yield from cases.number_forms(b"check", numbers, OPERANDS)
+    yield b"check " + b" ".join(b"0" * 50 + b"%d" % number for number in numbers) + b"\n" + OPERANDS
 
 
 # All intents, types and kinds

@@ -62,6 +62,9 @@ def operands_of(lines, command):
 
 
 def printed(answer):
+    """What is printed of an answer; a list is an answer of several lines."""
+    if isinstance(answer, list):
+        return b"".join(map(printed, answer))
     if isinstance(answer, bool):
         answer = "yes" if answer else "no"
     elif answer is None:
@@ -90,6 +93,6 @@ def answers(commands, data):
     return b"".join(answer(commands, line, lines) for line in lines if not skipped(line))
 
 
-def run(commands):
-    """The program: from standard input to standard output."""
-    sys.stdout.buffer.write(answers(commands, sys.stdin.buffer.read()))
+def run(program):
+    """Runs a program, given from bytes to bytes, from standard input to standard output."""
+    sys.stdout.buffer.write(program(sys.stdin.buffer.read()))

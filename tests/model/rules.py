@@ -10,8 +10,11 @@ from dataclasses import dataclass
 
 NO_PRIVILEGE = 1
 BUFFER_SHORT = 7
+NO_PAGES = 12
 DENIED = 13
+IN_USE = 16
 INVALID = 22
+NO_PLACE = 28
 NO_COMMON_LABEL = 33
 
 
