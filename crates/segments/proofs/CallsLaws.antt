@@ -1,18 +1,18 @@
 -- What a tenant call reads and what it changes: its caller's own slots, what no tenant call changes, and, for a look at another's slot,
 -- what is visible of that slot. Nothing above these laws opens `stepOf`. Assumes nothing.
-use mathlib.Core.Bool.{Bool, true, false, cond, not, _&&_, true≢false}
+use mathlib.Core.Bool.{Bool, true, false, not, _&&_, true≢false}
 use mathlib.Core.Logic.{_⊎_, inl, inr, ⊎-elim}
 use mathlib.Core.Option.{Option, none, some}
 use mathlib.Core.Path.{_≡_, refl, sym, ap, ap₂, _∙_}
-use Prim.Native.Nat.{ℕ, _+_, _-_, _<_, _≤_}
+use Prim.Native.Nat.{ℕ, _+_, _-_, _<_}
 use native.Mathlib.Omega.{arith}
-use borrow.Author.Tests.{leb-true, lt-ltb, ltb-true}
+use borrow.Author.Tests.{ltb-true}
 use lib.Dec.{leb, ltb}
 use Rattle.label.specs.Answer.{Answer, granted, refused, require}
 use Rattle.label.specs.Index.{firstFrom, sumFrom}
 use Rattle.label.specs.Label
 use Rattle.label.specs.declared.Label.{Label}
-use Rattle.label.proofs.BoolLaws.{both, first-true, not-so, second-true, three-true}
+use Rattle.label.proofs.BoolLaws.{first-true, three-true}
 use Rattle.label.proofs.SearchLaws.{first-least, first-same, same-or-not, sum-same}
 use Rattle.range.specs.Tuple
 use Rattle.segments.specs.Calls.{accessOf, answerOf, callOf, callValid, cleared, found, grantOf, lookedAt, numbersValid, pagesFit, permitted, slotFor, slotOr0, stepOf, target, visible, writable, written}
@@ -29,7 +29,7 @@ use Rattle.segments.specs.declared.Slot.{Slot}
 use Rattle.segments.specs.declared.Tenant.{Tenant}
 use Rattle.segments.specs.declared.TenantId.{TenantId}
 use Rattle.segments.proofs.SegmentsLaws.{lengths-kept, segment-kept, segment-same, segment-written, tenant-same}
-use Rattle.segments.proofs.SlotsLaws.{count-kept, first-kept, own-of, own-parts, own-slot, owns-kept, same-slot}
+use Rattle.segments.proofs.SlotsLaws.{count-kept, first-kept, own-of, own-slot, owns-kept, same-slot}
 
 -- ---- checks
 
@@ -45,19 +45,17 @@ passed-grant false n x g e = let z : _≡_ {A = ℕ} 0 1 = cc in absurd (omega a
 
 -- ---- the slot that a call is about
 
--- a slot that is found for an open is its tenant's own, and empty
-pub lowest-own : (s : SegmentTable) (t : TenantId) (p : Slot) → t .0 < tenants → lowestEmpty s t ≡ some p → (owns s t p ≡ true) × (emptyAt s (p .0) ≡ true)
+-- a slot that is found for an open is its tenant's own
+pub lowest-own : (s : SegmentTable) (t : TenantId) (p : Slot) → t .0 < tenants → lowestEmpty s t ≡ some p → owns s t p ≡ true
 unfolding lowestEmpty
 lowest-own s t p h e = go (firstFrom (emptyAt s) (firstSlot s t) (slotCount s t)) refl e
   where
-    go : (o : Option ℕ) → firstFrom (emptyAt s) (firstSlot s t) (slotCount s t) ≡ o → asSlot o ≡ some p → (owns s t p ≡ true) × (emptyAt s (p .0) ≡ true)
+    go : (o : Option ℕ) → firstFrom (emptyAt s) (firstSlot s t) (slotCount s t) ≡ o → asSlot o ≡ some p → owns s t p ≡ true
     go none f e = let z : _≡_ {A = ℕ} 0 1 = cc in absurd (omega arith)
     go (some k) f e =
         let q : slot k ≡ p = cc in
         let r = first-least (emptyAt s) (firstSlot s t) (slotCount s t) k f in
-        let a : owns s t (slot k) ≡ true = own-of s t (slot k) h (r .0 .above) (r .1) in
-        let b : emptyAt s k ≡ true = r .0 .there in
-        (ap (owns s t) (sym q) ∙ a, ap (λ (p : Slot). emptyAt s (p .0)) (sym q) ∙ b)
+        ap (owns s t) (sym q) ∙ own-of s t (slot k) h (r .0 .above) (r .1)
 
 pub writable-own : (s : SegmentTable) (t : TenantId) (l : Label) (p : Slot) → writable s t l p ≡ true → (owns s t p ≡ true) × (filled s p ≡ true)
 unfolding writable
@@ -72,7 +70,7 @@ Inward s t a = (p : Slot) → lookedAt a ≡ some p → owns s t p ≡ true
 -- such a call is about a slot of its caller's own
 pub target-own : (s : SegmentTable) (t : TenantId) (l : Label) (a : Action) (p : Slot) → t .0 < tenants → Inward s t a
     → permitted s t l a ≡ true → slotFor s t a ≡ some p → owns s t p ≡ true
-target-own s t l (Open x) p h m e f = lowest-own s t p h f .0
+target-own s t l (Open x) p h m e f = lowest-own s t p h f
 target-own s t l (Size x) p h m e f = let q : x .slot ≡ p = cc in ap (owns s t) (sym q) ∙ writable-own s t l (x .slot) e .0
 target-own s t l (Post x) p h m e f = let q : x .slot ≡ p = cc in ap (owns s t) (sym q) ∙ writable-own s t l (x .slot) e .0
 target-own s t l (Look x) p h m e f = m p f
@@ -354,9 +352,6 @@ module _ (t : TenantId) (s u : SegmentTable) (k : Alike t s u) where
 -- ---- a look
 
 -- the checks before the slots are looked into end alike: refused with 22, refused with 1, or passed
-front : {A : Type 0} → Bool → Bool → Bool → Answer A → Answer A
-front p q r x = require p 22 (require q 22 (require r 1 x))
-
 pub data Checked (s u : SegmentTable) (c : Call) : Type 0 where
   both-refused : (n : ℕ) → (n ≡ 22) ⊎ (n ≡ 1) → answerOf s c ≡ refused n none → answerOf u c ≡ refused n none → Checked s u c
   both-passed : answerOf s c ≡ accessOf s c → answerOf u c ≡ accessOf u c → Checked s u c
@@ -366,8 +361,6 @@ unfolding answerOf
 checked t s u k l a =
     go (callValid u (callOf t l a)) (cleared u (callOf t l a)) refl refl
   where
-    c : Call
-    c = callOf t l a
     go : (q r : Bool) → callValid u (callOf t l a) ≡ q → cleared u (callOf t l a) ≡ r → Checked s u (callOf t l a)
     go false r e f =
         both-refused 22 (inl refl)

@@ -2,4 +2,5 @@ pub mod SegmentsLaws
 pub mod SlotsLaws
 pub mod CallsLaws
 pub mod SoundLaws
+pub mod OperatorLaws
 pub mod SegmentsExamples

@@ -1,7 +1,6 @@
 -- Document 01's example of the board, played call by call. Assumes nothing.
-use mathlib.Core.Bool.{Bool, true, false}
 use mathlib.Core.List.{List, [], _∷_}
-use mathlib.Core.Option.{Option, none, some}
+use mathlib.Core.Option.{none}
 use mathlib.Core.Path.{_≡_, refl}
 use Prim.Native.Nat.{ℕ}
 use Rattle.label.specs.Answer.{Answer, granted, refused}
@@ -15,13 +14,12 @@ use Rattle.range.specs.Tuple
 use Rattle.range.specs.declared.tuple.Tuple.{Tuple}
 use Rattle.segments.specs.Calls
 use Rattle.segments.specs.Operator
-use Rattle.segments.specs.Replies.{Grant, Step, done, opened, shown}
-use Rattle.segments.specs.Segments.{emptyTable, segmentOf, slot, tenantId}
+use Rattle.segments.specs.Replies.{Grant, Step, done, opened}
+use Rattle.segments.specs.Segments.{emptyTable, slot, tenantId}
 use Rattle.segments.specs.Slots
 use Rattle.segments.specs.Sound
 use Rattle.segments.specs.declared.Action.{Action}
 use Rattle.segments.specs.declared.Action.the-variants.{Open, Size, Post, Look, Close}
-use Rattle.segments.specs.declared.Call.{Call}
 use Rattle.segments.specs.declared.SegmentTable.{SegmentTable}
 
 -- an operator's call or a tenant's

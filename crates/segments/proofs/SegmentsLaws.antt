@@ -1,9 +1,9 @@
 -- What a state holds after a segment or a tenant's record in it is replaced. Assumes nothing.
 use mathlib.Core.List.{List}
-use mathlib.Core.Path.{_≡_, refl, sym, ap, ap₂, _∙_}
+use mathlib.Core.Path.{_≡_, sym, ap, ap₂, _∙_}
 use Prim.Native.Nat.{ℕ, _<_}
 use native.Mathlib.Omega.{arith}
-use lib.ListN.{getD, length, length-set, set}
+use lib.ListN.{getD, length-set, set}
 use lib.Seq.{ext-getD, getD-set-other, getD-set-same}
 use mathlib.Core.Logic.{⊎-elim}
 use Rattle.label.proofs.SearchLaws.{same-or-not}

@@ -1,14 +1,14 @@
 -- Soundness part by part, and that every call keeps it. Assumes nothing.
-use mathlib.Core.Bool.{Bool, true, false, cond, not, _&&_, true≢false}
+use mathlib.Core.Bool.{Bool, true, cond, _&&_}
 use mathlib.Core.Logic.{⊎-elim}
 use mathlib.Core.Option.{Option, none, some}
-use mathlib.Core.Path.{_≡_, refl, sym, ap, ap₂, _∙_}
+use mathlib.Core.Path.{_≡_, refl, sym, ap, _∙_}
 use Prim.Native.Nat.{ℕ, _+_, _-_, _<_, _≤_}
 use native.Mathlib.Omega.{arith}
-use borrow.Author.Tests.{le-leb, leb-false, leb-true, lt-leb}
-use lib.Dec.{eqb, leb}
+use borrow.Author.Tests.{le-leb, leb-true}
+use lib.Dec.{leb}
 use Rattle.label.specs.Answer.{Answer, granted, refused}
-use Rattle.label.specs.Index.{any, every, sumFrom}
+use Rattle.label.specs.Index.{any, every}
 use Rattle.label.specs.Label
 use Rattle.label.specs.declared.Label.{Label}
 use Rattle.label.proofs.BoolLaws.{both, first-true, second-true, three-true}
@@ -16,19 +16,18 @@ use Rattle.label.proofs.IndexLaws.{every-all, every-at}
 use Rattle.label.proofs.LabelLaws.{equal-exact}
 use Rattle.label.proofs.SearchLaws.{any-of, any-then, same-or-not, sum-but, sum-same, sum-term}
 use Rattle.range.specs.Tuple
-use Rattle.segments.specs.Calls.{answerOf, callOf, callValid, cleared, lookedAt, numbersValid, pagesFit, permitted, slotFor, slotOr0, slotValid, stepOf, writable, written}
+use Rattle.segments.specs.Calls.{answerOf, callOf, callValid, cleared, lookedAt, numbersValid, slotFor, slotOr0, slotValid, stepOf, writable, written}
 use Rattle.segments.specs.Replies.{Grant}
 use Rattle.segments.specs.Segments.{Lengths, ceilingAt, clearanceAt, maxPages, pagesAt, pagesValid, segmentAt, segmentOf, slot, slots, tenantAt, tenantId, tenants, withSegment, zeroSegment}
-use Rattle.segments.specs.Slots.{ceilingsOf, emptyAt, filled, firstSlot, owns, pagesOf, slotCount}
+use Rattle.segments.specs.Slots.{ceilingsOf, filled, firstSlot, owns, pagesOf, slotCount}
 use Rattle.segments.specs.Sound.{admitted, clearedBy, slotSound, sound, tenantSound, underCeiling, zeros}
 use Rattle.segments.specs.declared.Action.{Action}
 use Rattle.segments.specs.declared.Action.the-variants.{Open, Size, Post, Look, Close}
-use Rattle.segments.specs.declared.Call.{Call}
 use Rattle.segments.specs.declared.Segment.{Segment}
 use Rattle.segments.specs.declared.SegmentTable.{SegmentTable}
 use Rattle.segments.specs.declared.Slot.{Slot}
 use Rattle.segments.specs.declared.TenantId.{TenantId}
-use Rattle.segments.proofs.CallsLaws.{Inward, Passed, granted-passed, inward, look-next, lowest-own, next-granted, next-refused, target-own, valid-tenant, writable-own}
+use Rattle.segments.proofs.CallsLaws.{Passed, granted-passed, inward, look-next, lowest-own, next-granted, next-refused, target-own, valid-tenant, writable-own}
 use Rattle.segments.proofs.SegmentsLaws.{segment-kept, segment-written}
 use Rattle.segments.proofs.SlotsLaws.{count-kept, first-kept, own-of, own-parts, own-slot, owner-unique, owns-kept, same-slot, same-tenant}
 
@@ -72,14 +71,14 @@ parts-sound s h =
 -- ---- what a slot may hold
 
 -- whether slot p may hold x
-abbrev held : SegmentTable → Slot → Segment → Bool
+abbrev pub held : SegmentTable → Slot → Segment → Bool
 held s p x = cond (leb 1 (x .pages)) (any (λ t. owns s (tenantId t) p && Tuple.containsOf (clearanceAt s (tenantId t)) (x .label)) tenants) (zeros x)
 
-slot-held : (s : SegmentTable) (p : Slot) → slotSound s p ≡ held s p (segmentAt s p)
+pub slot-held : (s : SegmentTable) (p : Slot) → slotSound s p ≡ held s p (segmentAt s p)
 unfolding slotSound filled clearedBy
 slot-held s p = refl
 
-held-filled : (s : SegmentTable) (p : Slot) (x : Segment) (u : TenantId) → 1 ≤ x .pages → u .0 < tenants → owns s u p ≡ true → Tuple.containsOf (clearanceAt s u) (x .label) ≡ true → held s p x ≡ true
+pub held-filled : (s : SegmentTable) (p : Slot) (x : Segment) (u : TenantId) → 1 ≤ x .pages → u .0 < tenants → owns s u p ≡ true → Tuple.containsOf (clearanceAt s u) (x .label) ≡ true → held s p x ≡ true
 held-filled s p x u h l o e =
     rw (le-leb 1 (x .pages) h)
     (any-of (λ t. owns s (tenantId t) p && Tuple.containsOf (clearanceAt s (tenantId t)) (x .label)) tenants (u .0) l (both o e))
@@ -94,7 +93,7 @@ held-cleared s p x t h o e =
     let b = second-true (owns s (tenantId i) p) (Tuple.containsOf (clearanceAt s (tenantId i)) (x .label)) f in
     ap (λ (u : TenantId). Tuple.containsOf (clearanceAt s u) (x .label)) (owner-unique s t (tenantId i) p o a) ∙ b)
 
-zeros-held : (s : SegmentTable) (p : Slot) → held s p zeroSegment ≡ true
+pub zeros-held : (s : SegmentTable) (p : Slot) → held s p zeroSegment ≡ true
 unfolding zeros
 zeros-held s p = rw (equal-exact Label.zeroLabel Label.zeroLabel refl .1 refl)
 
@@ -174,13 +173,6 @@ module _ (s : SegmentTable) (t : TenantId) (l : Label) (h : Sound s) where
   unfolding filled
   filled-pages p e = leb-true 1 (pagesAt s p) e
 
-  empty-pages : (p : Slot) → emptyAt s (p .0) ≡ true → pagesAt s p ≡ 0
-  unfolding filled
-  empty-pages p e = none-left (pagesAt s p) e
-    where
-      none-left : (n : ℕ) → not (leb 1 n) ≡ true → n ≡ 0
-      none-left n e = ⊎-elim (λ (i : n ≡ 0). i) (λ (i : n ≡ 0 → ⊥). absurd (true≢false (sym e ∙ ap not (le-leb 1 n (omega (arith, i)))))) (same-or-not n 0)
-
   -- a slot that is its caller's own and filled holds a label in its caller's clearance
   own-cleared : (p : Slot) → writable s t l p ≡ true → Tuple.containsOf (clearanceAt s t) (segmentAt s p .label) ≡ true
   own-cleared p e =
@@ -193,7 +185,7 @@ module _ (s : SegmentTable) (t : TenantId) (l : Label) (h : Sound s) where
 
   written-held : (a : Action) (p : Slot) → Passed s t l a → lookedAt a ≡ none → slotFor s t a ≡ some p → held s p (written (segmentAt s p) l a) ≡ true
   written-held (Open x) p r n f =
-      own-held p (segmentOf l (x .pages) 0) (lowest-own s t p (valid-tenant s t l (Open x) (r .is-valid)) f .0)
+      own-held p (segmentOf l (x .pages) 0) (lowest-own s t p (valid-tenant s t l (Open x) (r .is-valid)) f)
       (valid-pages (x .pages) (valid-numbers s t l (Open x) (r .is-valid))) (cleared-label s t l (Open x) (r .is-cleared))
   written-held (Size x) p r n f =
       let q : x .slot ≡ p = cc in

@@ -1,7 +1,7 @@
 -- Document 01, "The board": the tenant calls. Assumes nothing.
 use mathlib.Core.Bool.{Bool, true, false, _&&_}
 use mathlib.Core.Option.{Option, none, some}
-use Prim.Native.Nat.{ℕ, _+_, _-_}
+use Prim.Native.Nat.{_+_, _-_}
 use lib.Dec.{leb, ltb}
 use Rattle.label.specs.Answer.{Answer, granted, require}
 use Rattle.label.specs.Label
