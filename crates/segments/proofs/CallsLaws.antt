@@ -163,10 +163,10 @@ module _ (t : TenantId) (s u : SegmentTable) (k : Alike t s u) where
   slot-for-same h (Close x) = refl
 
   fit-same : t .0 < tenants → (l : Label) (a : Action) → permitted s t l a ≡ true → pagesFit s t a ≡ pagesFit u t a
-  fit-same h l (Open x) e = rw (pages-same h, ceiling-same)
+  fit-same h l (Open x) e = ap₂ (λ (used limit : ℕ). leb (used + x .pages) limit) (pages-same h) ceiling-same
   fit-same h l (Size x) e =
-      rw (pages-same h, ceiling-same)
-      (ap (λ (y : Segment). leb (pagesOf u t - y .pages + x .pages) (ceilingAt u t)) (k .own (x .slot) (writable-own s t l (x .slot) e .0)))
+      ap₂ (λ (used limit : ℕ). leb (used - pagesAt s (x .slot) + x .pages) limit) (pages-same h) ceiling-same
+      ∙ ap (λ (y : Segment). leb (pagesOf u t - y .pages + x .pages) (ceilingAt u t)) (k .own (x .slot) (writable-own s t l (x .slot) e .0))
   fit-same h l (Post x) e = refl
   fit-same h l (Look x) e = refl
   fit-same h l (Close x) e = refl
