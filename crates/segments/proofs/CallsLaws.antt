@@ -253,43 +253,58 @@ granted-passed s t l a g e =
       fits = e6 .0;
     }
 
+-- what a state has, and has with whatever segment in a slot, the state that a call leaves has
+step-has : (P : SegmentTable → Type 0) (s : SegmentTable) (c : Call) → P s → ((p : Slot) (x : Segment) → P (withSegment s p x)) → P (stepOf s c .table)
+unfolding stepOf
+step-has P s c h f = go (answerOf s c)
+  where
+    go : (x : Answer Grant) → P (left s (withSegment s (target s c) (written (segmentAt s (target s c)) (c .label) (c .action))) x)
+    go (granted g) = f (target s c) _
+    go (refused n detail) = h
+
 -- pool, clearances and ceilings stay, and so do the lengths
 pub pool-kept : (s : SegmentTable) (c : Call) → stepOf s c .table .pool ≡ s .pool
-unfolding stepOf
-pool-kept s c = go (answerOf s c)
-  where
-    go : (x : Answer Grant) → left s (withSegment s (target s c) (written (segmentAt s (target s c)) (c .label) (c .action))) x .pool ≡ s .pool
-    go (granted g) = refl
-    go (refused n detail) = refl
+pool-kept s c = step-has (λ u. u .pool ≡ s .pool) s c refl (λ p x. refl)
 
 pub records-kept : (s : SegmentTable) (c : Call) → stepOf s c .table .tenants ≡ s .tenants
-unfolding stepOf
-records-kept s c = go (answerOf s c)
-  where
-    go : (x : Answer Grant) → left s (withSegment s (target s c) (written (segmentAt s (target s c)) (c .label) (c .action))) x .tenants ≡ s .tenants
-    go (granted g) = refl
-    go (refused n detail) = refl
+records-kept s c = step-has (λ u. u .tenants ≡ s .tenants) s c refl (λ p x. refl)
 
 pub next-lengths : (s : SegmentTable) (c : Call) → Lengths s → Lengths (stepOf s c .table)
-unfolding stepOf
-next-lengths s c h = go (answerOf s c)
+next-lengths s c h = step-has Lengths s c h (λ p x. lengths-kept s p x h)
+
+-- ---- looks, and calls that don't look
+
+abbrev lookOf : Slot → Action
+lookOf p = Look (record { slot = p })
+
+looks : (a : Action) (p : Slot) → lookedAt a ≡ some p → a ≡ lookOf p
+looks (Open x) p e = let z : _≡_ {A = ℕ} 0 1 = cc in absurd (omega arith)
+looks (Size x) p e = let z : _≡_ {A = ℕ} 0 1 = cc in absurd (omega arith)
+looks (Post x) p e = let z : _≡_ {A = ℕ} 0 1 = cc in absurd (omega arith)
+looks (Look x) p e = let q : x .slot ≡ p = cc in ap lookOf q
+looks (Close x) p e = let z : _≡_ {A = ℕ} 0 1 = cc in absurd (omega arith)
+
+pub look-or-not : {A : Type 0} (a : Action) → (lookedAt a ≡ none → A) → ((p : Slot) → lookedAt a ≡ some p → A) → A
+look-or-not {A} a f g = go (lookedAt a) refl
   where
-    go : (x : Answer Grant) → Lengths (left s (withSegment s (target s c) (written (segmentAt s (target s c)) (c .label) (c .action))) x)
-    go (granted g) = lengths-kept s (target s c) _ h
-    go (refused n detail) = h
+    go : (o : Option Slot) → lookedAt a ≡ o → A
+    go none e = f e
+    go (some p) e = g p e
 
 -- a look changes nothing
 pub look-next : (s : SegmentTable) (t : TenantId) (l : Label) (a : Action) (p : Slot) → lookedAt a ≡ some p → stepOf s (callOf t l a) .table ≡ s
 unfolding stepOf
-look-next s t l (Open x) p e = let z : _≡_ {A = ℕ} 0 1 = cc in absurd (omega arith)
-look-next s t l (Size x) p e = let z : _≡_ {A = ℕ} 0 1 = cc in absurd (omega arith)
-look-next s t l (Post x) p e = let z : _≡_ {A = ℕ} 0 1 = cc in absurd (omega arith)
-look-next s t l (Look x) p e = go (answerOf s (callOf t l (Look x)))
+look-next s t l a p e = ap (λ (a : Action). stepOf s (callOf t l a) .table) (looks a p e) ∙ go (answerOf s (callOf t l (lookOf p)))
   where
-    go : (y : Answer Grant) → left s (withSegment s (x .slot) (segmentAt s (x .slot))) y ≡ s
-    go (granted g) = segment-same s (x .slot)
+    go : (y : Answer Grant) → left s (withSegment s p (segmentAt s p)) y ≡ s
+    go (granted g) = segment-same s p
     go (refused n detail) = refl
-look-next s t l (Close x) p e = let z : _≡_ {A = ℕ} 0 1 = cc in absurd (omega arith)
+
+-- what a look shows once it has passed the checks before: the slot, if it is visible
+pub look-access : (s : SegmentTable) (t : TenantId) (l : Label) (a : Action) (p : Slot) → lookedAt a ≡ some p
+    → accessOf s (callOf t l a) ≡ require (visible s l p) 13 (granted (shown (segmentAt s p)))
+unfolding accessOf
+look-access s t l a p e = ap (λ (a : Action). accessOf s (callOf t l a)) (looks a p e)
 
 -- a call that doesn't look
 pub inward : (s : SegmentTable) (t : TenantId) (a : Action) → lookedAt a ≡ none → Inward s t a
@@ -297,7 +312,9 @@ inward s t a e p f = let z : none ≡ some p = sym e ∙ f in let y : _≡_ {A =
 
 -- a call leaves the slots of all others as they were
 pub untouched : (s : SegmentTable) (t : TenantId) (l : Label) (a : Action) (p : Slot) → owns s t p ≡ false → segmentAt (stepOf s (callOf t l a) .table) p ≡ segmentAt s p
-untouched s t l a p h = looks (lookedAt a) refl
+untouched s t l a p h =
+    look-or-not a (λ e. other (inward s t a e) (answerOf s (callOf t l a)) refl)
+    (λ q e. ap (λ (u : SegmentTable). segmentAt u p) (look-next s t l a q e))
   where
     other : Inward s t a → (x : Answer Grant) → answerOf s (callOf t l a) ≡ x → segmentAt (stepOf s (callOf t l a) .table) p ≡ segmentAt s p
     other m (refused n detail) e = ap (λ (u : SegmentTable). segmentAt u p) (next-refused s (callOf t l a) n detail e)
@@ -308,9 +325,6 @@ untouched s t l a p h = looks (lookedAt a) refl
         let w : slotOr0 (slotFor s t a) ≡ r .slot = ap slotOr0 (r .slot-is) in
         ap (λ (u : SegmentTable). segmentAt u p) (next-granted s (callOf t l a) g e)
         ∙ segment-kept s q p _ (λ i. true≢false (sym (ap (owns s t) (same-slot p (r .slot) (i ∙ ap (λ (p : Slot). p .0) w)) ∙ o) ∙ h))
-    looks : (o : Option Slot) → lookedAt a ≡ o → segmentAt (stepOf s (callOf t l a) .table) p ≡ segmentAt s p
-    looks none e = other (inward s t a e) (answerOf s (callOf t l a)) refl
-    looks (some q) e = ap (λ (u : SegmentTable). segmentAt u p) (look-next s t l a q e)
 
 -- what a call makes of its caller's own slots depends on these and on what never changes
 module _ (t : TenantId) (s u : SegmentTable) (k : Alike t s u) where
@@ -324,7 +338,9 @@ module _ (t : TenantId) (s u : SegmentTable) (k : Alike t s u) where
       (same-or-not (p .0) (q .0))
 
   pub own-next : (l : Label) (a : Action) (p : Slot) → owns s t p ≡ true → segmentAt (stepOf s (callOf t l a) .table) p ≡ segmentAt (stepOf u (callOf t l a) .table) p
-  own-next l a p h = looks (lookedAt a) refl
+  own-next l a p h =
+      look-or-not a (λ e. other (inward s t a e) (answerOf s (callOf t l a)) refl)
+      (λ q e. rw (look-next s t l a q e, look-next u t l a q e) (k .own p h))
     where
       next : (v : SegmentTable) (g : Grant) → answerOf v (callOf t l a) ≡ granted g
           → segmentAt (stepOf v (callOf t l a) .table) p ≡ segmentAt (withSegment v (slotOr0 (slotFor v t a)) (written (segmentAt v (slotOr0 (slotFor v t a))) l a)) p
@@ -345,11 +361,8 @@ module _ (t : TenantId) (s u : SegmentTable) (k : Alike t s u) where
           ∙ ap (λ (x : Segment). segmentAt (withSegment u (slotOr0 (slotFor s t a)) (written x l a)) p) f
           ∙ ap (λ (q : Slot). segmentAt (withSegment u q (written (segmentAt u q) l a)) p) i
           ∙ sym (next u g (sym (answer-same t s u k l a m) ∙ e))
-      looks : (o : Option Slot) → lookedAt a ≡ o → segmentAt (stepOf s (callOf t l a) .table) p ≡ segmentAt (stepOf u (callOf t l a) .table) p
-      looks none e = other (inward s t a e) (answerOf s (callOf t l a)) refl
-      looks (some q) e = rw (look-next s t l a q e, look-next u t l a q e) (k .own p h)
 
--- ---- a look
+-- ---- what two states that are alike answer before a slot is looked into
 
 -- the checks before the slots are looked into end alike: refused with 22, refused with 1, or passed
 pub data Checked (s u : SegmentTable) (c : Call) : Type 0 where
@@ -374,16 +387,6 @@ checked t s u k l a =
         both-passed
         (rw (k .sounds .0, valid-same t s u k l a, e, cleared-same t s u k l a, f) refl)
         (rw (k .sounds .1, e, f) refl)
-
--- what a look shows once it has passed: the slot, if it is visible
-pub look-access : (s : SegmentTable) (t : TenantId) (l : Label) (a : Action) (p : Slot) → lookedAt a ≡ some p
-    → accessOf s (callOf t l a) ≡ require (visible s l p) 13 (granted (shown (segmentAt s p)))
-unfolding accessOf
-look-access s t l (Open x) p e = let z : _≡_ {A = ℕ} 0 1 = cc in absurd (omega arith)
-look-access s t l (Size x) p e = let z : _≡_ {A = ℕ} 0 1 = cc in absurd (omega arith)
-look-access s t l (Post x) p e = let z : _≡_ {A = ℕ} 0 1 = cc in absurd (omega arith)
-look-access s t l (Look x) p e = let q : x .slot ≡ p = cc in ap (λ (p : Slot). require (visible s l p) 13 (granted (shown (segmentAt s p)))) q
-look-access s t l (Close x) p e = let z : _≡_ {A = ℕ} 0 1 = cc in absurd (omega arith)
 
 pub step-answer : (s : SegmentTable) (c : Call) → stepOf s c .answer ≡ answerOf s c
 unfolding stepOf

@@ -1,7 +1,7 @@
 -- Soundness part by part, and that every call keeps it. Assumes nothing.
 use mathlib.Core.Bool.{Bool, true, cond, _&&_}
 use mathlib.Core.Logic.{⊎-elim}
-use mathlib.Core.Option.{Option, none, some}
+use mathlib.Core.Option.{none, some}
 use mathlib.Core.Path.{_≡_, refl, sym, ap, _∙_}
 use Prim.Native.Nat.{ℕ, _+_, _-_, _<_, _≤_}
 use native.Mathlib.Omega.{arith}
@@ -27,7 +27,7 @@ use Rattle.segments.specs.declared.Segment.{Segment}
 use Rattle.segments.specs.declared.SegmentTable.{SegmentTable}
 use Rattle.segments.specs.declared.Slot.{Slot}
 use Rattle.segments.specs.declared.TenantId.{TenantId}
-use Rattle.segments.proofs.CallsLaws.{Passed, granted-passed, inward, look-next, lowest-own, next-granted, next-refused, target-own, valid-tenant, writable-own}
+use Rattle.segments.proofs.CallsLaws.{Passed, granted-passed, inward, look-next, look-or-not, lowest-own, next-granted, next-refused, target-own, valid-tenant, writable-own}
 use Rattle.segments.proofs.SegmentsLaws.{segment-kept, segment-written}
 use Rattle.segments.proofs.SlotsLaws.{count-kept, first-kept, own-of, own-parts, own-slot, owner-unique, owns-kept, same-slot, same-tenant}
 
@@ -219,7 +219,8 @@ module _ (s : SegmentTable) (t : TenantId) (l : Label) (h : Sound s) where
 
 -- every tenant call keeps soundness
 pub call-sound : (s : SegmentTable) (t : TenantId) (l : Label) (a : Action) → Lengths s → sound s ≡ true → sound (stepOf s (callOf t l a) .table) ≡ true
-call-sound s t l a n h = looks (lookedAt a) refl
+call-sound s t l a n h =
+    look-or-not a (λ e. other e (answerOf s (callOf t l a)) refl) (λ p e. ap sound (look-next s t l a p e) ∙ h)
   where
     other : lookedAt a ≡ none → (x : Answer Grant) → answerOf s (callOf t l a) ≡ x → sound (stepOf s (callOf t l a) .table) ≡ true
     other m (refused k detail) e = ap sound (next-refused s (callOf t l a) k detail e) ∙ h
@@ -230,6 +231,3 @@ call-sound s t l a n h = looks (lookedAt a) refl
         let z = sound-parts s h in
         ap sound (next-granted s (callOf t l a) g e ∙ ap (λ (p : Slot). withSegment s p (written (segmentAt s p) l a)) i)
         ∙ parts-sound _ (written-sound s t (r .slot) (written (segmentAt s (r .slot)) l a) n o z (written-held s t l z a (r .slot) r m (r .slot-is)) (written-fits s t l z a (r .slot) r (r .slot-is) o))
-    looks : (o : Option Slot) → lookedAt a ≡ o → sound (stepOf s (callOf t l a) .table) ≡ true
-    looks none e = other e (answerOf s (callOf t l a)) refl
-    looks (some p) e = ap sound (look-next s t l a p e) ∙ h
