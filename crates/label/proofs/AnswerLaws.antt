@@ -14,6 +14,11 @@ passed t n rest e = rw e
 pub stopped : {A : Type 0} (t : Bool) (n : ℕ) (rest : Answer A) → t ≡ false → require t n rest ≡ refused n none
 stopped t n rest e = rw e
 
+-- a check that is passed or not alike, with what follows alike where it is passed
+pub require-same : {A : Type 0} (p q : Bool) (n : ℕ) (x y : Answer A) → p ≡ q → (p ≡ true → x ≡ y) → require p n x ≡ require q n y
+require-same true q n x y e h = rw (← e) (h refl)
+require-same false q n x y e h = rw (← e) refl
+
 pub answers-grant : {A : Type 0} (value z y : A) (x : Answer A) → x ≡ granted y → value ≡ y → Answered Granted value z x
 answers-grant value z y x e f = record { outcome = ap granted f ∙ sym e; beside = rw e f }
 

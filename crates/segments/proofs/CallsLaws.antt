@@ -12,6 +12,7 @@ use Rattle.label.specs.Answer.{Answer, granted, refused, require}
 use Rattle.label.specs.Index.{firstFrom, sumFrom}
 use Rattle.label.specs.Label
 use Rattle.label.specs.declared.Label.{Label}
+use Rattle.label.proofs.AnswerLaws.{grant-passed, require-same}
 use Rattle.label.proofs.BoolLaws.{first-true, three-true}
 use Rattle.label.proofs.SearchLaws.{first-least, first-same, same-or-not, sum-same}
 use Rattle.range.specs.Tuple
@@ -30,18 +31,6 @@ use Rattle.segments.specs.declared.Tenant.{Tenant}
 use Rattle.segments.specs.declared.TenantId.{TenantId}
 use Rattle.segments.proofs.SegmentsLaws.{lengths-kept, segment-kept, segment-same, segment-written, tenant-same}
 use Rattle.segments.proofs.SlotsLaws.{count-kept, first-kept, own-of, own-slot, owns-kept, same-slot}
-
--- ---- checks
-
--- a check that two states pass alike, with what follows alike where it is passed
-pub require-same : {A : Type 0} (p q : Bool) (n : ℕ) (x y : Answer A) → p ≡ q → (p ≡ true → x ≡ y) → require p n x ≡ require q n y
-require-same true q n x y e h = rw (← e) (h refl)
-require-same false q n x y e h = rw (← e) refl
-
--- a grant has passed the check before it
-pub passed-grant : {A : Type 0} (p : Bool) (n : ℕ) (x : Answer A) (g : A) → require p n x ≡ granted g → (p ≡ true) × (x ≡ granted g)
-passed-grant true n x g e = (refl, e)
-passed-grant false n x g e = let z : _≡_ {A = ℕ} 0 1 = cc in absurd (omega arith)
 
 -- ---- the slot that a call is about
 
@@ -237,12 +226,12 @@ slot-found (some p) e = refl
 pub granted-passed : (s : SegmentTable) (t : TenantId) (l : Label) (a : Action) (g : Grant) → answerOf s (callOf t l a) ≡ granted g → Passed s t l a
 unfolding answerOf accessOf
 granted-passed s t l a g e =
-    let e1 = passed-grant (sound s) 22 _ g e in
-    let e2 = passed-grant (callValid s (callOf t l a)) 22 _ g (e1 .1) in
-    let e3 = passed-grant (cleared s (callOf t l a)) 1 _ g (e2 .1) in
-    let e4 = passed-grant (permitted s t l a) 13 _ g (e3 .1) in
-    let e5 = passed-grant (found (slotFor s t a)) 28 _ g (e4 .1) in
-    let e6 = passed-grant (pagesFit s t a) 12 _ g (e5 .1) in
+    let e1 = grant-passed (sound s) 22 g _ (sym e) in
+    let e2 = grant-passed (callValid s (callOf t l a)) 22 g _ (e1 .1) in
+    let e3 = grant-passed (cleared s (callOf t l a)) 1 g _ (e2 .1) in
+    let e4 = grant-passed (permitted s t l a) 13 g _ (e3 .1) in
+    let e5 = grant-passed (found (slotFor s t a)) 28 g _ (e4 .1) in
+    let e6 = grant-passed (pagesFit s t a) 12 g _ (e5 .1) in
     record {
       is-sound = e1 .0;
       is-valid = e2 .0;

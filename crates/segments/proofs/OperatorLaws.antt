@@ -11,6 +11,7 @@ use Rattle.label.specs.Answer.{Answer, granted, refused}
 use Rattle.label.specs.Index.{any}
 use Rattle.label.specs.Region.{regions}
 use Rattle.label.specs.declared.Label.{Label}
+use Rattle.label.proofs.AnswerLaws.{grant-passed}
 use Rattle.label.proofs.BoolLaws.{both, first-true, second-true}
 use Rattle.label.proofs.IndexLaws.{every-all}
 use Rattle.label.proofs.SearchLaws.{any-of, any-then, same-or-not, sum-but, sum-zero}
@@ -28,7 +29,6 @@ use Rattle.segments.specs.declared.SegmentTable.{SegmentTable}
 use Rattle.segments.specs.declared.Slot.{Slot}
 use Rattle.segments.specs.declared.Tenant.{Tenant}
 use Rattle.segments.specs.declared.TenantId.{TenantId}
-use Rattle.segments.proofs.CallsLaws.{passed-grant}
 use Rattle.segments.proofs.SegmentsLaws.{tenant-kept, tenant-written}
 use Rattle.segments.proofs.SlotsLaws.{count-stays, first-stays, own-bound, owns-stays, same-tenant}
 use Rattle.segments.proofs.SoundLaws.{Sound, held, parts-sound, slot-held, sound-parts, zeros-held}
@@ -144,10 +144,10 @@ granted-admit : (s : SegmentTable) (t : TenantId) (n : ℕ) (c : Tuple) → Leng
 unfolding admitAnswer
 granted-admit s t n c l h g e =
     let v : Bool = ltb (t .0) tenants && Tuple.validOf c in
-    let e1 = passed-grant (sound s) 22 _ g e in
-    let e2 = passed-grant ((v && not (Tuple.emptyOf c)) && leb 1 n) 22 _ g (e1 .1) in
-    let e3 = passed-grant (not (admitted s t)) 16 _ g (e2 .1) in
-    let e4 = passed-grant (leb (ceilingsOf s + n) (s .pool)) 12 _ g (e3 .1) in
+    let e1 = grant-passed (sound s) 22 g _ (sym e) in
+    let e2 = grant-passed ((v && not (Tuple.emptyOf c)) && leb 1 n) 22 g _ (e1 .1) in
+    let e3 = grant-passed (not (admitted s t)) 16 g _ (e2 .1) in
+    let e4 = grant-passed (leb (ceilingsOf s + n) (s .pool)) 12 g _ (e3 .1) in
     let a = first-true (v && not (Tuple.emptyOf c)) (leb 1 n) (e2 .0) in
     let b = first-true v (not (Tuple.emptyOf c)) a in
     let i : t .0 < tenants = ltb-true _ _ (first-true (ltb (t .0) tenants) (Tuple.validOf c) b) in
@@ -165,10 +165,10 @@ granted-ceiling : (s : SegmentTable) (t : TenantId) (n : ℕ) → Lengths s → 
     → sound (withTenant s t (tenantOf n (clearanceAt s t))) ≡ true
 unfolding setCeilingAnswer
 granted-ceiling s t n l h g e =
-    let e1 = passed-grant (sound s) 22 _ g e in
-    let e2 = passed-grant (admitted s t && leb 1 n) 22 _ g (e1 .1) in
-    let e3 = passed-grant (leb (pagesOf s t) n) 16 _ g (e2 .1) in
-    let e4 = passed-grant (leb (ceilingsOf s - ceilingAt s t + n) (s .pool)) 12 _ g (e3 .1) in
+    let e1 = grant-passed (sound s) 22 g _ (sym e) in
+    let e2 = grant-passed (admitted s t && leb 1 n) 22 g _ (e1 .1) in
+    let e3 = grant-passed (leb (pagesOf s t) n) 16 g _ (e2 .1) in
+    let e4 = grant-passed (leb (ceilingsOf s - ceilingAt s t + n) (s .pool)) 12 g _ (e3 .1) in
     let i = is-admitted s t (first-true (admitted s t) (leb 1 n) (e2 .0)) in
     let q = sound-parts s h in
     let v = tenant-sound-in (tenantAt s t) (i .1) (q .tenant t (i .0)) in
@@ -226,5 +226,5 @@ empty-sound pool e =
 pub make-sound : (pool : ℕ) (g : Grant) → makeOf pool .answer ≡ granted g → sound (makeOf pool .table) ≡ true
 unfolding makeOf makeAnswer
 make-sound pool g e =
-    let r = passed-grant (pagesValid pool) 22 (granted done) g e in
+    let r = grant-passed (pagesValid pool) 22 g (granted done) (sym e) in
     rw (r .0) (empty-sound pool (r .0))
