@@ -1,2 +1,4 @@
 pub mod SlotsLaws
+pub mod CodeLaws
+pub mod CodeSteps
 pub mod SegmentsExamples

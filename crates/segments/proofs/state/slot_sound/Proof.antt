@@ -1,0 +1,36 @@
+use borrow.Author.Needs.{needs}
+use Rattle.segments.proofs.state.slot_sound.Statement.{statement}
+use Rattle.segments.proofs.state.slot_sound.Tie as tie
+
+filled-requires : tie.Need-filled-requires
+filled-requires c κs = search needs
+
+owner-clears-requires : tie.Need-owner-clears-requires
+owner-clears-requires c κs = search needs
+
+returns : tie.Need-returns
+returns c = ?
+
+mul-zeros : tie.Need-mul-zeros
+mul-zeros c = search needs
+
+element-copy-out-zeros : tie.Need-element-copy-out-zeros
+element-copy-out-zeros c = search needs
+
+zeros-requires : tie.Need-zeros-requires
+zeros-requires c κs = search needs
+
+returns-2 : tie.Need-returns-2
+returns-2 c = ?
+
+pub slot-sound-spec : {M : Type 1} → statement M
+slot-sound-spec =
+    tie.close
+    (tie.spec
+    filled-requires
+    owner-clears-requires
+    returns
+    mul-zeros
+    element-copy-out-zeros
+    zeros-requires
+    returns-2)
