@@ -22,6 +22,7 @@ use Rattle.range.specs.Tuple
 use Rattle.range.specs.declared.tuple.Tuple.{Tuple}
 use Rattle.range.proofs.RangeLaws.{contains-valid}
 use Rattle.range.proofs.TupleLaws.{valid-placed, valid-region}
+use Rattle.segments.specs.Calls.{found, slotOr0}
 use Rattle.segments.specs.Found.{ceilingsKept, fitsIn, keptIn, leftOf, slotsSound, tenantsSound}
 use Rattle.segments.specs.Segments.{ceilingAt, clearanceAt, pagesAt, pagesValid, slot, slots, tenantAt, tenantId, tenants}
 use Rattle.segments.specs.Slots.{asSlot, ceilingsOf, emptyAt, firstSlot, lowestEmpty, owns, pagesOf, slotCount}
@@ -74,6 +75,19 @@ module _ (f : ℕ → ℕ) (k n limit : ℕ) where
       let e : sumFrom f (k + i) (n - i) ≡ 0 = rw (z, sum-none) in
       let r = t .rest in
       under-limit limit (sumFrom f k n) left (omega arith)
+
+-- what is left tells what is used, where that is not over the limit
+pub left-told : (limit used n : ℕ) → used ≤ limit → some n ≡ leftOf limit used → (n ≤ limit) × (limit - n ≡ used)
+left-told limit used n h e =
+    let k : leftOf limit used ≡ some (limit - used) = rw (le-leb used limit h) in
+    let q : n ≡ limit - used = cc in
+    (omega arith, omega arith)
+
+pub left-never : (limit used : ℕ) → used ≤ limit → none ≡ leftOf limit used → ⊥
+left-never limit used h e =
+    let k : leftOf limit used ≡ some (limit - used) = rw (le-leb used limit h) in
+    let z : _≡_ {A = ℕ} 0 1 = cc in
+    omega arith
 
 pub kept-exact : (limit n : ℕ) → keptIn (leftOf limit n) ≡ leb n limit
 kept-exact limit n = by (leb n limit)
@@ -147,6 +161,13 @@ lowest-slot s t p h e = go (firstFrom (emptyAt s) (firstSlot s t) (slotCount s t
         let q : slot m ≡ p = cc in
         let r : m ≡ p .0 = ap (λ (x : Slot). x .0) q in
         omega arith
+
+pub found-slot : (s : SegmentTable) (t : TenantId) → t .0 < tenants → found (lowestEmpty s t) ≡ true → slotOr0 (lowestEmpty s t) .0 < slots
+found-slot s t h e = go (lowestEmpty s t) refl e
+  where
+    go : (x : Option Slot) → lowestEmpty s t ≡ x → found x ≡ true → slotOr0 x .0 < slots
+    go none k g = absurd (true≢false (sym g))
+    go (some p) k g = lowest-slot s t p h k
 
 -- ---- tests that a tuple may refuse
 

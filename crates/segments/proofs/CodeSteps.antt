@@ -13,12 +13,14 @@ use Rattle.label.specs.Label
 use Rattle.label.specs.declared.Label.{Label}
 use Rattle.label.specs.declared.errno.Errno.{Errno}
 use Rattle.label.proofs.AnswerLaws.{grant-passed, passed}
-use Rattle.label.proofs.BoolLaws.{first-true, second-true}
-use Rattle.segments.specs.Calls.{accessOf, answerOf, callValid, cleared, numbersValid, slotValid, stepOf, target, visible, written}
+use Rattle.label.proofs.BoolLaws.{first-true, second-true, three-true}
+use Rattle.segments.specs.Calls.{accessOf, answerOf, callOf, callValid, cleared, numbersValid, slotValid, stepOf, target, visible, writable, written}
 use Rattle.segments.specs.Found.{Started, lookCall, startOf, unlabeled}
 use Rattle.segments.specs.Replies.{Grant, Results, done, leaving, replyOf, shown, shownLabel}
 use Rattle.segments.specs.Segments.{segmentAt, slots, tableOf, tenants, withSegment}
+use Rattle.segments.specs.Slots.{filled, owns}
 use Rattle.segments.specs.Sound.{admitted, sound}
+use Rattle.segments.specs.declared.Action.{Action}
 use Rattle.segments.specs.declared.Call.{Call}
 use Rattle.segments.specs.declared.Outcome.{Outcome}
 use Rattle.segments.specs.declared.Reply.{Reply}
@@ -40,6 +42,14 @@ module _ (o : Outcome) (s next : SegmentTable) (x : Answer Grant) where
   results-granted r g h k a l = rw (h, k) (record { table = refl; answer = a; label = l })
 
 -- ---- a valid call
+
+-- a call by its action
+pub same-call : (c : Call) (a : Action) → c .action ≡ a → c ≡ callOf (c .tenant) (c .label) a
+same-call c a e = ap (callOf (c .tenant) (c .label)) e
+
+pub writable-owned : (s : SegmentTable) (t : TenantId) (l : Label) (p : Slot) → writable s t l p ≡ true → owns s t p ≡ true
+unfolding writable
+writable-owned s t l p e = three-true (owns s t p) (filled s p) (Label.equalOf l (segmentAt s p .label)) e .0
 
 pub valid-tenant : (s : SegmentTable) (c : Call) → callValid s c ≡ true → c .tenant .0 < tenants
 unfolding callValid
@@ -68,6 +78,11 @@ module _ (s : SegmentTable) (c : Call) where
       let b = grant-passed (callValid s c) 22 done (require (cleared s c) 1 (granted done)) (a .1) in
       let d = grant-passed (cleared s c) 1 done (granted done) (b .1) in
       record { sound = a .0; valid = b .0; cleared = d .0 }
+
+  pub step-stopped : (o : Outcome) (e : Errno) → o ≡ unlabeled s (Refused e) → refusedBy e ≡ startOf s c → Results o (stepOf s c)
+  unfolding stepOf
+  step-stopped o e h k =
+      results-refused o s (withSegment s (target s c) (written (segmentAt s (target s c)) (c .label) (c .action))) (answerOf s c) e h (start-refused e k)
 
 module _ (s : SegmentTable) (c : Call) (w : Started s c) where
   started-answer : answerOf s c ≡ accessOf s c

@@ -22,7 +22,7 @@ owns-requires c κs = search needs
 contains-requires : tie.Need-contains-requires
 contains-requires c κs =
     let s = c .before .before .before in
-    clearance-valid _ _ (s .pre .0) (s .pre .1 .1)
+    clearance-valid (s .args .t1) (s .args .t) (s .pre .0) (s .pre .1 .1)
 
 returns : tie.Need-returns
 unfolding clearedBy
