@@ -71,6 +71,10 @@ unfolding callValid admitted
 valid-tenant s t l a e =
     ltb-true (t .0) tenants (first-true _ (leb 1 (ceilingAt s t)) (three-true (ltb (t .0) tenants && leb 1 (ceilingAt s t)) (Label.validOf l) (numbersValid a) e .0))
 
+pub valid-numbers : (s : SegmentTable) (t : TenantId) (l : Label) (a : Action) → callValid s (callOf t l a) ≡ true → numbersValid a ≡ true
+unfolding callValid
+valid-numbers s t l a e = three-true (admitted s t) (Label.validOf l) (numbersValid a) e .2
+
 -- ---- two states that are alike for a tenant
 
 -- both sound, the same in what no tenant call changes, and the same in t's own slots

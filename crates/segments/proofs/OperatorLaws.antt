@@ -31,7 +31,7 @@ use Rattle.segments.specs.declared.Tenant.{Tenant}
 use Rattle.segments.specs.declared.TenantId.{TenantId}
 use Rattle.segments.proofs.SegmentsLaws.{tenant-kept, tenant-written}
 use Rattle.segments.proofs.SlotsLaws.{count-stays, first-stays, own-bound, owns-stays, same-tenant}
-use Rattle.segments.proofs.SoundLaws.{Sound, held, parts-sound, slot-held, sound-parts, zeros-held}
+use Rattle.segments.proofs.SoundLaws.{Sound, is-admitted, held, parts-sound, slot-held, sound-parts, zeros-held}
 
 -- ---- another record for a tenant
 
@@ -114,11 +114,6 @@ not-admitted s t l e =
     ⊎-elim (λ (i : ceilingAt s t ≡ 0). i)
     (λ (i : ceilingAt s t ≡ 0 → ⊥). absurd (true≢false (sym e ∙ ap not (both (lt-ltb _ _ l) (le-leb 1 (ceilingAt s t) (omega (arith, i)))))))
     (same-or-not (ceilingAt s t) 0)
-
-is-admitted : (s : SegmentTable) (t : TenantId) → admitted s t ≡ true → (t .0 < tenants) × (1 ≤ ceilingAt s t)
-unfolding admitted
-is-admitted s t e =
-    (ltb-true _ _ (first-true (ltb (t .0) tenants) (leb 1 (ceilingAt s t)) e), leb-true _ _ (second-true (ltb (t .0) tenants) (leb 1 (ceilingAt s t)) e))
 
 -- a record of at least a page
 tenant-sound-of : (n : ℕ) (c : Tuple) → 1 ≤ n → Tuple.validOf c ≡ true → not (Tuple.emptyOf c) ≡ true → tenantSound (tenantOf n c) ≡ true

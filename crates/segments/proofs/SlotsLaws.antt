@@ -6,8 +6,9 @@ use native.Mathlib.Omega.{arith}
 use borrow.Author.Tests.{le-leb, leb-true, lt-ltb, ltb-true}
 use lib.Dec.{leb, ltb}
 use Rattle.label.proofs.BoolLaws.{both, three-true}
-use Rattle.segments.specs.Segments.{slot, slots, tenantId, tenants, withTenant}
-use Rattle.segments.specs.Slots.{firstSlot, owns, slotCount}
+use Rattle.label.proofs.SearchLaws.{sum-term}
+use Rattle.segments.specs.Segments.{pagesAt, slot, slots, tenantId, tenants, withTenant}
+use Rattle.segments.specs.Slots.{firstSlot, owns, pagesOf, slotCount}
 use Rattle.segments.specs.declared.SegmentTable.{SegmentTable}
 use Rattle.segments.specs.declared.Slot.{Slot}
 use Rattle.segments.specs.declared.Tenant.{Tenant}
@@ -90,3 +91,8 @@ owns-kept s u t p e = rw (first-kept s u t e, count-kept s u t e)
 pub owns-stays : (s : SegmentTable) (t u : TenantId) (x : Tenant) (p : Slot) → owns (withTenant s t x) u p ≡ owns s u p
 unfolding owns
 owns-stays s t u x p = rw (first-stays s t u x, count-stays s t u x)
+
+-- the pages of a slot of a tenant's own are among its pages
+pub own-pages : (s : SegmentTable) (t : TenantId) (p : Slot) → owns s t p ≡ true → pagesAt s p ≤ pagesOf s t
+unfolding pagesOf
+own-pages s t p o = let k = own-parts s t p o in sum-term (λ p. pagesAt s (slot p)) (p .0) (firstSlot s t) (slotCount s t) (k .from) (k .to)

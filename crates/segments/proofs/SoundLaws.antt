@@ -1,12 +1,12 @@
 -- Soundness part by part, and that every call keeps it. Assumes nothing.
-use mathlib.Core.Bool.{Bool, true, cond, _&&_}
+use mathlib.Core.Bool.{Bool, true, cond, not, _&&_}
 use mathlib.Core.Logic.{⊎-elim}
 use mathlib.Core.Option.{none, some}
 use mathlib.Core.Path.{_≡_, refl, sym, ap, _∙_}
 use Prim.Native.Nat.{ℕ, _+_, _-_, _<_, _≤_}
 use native.Mathlib.Omega.{arith}
-use borrow.Author.Tests.{le-leb, leb-true}
-use lib.Dec.{leb}
+use borrow.Author.Tests.{le-leb, leb-true, ltb-true}
+use lib.Dec.{leb, ltb}
 use Rattle.label.specs.Answer.{Answer, granted, refused}
 use Rattle.label.specs.Index.{any, every}
 use Rattle.label.specs.Label
@@ -14,9 +14,9 @@ use Rattle.label.specs.declared.Label.{Label}
 use Rattle.label.proofs.BoolLaws.{both, first-true, second-true, three-true}
 use Rattle.label.proofs.IndexLaws.{every-all, every-at}
 use Rattle.label.proofs.LabelLaws.{equal-exact}
-use Rattle.label.proofs.SearchLaws.{any-of, any-then, same-or-not, sum-but, sum-same, sum-term}
+use Rattle.label.proofs.SearchLaws.{any-of, any-then, same-or-not, sum-but, sum-same}
 use Rattle.range.specs.Tuple
-use Rattle.segments.specs.Calls.{answerOf, callOf, callValid, cleared, lookedAt, numbersValid, slotFor, slotOr0, slotValid, stepOf, writable, written}
+use Rattle.segments.specs.Calls.{answerOf, callOf, cleared, lookedAt, slotFor, slotOr0, slotValid, stepOf, writable, written}
 use Rattle.segments.specs.Replies.{Grant}
 use Rattle.segments.specs.Segments.{Lengths, ceilingAt, clearanceAt, maxPages, pagesAt, pagesValid, segmentAt, segmentOf, slot, slots, tenantAt, tenantId, tenants, withSegment, zeroSegment}
 use Rattle.segments.specs.Slots.{ceilingsOf, filled, firstSlot, owns, pagesOf, slotCount}
@@ -26,10 +26,11 @@ use Rattle.segments.specs.declared.Action.the-variants.{Open, Size, Post
 use Rattle.segments.specs.declared.Segment.{Segment}
 use Rattle.segments.specs.declared.SegmentTable.{SegmentTable}
 use Rattle.segments.specs.declared.Slot.{Slot}
+use Rattle.segments.specs.declared.Tenant.{Tenant}
 use Rattle.segments.specs.declared.TenantId.{TenantId}
-use Rattle.segments.proofs.CallsLaws.{Passed, granted-passed, inward, look-next, look-or-not, lowest-own, next-granted, next-refused, target-own, valid-tenant, writable-own}
+use Rattle.segments.proofs.CallsLaws.{Passed, granted-passed, inward, look-next, look-or-not, lowest-own, next-granted, next-refused, target-own, valid-numbers, valid-tenant, writable-own}
 use Rattle.segments.proofs.SegmentsLaws.{segment-kept, segment-written}
-use Rattle.segments.proofs.SlotsLaws.{count-kept, first-kept, own-of, own-parts, own-slot, owner-unique, owns-kept, same-slot, same-tenant}
+use Rattle.segments.proofs.SlotsLaws.{count-kept, first-kept, own-of, own-pages, own-parts, own-slot, owner-unique, owns-kept, same-slot, same-tenant}
 
 -- ---- the parts
 
@@ -67,6 +68,19 @@ parts-sound s h =
     (every-all (λ p. slotSound s (slot p)) slots (λ p l. h .segment (slot p) l)))
     (le-leb _ _ (h .ceilings)))
     (every-all (λ t. underCeiling s (tenantId t)) tenants (λ t l. le-leb _ _ (h .pages (tenantId t) l)))
+
+-- ---- tenants
+
+-- an admitted tenant is one, and has a ceiling of at least 1
+pub is-admitted : (s : SegmentTable) (t : TenantId) → admitted s t ≡ true → (t .0 < tenants) × (1 ≤ ceilingAt s t)
+unfolding admitted
+is-admitted s t e =
+    (ltb-true _ _ (first-true (ltb (t .0) tenants) (leb 1 (ceilingAt s t)) e), leb-true _ _ (second-true (ltb (t .0) tenants) (leb 1 (ceilingAt s t)) e))
+
+-- a sound record's clearance is valid
+pub tenant-clearance : (x : Tenant) → tenantSound x ≡ true → Tuple.validOf (x .clearance) ≡ true
+unfolding tenantSound
+tenant-clearance x e = first-true (Tuple.validOf (x .clearance)) (cond (leb 1 (x .ceiling)) (not (Tuple.emptyOf (x .clearance))) (Tuple.emptyOf (x .clearance))) e
 
 -- ---- what a slot may hold
 
@@ -156,10 +170,6 @@ module _ (s : SegmentTable) (t : TenantId) (q : Slot) (x : Segment) (lengths : L
 
 -- ---- a tenant call
 
-valid-numbers : (s : SegmentTable) (t : TenantId) (l : Label) (a : Action) → callValid s (callOf t l a) ≡ true → numbersValid a ≡ true
-unfolding callValid
-valid-numbers s t l a e = three-true (admitted s t) (Label.validOf l) (numbersValid a) e .2
-
 cleared-label : (s : SegmentTable) (t : TenantId) (l : Label) (a : Action) → cleared s (callOf t l a) ≡ true → Tuple.containsOf (clearanceAt s t) l ≡ true
 unfolding cleared
 cleared-label s t l a e = e
@@ -200,10 +210,6 @@ module _ (s : SegmentTable) (t : TenantId) (l : Label) (h : Sound s) where
   written-held (Close x) p r n f = zeros-held s p
 
   -- and its caller's pages stay under the ceiling
-  own-pages : (p : Slot) → owns s t p ≡ true → pagesAt s p ≤ pagesOf s t
-  unfolding pagesOf
-  own-pages p o = let k = own-parts s t p o in sum-term (λ p. pagesAt s (slot p)) (p .0) (firstSlot s t) (slotCount s t) (k .from) (k .to)
-
   written-fits : (a : Action) (p : Slot) → Passed s t l a → slotFor s t a ≡ some p → owns s t p ≡ true
       → pagesOf s t + written (segmentAt s p) l a .pages ≤ ceilingAt s t + pagesAt s p
   written-fits (Open x) p r f o = let e = leb-true (pagesOf s t + x .pages) (ceilingAt s t) (r .fits) in omega arith
@@ -211,7 +217,7 @@ module _ (s : SegmentTable) (t : TenantId) (l : Label) (h : Sound s) where
       let q : x .slot ≡ p = cc in
       let e = leb-true (pagesOf s t - pagesAt s (x .slot) + x .pages) (ceilingAt s t) (r .fits) in
       let g : pagesAt s (x .slot) ≡ pagesAt s p = ap (pagesAt s) q in
-      let k = own-pages p o in
+      let k = own-pages s t p o in
       omega arith
   written-fits (Post x) p r f o = let k = h .pages t (own-parts s t p o .tenant) in omega arith
   written-fits (Look x) p r f o = let k = h .pages t (own-parts s t p o .tenant) in omega arith
