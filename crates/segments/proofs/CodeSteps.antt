@@ -1,23 +1,20 @@
 -- What the proofs of the calls' code need of their answers. Assumes nothing.
-use mathlib.Core.Bool.{Bool, true, false, _&&_, true≢false}
+use mathlib.Core.Bool.{Bool, true, false, _&&_}
 use mathlib.Core.List.{List}
-use mathlib.Core.Option.{none}
 use mathlib.Core.Path.{_≡_, refl, sym, ap, _∙_}
 use Prim.Native.Nat.{ℕ, _<_}
 use native.Mathlib.Omega.{arith}
-use borrow.Author.Tests.{ltb-true}
-use lib.Dec.{ltb}
 use lib.Seq.{set-getD}
-use Rattle.label.specs.Answer.{Answer, granted, refused, refusedBy, require}
+use Rattle.label.specs.Answer.{Answer, granted, refusedBy, require}
 use Rattle.label.specs.Label
 use Rattle.label.specs.declared.Label.{Label}
 use Rattle.label.specs.declared.errno.Errno.{Errno}
 use Rattle.label.proofs.AnswerLaws.{grant-passed, passed}
 use Rattle.label.proofs.BoolLaws.{first-true, second-true, three-true}
-use Rattle.segments.specs.Calls.{accessOf, answerOf, callOf, callValid, cleared, numbersValid, slotValid, stepOf, target, visible, writable, written}
+use Rattle.segments.specs.Calls.{accessOf, answerOf, callOf, callValid, cleared, numbersValid, stepOf, target, visible, writable, written}
 use Rattle.segments.specs.Found.{Started, lookCall, startOf, unlabeled}
 use Rattle.segments.specs.Replies.{Grant, Results, done, leaving, replyOf, shown, shownLabel}
-use Rattle.segments.specs.Segments.{segmentAt, slots, tableOf, tenants, withSegment}
+use Rattle.segments.specs.Segments.{segmentAt, tableOf, tenants, withSegment}
 use Rattle.segments.specs.Slots.{filled, owns}
 use Rattle.segments.specs.Sound.{admitted, sound}
 use Rattle.segments.specs.declared.Action.{Action}

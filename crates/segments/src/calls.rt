@@ -15,9 +15,9 @@ use crate::Shown;
 use crate::SizeCall;
 use crate::Slot;
 use crate::TenantId;
-use crate::operator::unlabeled;
 use crate::slots;
 use crate::state;
+use crate::unlabeled;
 use label::Label;
 use label::answer;
 use label::components;
@@ -26,6 +26,7 @@ ghost use mathlib.Core.Path.{_≡_};
 ghost use mathlib.Core.Bool.{true};
 ghost use Prim.Native.Nat.{_<_};
 ghost use Rattle.label.specs.Answer.{outcomeOf};
+ghost use Rattle.label.specs.Label as labels;
 ghost use Rattle.segments.specs.Calls as rules;
 ghost use Rattle.segments.specs.Calls.{numbersValid, slotValid, stepOf};
 ghost use Rattle.segments.specs.Found.{Started, closeCall, fitsIn, leftOf, lookCall, openCall, postCall, sizeCall, startOf};
@@ -87,18 +88,31 @@ fn start(table: SegmentTable, call: Call) -> answer::Outcome
     answer::Outcome::Granted
 }
 
+// Whether two labels that were tested are equal.
+fn equal(a: Label, b: Label) -> bool
+    ensures { λ r. ⌜ r ≡ labels.equalOf a b ⌝ }
+{
+    let x = a.categories;
+    let y = b.categories;
+    components::equal(a.hierarchy, x, b.hierarchy, y)
+}
+
+// Whether a dominates b, of labels that were tested.
+fn dominates(a: Label, b: Label) -> bool
+    ensures { λ r. ⌜ r ≡ labels.dominatesOf a b ⌝ }
+{
+    let x = a.categories;
+    let y = b.categories;
+    components::dominates(a.hierarchy, x, b.hierarchy, y)
+}
+
 // Whether the slot is the tenant's own, filled, and its label the subject's.
 fn writable(table: SegmentTable, tenant: TenantId, label: Label, slot: Slot) -> bool
     requires { ⌜ slot .0 < slots ⌝ }
     ensures { λ r. ⌜ r ≡ rules.writable table tenant label slot ⌝ }
 {
     let x = table.segments[slot.0 as usize];
-    let held = x.label;
-    let a = label.categories;
-    let b = held.categories;
-    slots::owns(table, tenant, slot)
-        & slots::filled(table, slot)
-        & components::equal(label.hierarchy, a, held.hierarchy, b)
+    slots::owns(table, tenant, slot) & slots::filled(table, slot) & equal(label, x.label)
 }
 
 // Whether the slot is filled and the subject's label dominates the label there.
@@ -107,10 +121,7 @@ fn visible(table: SegmentTable, label: Label, slot: Slot) -> bool
     ensures { λ r. ⌜ r ≡ rules.visible table label slot ⌝ }
 {
     let x = table.segments[slot.0 as usize];
-    let held = x.label;
-    let a = label.categories;
-    let b = held.categories;
-    slots::filled(table, slot) & components::dominates(label.hierarchy, a, held.hierarchy, b)
+    slots::filled(table, slot) & dominates(label, x.label)
 }
 
 // Whether the tenant's ceiling has room for pages, some of which take the place of others.
@@ -142,10 +153,17 @@ fn open_started(table: SegmentTable, tenant: TenantId, label: Label, pages: u64)
         pages: pages,
         version: 0,
     };
-    unlabeled(state::with_segment(table, slot, x), Reply::Opened(slot))
+    let next = state::with_segment(table, slot, x);
+    unlabeled(next, Reply::Opened(slot))
 }
 
-fn size_started(table: SegmentTable, tenant: TenantId, label: Label, slot: Slot, pages: u64) -> Outcome
+fn size_started(
+    table: SegmentTable,
+    tenant: TenantId,
+    label: Label,
+    slot: Slot,
+    pages: u64,
+) -> Outcome
     requires { ⌜ Started table (sizeCall tenant label slot pages) ⌝ }
     ensures { λ r. ⌜ Results r (stepOf table (sizeCall tenant label slot pages)) ⌝ }
 {
@@ -157,10 +175,17 @@ fn size_started(table: SegmentTable, tenant: TenantId, label: Label, slot: Slot,
         return unlabeled(table, Reply::Refused(Errno::NoMem));
     }
     x.pages = pages;
-    unlabeled(state::with_segment(table, slot, x), Reply::Done)
+    let next = state::with_segment(table, slot, x);
+    unlabeled(next, Reply::Done)
 }
 
-fn post_started(table: SegmentTable, tenant: TenantId, label: Label, slot: Slot, version: u64) -> Outcome
+fn post_started(
+    table: SegmentTable,
+    tenant: TenantId,
+    label: Label,
+    slot: Slot,
+    version: u64,
+) -> Outcome
     requires { ⌜ Started table (postCall tenant label slot version) ⌝ }
     ensures { λ r. ⌜ Results r (stepOf table (postCall tenant label slot version)) ⌝ }
 {
@@ -169,7 +194,8 @@ fn post_started(table: SegmentTable, tenant: TenantId, label: Label, slot: Slot,
     }
     let mut x = table.segments[slot.0 as usize];
     x.version = version;
-    unlabeled(state::with_segment(table, slot, x), Reply::Done)
+    let next = state::with_segment(table, slot, x);
+    unlabeled(next, Reply::Done)
 }
 
 fn look_started(table: SegmentTable, tenant: TenantId, label: Label, slot: Slot) -> Outcome
@@ -200,7 +226,10 @@ fn close_started(table: SegmentTable, tenant: TenantId, label: Label, slot: Slot
     if !writable(table, tenant, label, slot) {
         return unlabeled(table, Reply::Refused(Errno::Access));
     }
-    unlabeled(state::with_segment(table, slot, state::zero_segment()), Reply::Done)
+    unlabeled(
+        state::with_segment(table, slot, state::zero_segment()),
+        Reply::Done,
+    )
 }
 
 fn started(table: SegmentTable, call: Call) -> Outcome
@@ -266,7 +295,13 @@ pub fn size(table: SegmentTable, tenant: TenantId, label: Label, slot: Slot, pag
 }
 
 // The slot gets another version.
-pub fn post(table: SegmentTable, tenant: TenantId, label: Label, slot: Slot, version: u64) -> Outcome
+pub fn post(
+    table: SegmentTable,
+    tenant: TenantId,
+    label: Label,
+    slot: Slot,
+    version: u64,
+) -> Outcome
     ensures { λ r. ⌜ Results r (stepOf table (postCall tenant label slot version)) ⌝ }
 {
     let action = Action::Post(PostCall {

@@ -1,5 +1,4 @@
 // The operator's calls.
-use crate::Answer;
 use crate::Outcome;
 use crate::Reply;
 use crate::SLOTS;
@@ -9,6 +8,7 @@ use crate::Tenant;
 use crate::TenantId;
 use crate::slots;
 use crate::state;
+use crate::unlabeled;
 use label::answer::Test;
 use label::errno::Errno;
 use range::tuple;
@@ -16,23 +16,9 @@ use range::tuple::Tuple;
 ghost use mathlib.Core.Path.{_≡_};
 ghost use mathlib.Core.Bool.{not, _&&_};
 ghost use Rattle.range.specs.Tuple as tuples;
-ghost use Rattle.segments.specs.Found.{unlabeled};
 ghost use Rattle.segments.specs.Operator.{admitOf, makeOf, setCeilingOf};
 ghost use Rattle.segments.specs.Replies.{Results};
 ghost use Rattle.segments.specs.Segments.{emptyTable};
-
-// A state and a reply that shows no label.
-pub(crate) fn unlabeled(table: SegmentTable, reply: Reply) -> Outcome
-    ensures { λ r. ⌜ r ≡ unlabeled table reply ⌝ }
-{
-    Outcome {
-        table: table,
-        answer: Answer {
-            reply: reply,
-            label: label::zero(),
-        },
-    }
-}
 
 // The state with no tenants.
 fn empty_table(pool: u64) -> SegmentTable

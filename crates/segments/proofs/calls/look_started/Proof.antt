@@ -1,12 +1,12 @@
+use borrow.Author.Needs.{needs}
 use mathlib.Core.Path.{sym, _∙_}
+use Prim.Native.Nat.{_<_}
 use native.Mathlib.Omega.{arith}
 use borrow.Author.Tests.{ltb-true, not-false, not-true}
 use Rattle.label.specs.declared.errno.Errno.the-variants.{Access}
 use Rattle.segments.specs.Calls.{accessOf}
 use Rattle.segments.specs.Segments.{slots}
 use Rattle.segments.proofs.CodeSteps.{look-granted, started-numbers, step-refused}
-use Prim.Native.Nat.{_<_}
-use borrow.Author.Needs.{needs}
 use Rattle.segments.proofs.calls.look_started.Statement.{statement}
 use Rattle.segments.proofs.calls.look_started.Tie as tie
 

@@ -3,10 +3,10 @@ use mathlib.Core.Bool.{true}
 use mathlib.Core.Path.{_≡_, refl, sym, ap, _∙_}
 use Prim.Native.Nat.{_+_, _-_, _<_}
 use native.Mathlib.Omega.{arith}
-use lib.Dec.{leb}
 use borrow.Author.Tests.{ltb-true, not-false, not-true}
-use Rattle.label.proofs.BoolLaws.{first-true}
+use lib.Dec.{leb}
 use Rattle.label.specs.declared.errno.Errno.the-variants.{Access, NoMem}
+use Rattle.label.proofs.BoolLaws.{first-true}
 use Rattle.segments.specs.Calls.{accessOf, slotValid, writable}
 use Rattle.segments.specs.Found.{unlabeled}
 use Rattle.segments.specs.Replies.{done}

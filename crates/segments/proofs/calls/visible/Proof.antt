@@ -1,5 +1,5 @@
-use Rattle.segments.specs.Calls.{visible}
 use borrow.Author.Needs.{needs}
+use Rattle.segments.specs.Calls.{visible}
 use Rattle.segments.proofs.calls.visible.Statement.{statement}
 use Rattle.segments.proofs.calls.visible.Tie as tie
 

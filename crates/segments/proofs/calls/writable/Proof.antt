@@ -1,5 +1,5 @@
-use Rattle.segments.specs.Calls.{writable}
 use borrow.Author.Needs.{needs}
+use Rattle.segments.specs.Calls.{writable}
 use Rattle.segments.proofs.calls.writable.Statement.{statement}
 use Rattle.segments.proofs.calls.writable.Tie as tie
 
