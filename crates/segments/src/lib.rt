@@ -115,9 +115,9 @@ pub(crate) fn unlabeled(table: SegmentTable, reply: Reply) -> Outcome
     ensures { λ r. ⌜ r ≡ found.unlabeled table reply ⌝ }
 {
     Outcome {
-        table: table,
+        table,
         answer: Answer {
-            reply: reply,
+            reply,
             label: label::zero(),
         },
     }

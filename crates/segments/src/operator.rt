@@ -30,7 +30,7 @@ fn empty_table(pool: u64) -> SegmentTable
     };
     let segment = state::zero_segment();
     SegmentTable {
-        pool: pool,
+        pool,
         tenants: [tenant; TENANTS],
         segments: [segment; SLOTS],
     }
@@ -73,11 +73,9 @@ pub fn admit(table: SegmentTable, tenant: TenantId, ceiling: u64, clearance: Tup
     if !slots::fits(slots::pool_left(table), 0, ceiling) {
         return unlabeled(table, Reply::Refused(Errno::NoMem));
     }
-    let x = Tenant {
-        ceiling: ceiling,
-        clearance: clearance,
-    };
-    unlabeled(state::with_tenant(table, tenant, x), Reply::Done)
+    let admitted = Tenant { ceiling, clearance };
+    let next = state::with_tenant(table, tenant, admitted);
+    unlabeled(next, Reply::Done)
 }
 
 // Gives an admitted tenant another ceiling.
@@ -93,14 +91,12 @@ pub fn set_ceiling(table: SegmentTable, tenant: TenantId, ceiling: u64) -> Outco
     if !slots::kept(slots::pages_left(table, tenant, ceiling)) {
         return unlabeled(table, Reply::Refused(Errno::Busy));
     }
-    let x = table.tenants[tenant.0 as usize];
-    if !slots::fits(slots::pool_left(table), x.ceiling, ceiling) {
+    let old = table.tenants[tenant.0 as usize];
+    if !slots::fits(slots::pool_left(table), old.ceiling, ceiling) {
         return unlabeled(table, Reply::Refused(Errno::NoMem));
     }
-    let clearance = x.clearance;
-    let changed = Tenant {
-        ceiling: ceiling,
-        clearance: clearance,
-    };
-    unlabeled(state::with_tenant(table, tenant, changed), Reply::Done)
+    let clearance = old.clearance;
+    let changed = Tenant { ceiling, clearance };
+    let next = state::with_tenant(table, tenant, changed);
+    unlabeled(next, Reply::Done)
 }

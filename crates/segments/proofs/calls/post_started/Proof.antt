@@ -30,11 +30,11 @@ returns c =
     let k = c .before .before in
     step-refused _ _ (k .before .pre) _ Access (c .unlabeled .ensures) (rw (sym (k .writable .ensures) ∙ not-true _ (c .before .if1 .taken)))
 
-mul-x : tie.Need-mul-x
-mul-x c = let h = named (c .before .before) in omega arith
+mul-segment : tie.Need-mul-segment
+mul-segment c = let h = named (c .before .before) in omega arith
 
-element-copy-out-x : tie.Need-element-copy-out-x
-element-copy-out-x c = let h = named (c .before .before) in omega arith
+element-copy-out-segment : tie.Need-element-copy-out-segment
+element-copy-out-segment c = let h = named (c .before .before) in omega arith
 
 with-segment-requires : tie.Need-with-segment-requires
 with-segment-requires c κs = named (c .before .before .before)
@@ -56,8 +56,8 @@ post-started-spec =
     writable-requires
     unlabeled-requires
     returns
-    mul-x
-    element-copy-out-x
+    mul-segment
+    element-copy-out-segment
     with-segment-requires
     unlabeled-requires-2
     returns-2)
