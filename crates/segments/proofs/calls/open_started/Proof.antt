@@ -1,12 +1,12 @@
-use Rattle.segments.specs.Replies.{opened}
 use borrow.Author.Needs.{needs}
 use mathlib.Core.Path.{_≡_, refl, sym, ap, _∙_}
 use Prim.Native.Nat.{_+_, _<_}
-use lib.Dec.{leb}
 use borrow.Author.Tests.{not-false, not-true}
+use lib.Dec.{leb}
 use Rattle.label.specs.declared.errno.Errno.the-variants.{NoMem, NoSpace}
 use Rattle.segments.specs.Calls.{accessOf, found, slotOr0}
 use Rattle.segments.specs.Found.{unlabeled}
+use Rattle.segments.specs.Replies.{opened}
 use Rattle.segments.specs.Segments.{ceilingAt, segmentOf, tenants, withSegment}
 use Rattle.segments.specs.Slots.{lowestEmpty, pagesOf}
 use Rattle.segments.specs.declared.Reply.the-variants.{Opened}

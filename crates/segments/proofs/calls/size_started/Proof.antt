@@ -3,10 +3,10 @@ use mathlib.Core.Bool.{true}
 use mathlib.Core.Path.{_≡_, refl, sym, ap, _∙_}
 use Prim.Native.Nat.{_+_, _-_, _<_}
 use native.Mathlib.Omega.{arith}
-use lib.Dec.{leb}
 use borrow.Author.Tests.{ltb-true, not-false, not-true}
-use Rattle.label.proofs.BoolLaws.{first-true}
+use lib.Dec.{leb}
 use Rattle.label.specs.declared.errno.Errno.the-variants.{Access, NoMem}
+use Rattle.label.proofs.BoolLaws.{first-true}
 use Rattle.segments.specs.Calls.{accessOf, slotValid, writable}
 use Rattle.segments.specs.Found.{unlabeled}
 use Rattle.segments.specs.Replies.{done}
@@ -46,11 +46,11 @@ returns c =
     let k = c .before .before in
     step-refused _ _ (k .before .pre) _ Access (c .unlabeled .ensures) (rw (sym (k .writable .ensures) ∙ not-true _ (c .before .if1 .taken)))
 
-mul-x : tie.Need-mul-x
-mul-x c = let h = named (c .before .before) in omega arith
+mul-segment : tie.Need-mul-segment
+mul-segment c = let h = named (c .before .before) in omega arith
 
-element-copy-out-x : tie.Need-element-copy-out-x
-element-copy-out-x c = let h = named (c .before .before) in omega arith
+element-copy-out-segment : tie.Need-element-copy-out-segment
+element-copy-out-segment c = let h = named (c .before .before) in omega arith
 
 has-room-requires : tie.Need-has-room-requires
 has-room-requires c κs = started-tenant _ _ (c .before .before .before .pre)
@@ -85,8 +85,8 @@ size-started-spec =
     writable-requires
     unlabeled-requires
     returns
-    mul-x
-    element-copy-out-x
+    mul-segment
+    element-copy-out-segment
     has-room-requires
     unlabeled-requires-2
     returns-2

@@ -1,10 +1,10 @@
-use Rattle.label.specs.Errno.{detailOf, numberOf}
-use Rattle.range.specs.Tuple
+use borrow.Author.Needs.{needs}
 use mathlib.Core.Path.{sym, ap, _∙_}
+use Rattle.label.specs.Errno.{detailOf, numberOf}
 use Rattle.label.specs.Answer.{testOf}
 use Rattle.label.proofs.AnswerLaws.{refusal-stopped}
+use Rattle.range.specs.Tuple
 use Rattle.segments.proofs.CodeLaws.{told}
-use borrow.Author.Needs.{needs}
 use Rattle.segments.proofs.operator.clearance_valid.Statement.{statement}
 use Rattle.segments.proofs.operator.clearance_valid.Tie as tie
 

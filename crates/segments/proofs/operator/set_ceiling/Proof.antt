@@ -4,8 +4,8 @@ use mathlib.Core.Option.{Option}
 use mathlib.Core.Path.{_≡_, refl, sym, ap, _∙_}
 use Prim.Native.Nat.{ℕ, _+_, _-_, _<_}
 use native.Mathlib.Omega.{arith}
-use lib.Dec.{leb}
 use borrow.Author.Tests.{not-false, not-true}
+use lib.Dec.{leb}
 use Rattle.label.specs.declared.errno.Errno.the-variants.{Busy, Invalid, NoMem}
 use Rattle.label.proofs.BoolLaws.{first-true}
 use Rattle.segments.specs.Found.{fitsIn, keptIn, unlabeled}
@@ -97,11 +97,11 @@ returns-3 c =
     let e = f .before .before in
     results-refused _ (e .before .before .args .t1) _ _ Busy (c .unlabeled3 .ensures) (rw (is-sound e, is-valid f, in-use (t .before) ∙ not-true _ (t .if3 .taken)))
 
-mul-x : tie.Need-mul-x
-mul-x c = let h = inside (c .before .before .before) in omega arith
+mul-old : tie.Need-mul-old
+mul-old c = let h = inside (c .before .before .before) in omega arith
 
-element-copy-out-x : tie.Need-element-copy-out-x
-element-copy-out-x c = let h = inside (c .before .before .before) in omega arith
+element-copy-out-old : tie.Need-element-copy-out-old
+element-copy-out-old c = let h = inside (c .before .before .before) in omega arith
 
 pool-left-requires : tie.Need-pool-left-requires
 pool-left-requires c κs = search needs
@@ -151,8 +151,8 @@ set-ceiling-spec =
     kept-requires
     unlabeled-requires-3
     returns-3
-    mul-x
-    element-copy-out-x
+    mul-old
+    element-copy-out-old
     pool-left-requires
     fits-requires
     unlabeled-requires-4

@@ -1,7 +1,7 @@
-use native.Mathlib.Nat.{zero-add}
 use borrow.Author.Needs.{needs}
 use mathlib.Core.Path.{sym}
 use Prim.Native.Nat.{_-_}
+use native.Mathlib.Nat.{zero-add}
 use Rattle.segments.specs.Segments.{ceilingAt, tenantId, tenants}
 use Rattle.segments.specs.Slots.{ceilingsOf}
 use Rattle.segments.proofs.CodeLaws.{Taken, take-all, take-next, take-none, take-over}
