@@ -50,3 +50,7 @@ grants-same x y e = ap (valueOr x) e
 pub refusal-stopped : {A : Type 0} (t : Bool) (n m : ℕ) (detail : Option ℕ) (y : A) → refused m detail ≡ require t n (granted y) → t ≡ false
 refusal-stopped true n m detail y e = absurd (true≢false (sym (ap isGrant e)))
 refusal-stopped false n m detail y e = refl
+
+-- a grant tells what was to be told, and that the check before it was passed
+pub grant-told : {A : Type 0} (t : Bool) (n : ℕ) (x y : A) → granted x ≡ require t n (granted y) → (t ≡ true) × (x ≡ y)
+grant-told t n x y e = let p = grant-passed t n x (granted y) e in (p .0, grants-same x y (p .1))

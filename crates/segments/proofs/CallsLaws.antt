@@ -14,7 +14,7 @@ use Rattle.label.specs.Label
 use Rattle.label.specs.declared.Label.{Label}
 use Rattle.label.proofs.AnswerLaws.{grant-passed, require-same}
 use Rattle.label.proofs.BoolLaws.{first-true, three-true}
-use Rattle.label.proofs.SearchLaws.{first-least, first-same, same-or-not, sum-same}
+use Rattle.label.proofs.SearchLaws.{first-same, same-or-not, sum-same}
 use Rattle.range.specs.Tuple
 use Rattle.segments.specs.Calls.{accessOf, answerOf, callOf, callValid, cleared, found, grantOf, lookedAt, numbersValid, pagesFit, permitted, slotFor, slotOr0, stepOf, target, visible, writable, written}
 use Rattle.segments.specs.Replies.{Grant, left, shown}
@@ -30,21 +30,9 @@ use Rattle.segments.specs.declared.Slot.{Slot}
 use Rattle.segments.specs.declared.Tenant.{Tenant}
 use Rattle.segments.specs.declared.TenantId.{TenantId}
 use Rattle.segments.proofs.SegmentsLaws.{lengths-kept, segment-kept, segment-same, segment-written, tenant-same}
-use Rattle.segments.proofs.SlotsLaws.{count-kept, first-kept, own-of, own-slot, owns-kept, same-slot}
+use Rattle.segments.proofs.SlotsLaws.{lowest-own, count-kept, first-kept, own-of, own-slot, owns-kept, same-slot}
 
 -- ---- the slot that a call is about
-
--- a slot that is found for an open is its tenant's own
-pub lowest-own : (s : SegmentTable) (t : TenantId) (p : Slot) → t .0 < tenants → lowestEmpty s t ≡ some p → owns s t p ≡ true
-unfolding lowestEmpty
-lowest-own s t p h e = go (firstFrom (emptyAt s) (firstSlot s t) (slotCount s t)) refl e
-  where
-    go : (o : Option ℕ) → firstFrom (emptyAt s) (firstSlot s t) (slotCount s t) ≡ o → asSlot o ≡ some p → owns s t p ≡ true
-    go none f e = let z : _≡_ {A = ℕ} 0 1 = cc in absurd (omega arith)
-    go (some k) f e =
-        let q : slot k ≡ p = cc in
-        let r = first-least (emptyAt s) (firstSlot s t) (slotCount s t) k f in
-        ap (owns s t) (sym q) ∙ own-of s t (slot k) h (r .0 .above) (r .1)
 
 pub writable-own : (s : SegmentTable) (t : TenantId) (l : Label) (p : Slot) → writable s t l p ≡ true → (owns s t p ≡ true) × (filled s p ≡ true)
 unfolding writable

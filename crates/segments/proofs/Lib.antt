@@ -3,6 +3,6 @@ pub mod SlotsLaws
 pub mod CallsLaws
 pub mod SoundLaws
 pub mod OperatorLaws
-pub mod CodeLaws
-pub mod CodeSteps
+pub mod LimitLaws
+pub mod ResultsLaws
 pub mod SegmentsExamples

@@ -31,7 +31,7 @@ use Rattle.segments.specs.declared.Tenant.{Tenant}
 use Rattle.segments.specs.declared.TenantId.{TenantId}
 use Rattle.segments.proofs.SegmentsLaws.{tenant-kept, tenant-written}
 use Rattle.segments.proofs.SlotsLaws.{count-stays, first-stays, own-bound, owns-stays, same-tenant}
-use Rattle.segments.proofs.SoundLaws.{Sound, is-admitted, held, parts-sound, slot-held, sound-parts, zeros-held}
+use Rattle.segments.proofs.SoundLaws.{Sound, admitted-parts, held, parts-sound, slot-held, sound-parts, zeros-held}
 
 -- ---- another record for a tenant
 
@@ -164,7 +164,7 @@ granted-ceiling s t n l h g e =
     let e2 = grant-passed (admitted s t && leb 1 n) 22 g _ (e1 .1) in
     let e3 = grant-passed (leb (pagesOf s t) n) 16 g _ (e2 .1) in
     let e4 = grant-passed (leb (ceilingsOf s - ceilingAt s t + n) (s .pool)) 12 g _ (e3 .1) in
-    let i = is-admitted s t (first-true (admitted s t) (leb 1 n) (e2 .0)) in
+    let i = admitted-parts s t (first-true (admitted s t) (leb 1 n) (e2 .0)) in
     let q = sound-parts s h in
     let v = tenant-sound-in (tenantAt s t) (i .1) (q .tenant t (i .0)) in
     let m = leb-true (ceilingsOf s - ceilingAt s t + n) (s .pool) (e4 .0) in

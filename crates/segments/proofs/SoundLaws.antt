@@ -1,21 +1,25 @@
 -- Soundness part by part, and that every call keeps it. Assumes nothing.
-use mathlib.Core.Bool.{Bool, true, cond, not, _&&_}
+use mathlib.Core.Bool.{Bool, true, false, cond, not, _&&_, _||_, true≢false}
 use mathlib.Core.Logic.{⊎-elim}
-use mathlib.Core.Option.{none, some}
+use mathlib.Core.Option.{Option, none, some}
 use mathlib.Core.Path.{_≡_, refl, sym, ap, _∙_}
 use Prim.Native.Nat.{ℕ, _+_, _-_, _<_, _≤_}
 use native.Mathlib.Omega.{arith}
 use borrow.Author.Tests.{le-leb, leb-true, ltb-true}
 use lib.Dec.{leb, ltb}
-use Rattle.label.specs.Answer.{Answer, granted, refused}
+use Rattle.label.specs.Answer.{Answer, granted, refused, require}
 use Rattle.label.specs.Index.{any, every}
 use Rattle.label.specs.Label
 use Rattle.label.specs.declared.Label.{Label}
-use Rattle.label.proofs.BoolLaws.{both, first-true, second-true, three-true}
+use Rattle.label.proofs.AnswerLaws.{grant-told, refusal-stopped}
+use Rattle.label.proofs.BoolLaws.{both, not-so, first-true, second-true, three-true}
 use Rattle.label.proofs.IndexLaws.{every-all, every-at}
 use Rattle.label.proofs.LabelLaws.{equal-exact}
 use Rattle.label.proofs.SearchLaws.{any-of, any-then, same-or-not, sum-but, sum-same}
 use Rattle.range.specs.Tuple
+use Rattle.range.specs.declared.tuple.Tuple.{Tuple}
+use Rattle.range.proofs.TupleLaws.{contained-valid}
+use Rattle.segments.specs.Found.{tenantsSound}
 use Rattle.segments.specs.Calls.{answerOf, callOf, cleared, lookedAt, slotFor, slotOr0, slotValid, stepOf, writable, written}
 use Rattle.segments.specs.Replies.{Grant}
 use Rattle.segments.specs.Segments.{Lengths, ceilingAt, clearanceAt, maxPages, pagesAt, pagesValid, segmentAt, segmentOf, slot, slots, tenantAt, tenantId, tenants, withSegment, zeroSegment}
@@ -28,9 +32,9 @@ use Rattle.segments.specs.declared.SegmentTable.{SegmentTable}
 use Rattle.segments.specs.declared.Slot.{Slot}
 use Rattle.segments.specs.declared.Tenant.{Tenant}
 use Rattle.segments.specs.declared.TenantId.{TenantId}
-use Rattle.segments.proofs.CallsLaws.{Passed, granted-passed, inward, look-next, look-or-not, lowest-own, next-granted, next-refused, target-own, valid-numbers, valid-tenant, writable-own}
+use Rattle.segments.proofs.CallsLaws.{Passed, granted-passed, inward, look-next, look-or-not, next-granted, next-refused, target-own, valid-numbers, valid-tenant, writable-own}
 use Rattle.segments.proofs.SegmentsLaws.{segment-kept, segment-written}
-use Rattle.segments.proofs.SlotsLaws.{count-kept, first-kept, own-of, own-pages, own-parts, own-slot, owner-unique, owns-kept, same-slot, same-tenant}
+use Rattle.segments.proofs.SlotsLaws.{lowest-own, count-kept, first-kept, own-of, own-pages, own-parts, own-slot, owner-unique, owns-kept, same-slot, same-tenant}
 
 -- ---- the parts
 
@@ -72,15 +76,46 @@ parts-sound s h =
 -- ---- tenants
 
 -- an admitted tenant is one, and has a ceiling of at least 1
-pub is-admitted : (s : SegmentTable) (t : TenantId) → admitted s t ≡ true → (t .0 < tenants) × (1 ≤ ceilingAt s t)
+pub admitted-parts : (s : SegmentTable) (t : TenantId) → admitted s t ≡ true → (t .0 < tenants) × (1 ≤ ceilingAt s t)
 unfolding admitted
-is-admitted s t e =
+admitted-parts s t e =
     (ltb-true _ _ (first-true (ltb (t .0) tenants) (leb 1 (ceilingAt s t)) e), leb-true _ _ (second-true (ltb (t .0) tenants) (leb 1 (ceilingAt s t)) e))
 
 -- a sound record's clearance is valid
 pub tenant-clearance : (x : Tenant) → tenantSound x ≡ true → Tuple.validOf (x .clearance) ≡ true
 unfolding tenantSound
 tenant-clearance x e = first-true (Tuple.validOf (x .clearance)) (cond (leb 1 (x .ceiling)) (not (Tuple.emptyOf (x .clearance))) (Tuple.emptyOf (x .clearance))) e
+
+pub clearance-valid : (s : SegmentTable) (t : TenantId) → tenantsSound s ≡ true → t .0 < tenants → Tuple.validOf (clearanceAt s t) ≡ true
+clearance-valid s t e h = tenant-clearance (tenantAt s t) (every-at (λ i. tenantSound (tenantAt s (tenantId i))) tenants (t .0) e h)
+
+-- what a test of a record's tuple tells
+
+one-of : (p q : Bool) → (p && not q || not p && q) ≡ cond p (not q) q
+one-of true true = refl
+one-of true false = refl
+one-of false q = refl
+
+pub tenant-told : (x : Tenant) (b : Bool) → granted b ≡ require (Tuple.validOf (x .clearance)) 22 (granted (Tuple.emptyOf (x .clearance)))
+    → (leb 1 (x .ceiling) && not b || not (leb 1 (x .ceiling)) && b) ≡ tenantSound x
+unfolding tenantSound
+tenant-told x b h =
+    let k = grant-told (Tuple.validOf (x .clearance)) 22 b (Tuple.emptyOf (x .clearance)) h in
+    rw (k .0, k .1) (one-of (leb 1 (x .ceiling)) (Tuple.emptyOf (x .clearance)))
+
+pub tenant-refused : (x : Tenant) (n : ℕ) (d : Option ℕ) → refused n d ≡ require (Tuple.validOf (x .clearance)) 22 (granted (Tuple.emptyOf (x .clearance)))
+    → false ≡ tenantSound x
+unfolding tenantSound
+tenant-refused x n d h = rw (refusal-stopped (Tuple.validOf (x .clearance)) 22 n d (Tuple.emptyOf (x .clearance)) h)
+
+-- what a test of a valid tuple tells is whether it contains the label, and its refusal a no
+pub contains-told : (t : Tuple) (l : Label) (b : Bool) → granted b ≡ require (Tuple.validOf t && Label.validOf l) 22 (granted (Tuple.containsOf t l)) → b ≡ Tuple.containsOf t l
+contains-told t l b h = grant-told (Tuple.validOf t && Label.validOf l) 22 b (Tuple.containsOf t l) h .1
+
+pub contains-refused : (t : Tuple) (l : Label) (n : ℕ) (d : Option ℕ) → Tuple.validOf t ≡ true
+    → refused n d ≡ require (Tuple.validOf t && Label.validOf l) 22 (granted (Tuple.containsOf t l)) → false ≡ Tuple.containsOf t l
+contains-refused t l n d v h =
+    sym (not-so (Tuple.containsOf t l) (λ e. true≢false (sym (both v (contained-valid t l v e)) ∙ refusal-stopped (Tuple.validOf t && Label.validOf l) 22 n d (Tuple.containsOf t l) h)))
 
 -- ---- what a slot may hold
 

@@ -6,7 +6,7 @@ use borrow.Author.Tests.{ltb-true, not-false, not-true}
 use Rattle.label.specs.declared.errno.Errno.the-variants.{Access}
 use Rattle.segments.specs.Calls.{accessOf}
 use Rattle.segments.specs.Segments.{slots}
-use Rattle.segments.proofs.CodeSteps.{look-granted, started-numbers, step-refused}
+use Rattle.segments.proofs.ResultsLaws.{look-granted, started-numbers, step-refused}
 use Rattle.segments.proofs.calls.look_started.Statement.{statement}
 use Rattle.segments.proofs.calls.look_started.Tie as tie
 

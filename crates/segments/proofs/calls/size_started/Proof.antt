@@ -14,8 +14,11 @@ use Rattle.segments.specs.Segments.{ceilingAt, pagesAt, slots}
 use Rattle.segments.specs.Slots.{pagesOf}
 use Rattle.segments.specs.declared.Reply.the-variants.{Done}
 use Rattle.segments.specs.declared.SegmentTable.{SegmentTable}
-use Rattle.segments.proofs.CodeLaws.{fits-exact, pages-among, pages-kept}
-use Rattle.segments.proofs.CodeSteps.{started-numbers, started-tenant, step-granted, step-refused, writable-owned}
+use Rattle.segments.proofs.CallsLaws.{writable-own}
+use Rattle.segments.proofs.LimitLaws.{fits-exact}
+use Rattle.segments.proofs.ResultsLaws.{started-numbers, started-tenant, step-granted, step-refused}
+use Rattle.segments.proofs.SlotsLaws.{own-pages}
+use Rattle.segments.proofs.SoundLaws.{sound-parts}
 use Rattle.segments.proofs.calls.size_started.Statement.{statement}
 use Rattle.segments.proofs.calls.size_started.Tie as tie
 
@@ -32,7 +35,7 @@ room : (c : tie.After-has-room) → let a = c .before .before .before .before .a
 room c =
     let e = c .before .before in
     let s = e .before .before in
-    sym (c .has-room .ensures ∙ fits-exact _ _ _ _ (pages-kept _ _ (s .pre .sound) (started-tenant _ _ (s .pre))) (pages-among _ _ _ (writable-owned _ _ _ _ (is-writable e))))
+    sym (c .has-room .ensures ∙ fits-exact _ _ _ _ (sound-parts _ (s .pre .sound) .pages _ (started-tenant _ _ (s .pre))) (own-pages _ _ _ (writable-own _ _ _ _ (is-writable e) .0)))
 
 writable-requires : tie.Need-writable-requires
 writable-requires c κs = named c

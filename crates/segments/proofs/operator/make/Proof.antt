@@ -8,7 +8,7 @@ use Rattle.segments.specs.Replies.{done}
 use Rattle.segments.specs.Segments.{emptyTable}
 use Rattle.segments.specs.declared.Reply.the-variants.{Done, Refused}
 use Rattle.segments.specs.declared.SegmentTable.{SegmentTable}
-use Rattle.segments.proofs.CodeSteps.{results-granted, results-refused}
+use Rattle.segments.proofs.ResultsLaws.{results-granted, results-refused}
 use Rattle.segments.proofs.operator.make.Statement.{statement}
 use Rattle.segments.proofs.operator.make.Tie as tie
 

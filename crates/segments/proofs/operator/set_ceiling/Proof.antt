@@ -16,8 +16,10 @@ use Rattle.segments.specs.Slots.{ceilingsOf, pagesOf}
 use Rattle.segments.specs.Sound.{admitted, sound}
 use Rattle.segments.specs.declared.Reply.the-variants.{Done}
 use Rattle.segments.specs.declared.SegmentTable.{SegmentTable}
-use Rattle.segments.proofs.CodeLaws.{admitted-tenant, ceiling-among, fits-exact, kept-exact, sound-parts}
-use Rattle.segments.proofs.CodeSteps.{results-granted, results-refused}
+use Rattle.segments.proofs.LimitLaws.{fits-exact, kept-exact}
+use Rattle.segments.proofs.ResultsLaws.{results-granted, results-refused}
+use Rattle.segments.proofs.SlotsLaws.{ceiling-among}
+use Rattle.segments.proofs.SoundLaws.{admitted-parts, sound-parts}
 use Rattle.segments.proofs.operator.set_ceiling.Statement.{statement}
 use Rattle.segments.proofs.operator.set_ceiling.Tie as tie
 
@@ -37,7 +39,7 @@ is-valid c = tested (c .before) ∙ not-false _ (c .if2 .left)
 inside : (c : tie.Else2) → c .before .before .before .before .args .tenant .0 < tenants
 inside c =
     let a = c .before .before .before .before .args in
-    admitted-tenant (a .t1) (a .tenant) (first-true (admitted (a .t1) (a .tenant)) (leb 1 (a .ceiling)) (is-valid c))
+    admitted-parts (a .t1) (a .tenant) (first-true (admitted (a .t1) (a .tenant)) (leb 1 (a .ceiling)) (is-valid c)) .0
 
 in-use : (c : tie.After-kept) → let a = c .before .before .before .before .before .before .args in leb (pagesOf (a .t1) (a .tenant)) (a .ceiling) ≡ c .kept .result
 in-use c =
@@ -53,7 +55,7 @@ room c =
     sym
     (c .fits2 .ensures
     ∙ ap (λ (x : Option ℕ). fitsIn x (ceilingAt (a .t1) (a .tenant)) (a .ceiling)) (c .before .pool-left .ensures)
-    ∙ fits-exact (a .t1 .pool) (ceilingsOf (a .t1)) (ceilingAt (a .t1) (a .tenant)) (a .ceiling) (sound-parts (a .t1) (is-sound e) .pool) (ceiling-among (a .t1) (a .tenant) (inside f)))
+    ∙ fits-exact (a .t1 .pool) (ceilingsOf (a .t1)) (ceilingAt (a .t1) (a .tenant)) (a .ceiling) (sound-parts (a .t1) (is-sound e) .ceilings) (ceiling-among (a .t1) (a .tenant) (inside f)))
 
 sound-requires : tie.Need-sound-requires
 sound-requires c κs = search needs

@@ -7,7 +7,7 @@ use borrow.Author.Count.{below-more}
 use Rattle.segments.specs.Segments.{slots}
 use Rattle.segments.specs.Slots.{emptyAt}
 use Rattle.segments.proofs.SlotsLaws.{own-bound}
-use Rattle.segments.proofs.CodeLaws.{lowest-found, lowest-none}
+use Rattle.segments.proofs.SlotsLaws.{lowest-found, lowest-none}
 use Rattle.segments.proofs.slots.lowest_empty.Statement.{statement}
 use Rattle.segments.proofs.slots.lowest_empty.Tie as tie
 

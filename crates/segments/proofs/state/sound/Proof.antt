@@ -6,7 +6,7 @@ use Rattle.segments.specs.Found.{keptIn}
 use Rattle.segments.specs.Segments.{pagesValid}
 use Rattle.segments.specs.Slots.{ceilingsOf}
 use Rattle.segments.specs.Sound.{sound}
-use Rattle.segments.proofs.CodeLaws.{kept-exact}
+use Rattle.segments.proofs.LimitLaws.{kept-exact}
 use Rattle.segments.proofs.state.sound.Statement.{statement}
 use Rattle.segments.proofs.state.sound.Tie as tie
 
