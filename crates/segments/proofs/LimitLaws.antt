@@ -10,7 +10,7 @@ use lib.Dec.{leb}
 use Rattle.label.specs.Index.{sumFrom}
 use Rattle.label.proofs.BoolLaws.{same-truth}
 use Rattle.label.proofs.SearchLaws.{sum-next, sum-none}
-use Rattle.segments.specs.Found.{fitsIn, keptIn, leftOf}
+use Rattle.segments.specs.Parts.{fitsIn, keptIn, leftOf}
 
 -- ---- a limit from which the terms of a sum are taken one by one
 

@@ -8,8 +8,8 @@ use Rattle.label.specs.Label
 use Rattle.label.specs.declared.Label.{Label}
 use Rattle.label.specs.declared.errno.Errno.{Errno}
 use Rattle.label.proofs.AnswerLaws.{grant-passed, passed}
-use Rattle.segments.specs.Calls.{accessOf, answerOf, callOf, callValid, cleared, numbersValid, stepOf, target, visible, written}
-use Rattle.segments.specs.Found.{Started, lookCall, startOf, unlabeled}
+use Rattle.segments.specs.Calls.{accessOf, answerOf, callOf, callValid, cleared, lookCall, numbersValid, stepOf, target, visible, written}
+use Rattle.segments.specs.Parts.{Started, startOf, unlabeled}
 use Rattle.segments.specs.Replies.{Grant, Results, done, leaving, replyOf, shown, shownLabel}
 use Rattle.segments.specs.Segments.{segmentAt, tenants, withSegment}
 use Rattle.segments.specs.Sound.{sound}

@@ -19,7 +19,7 @@ use Rattle.label.proofs.SearchLaws.{any-of, any-then, same-or-not, sum-but, sum
 use Rattle.range.specs.Tuple
 use Rattle.range.specs.declared.tuple.Tuple.{Tuple}
 use Rattle.range.proofs.TupleLaws.{contained-valid}
-use Rattle.segments.specs.Found.{tenantsSound}
+use Rattle.segments.specs.Parts.{tenantsSound}
 use Rattle.segments.specs.Calls.{answerOf, callOf, cleared, lookedAt, slotFor, slotOr0, slotValid, stepOf, writable, written}
 use Rattle.segments.specs.Replies.{Grant}
 use Rattle.segments.specs.Segments.{Lengths, ceilingAt, clearanceAt, maxPages, pagesAt, pagesValid, segmentAt, segmentOf, slot, slots, tenantAt, tenantId, tenants, withSegment, zeroSegment}

@@ -1,7 +1,7 @@
 -- Document 01, "The board": the tenant calls. Assumes nothing.
 use mathlib.Core.Bool.{Bool, true, false, _&&_}
 use mathlib.Core.Option.{Option, none, some}
-use Prim.Native.Nat.{_+_, _-_}
+use Prim.Native.Nat.{ℕ, _+_, _-_}
 use lib.Dec.{leb, ltb}
 use Rattle.label.specs.Answer.{Answer, granted, require}
 use Rattle.label.specs.Label
@@ -21,6 +21,22 @@ use Rattle.segments.specs.declared.TenantId.{TenantId}
 
 abbrev pub callOf : TenantId → Label → Action → Call
 callOf t l a = record { tenant = t; label = l; action = a }
+
+-- each of the five by its numbers
+abbrev pub openCall : TenantId → Label → ℕ → Call
+openCall t l pages = callOf t l (Open (record { pages = pages }))
+
+abbrev pub sizeCall : TenantId → Label → Slot → ℕ → Call
+sizeCall t l p pages = callOf t l (Size (record { slot = p; pages = pages }))
+
+abbrev pub postCall : TenantId → Label → Slot → ℕ → Call
+postCall t l p version = callOf t l (Post (record { slot = p; version = version }))
+
+abbrev pub lookCall : TenantId → Label → Slot → Call
+lookCall t l p = callOf t l (Look (record { slot = p }))
+
+abbrev pub closeCall : TenantId → Label → Slot → Call
+closeCall t l p = callOf t l (Close (record { slot = p }))
 
 -- ---- the checks
 

@@ -8,7 +8,7 @@ use label::Label;
 use label::errno::Errno;
 use range::tuple::Tuple;
 ghost use mathlib.Core.Path.{_≡_};
-ghost use Rattle.segments.specs.Found as found;
+ghost use Rattle.segments.specs.Parts as parts;
 ghost use Rattle.segments.specs.Segments.{Lengths};
 
 // How many tenants, and how many slots, a machine has.
@@ -112,7 +112,7 @@ pub struct Outcome {
 
 // A state and a reply that shows no label.
 pub(crate) fn unlabeled(table: SegmentTable, reply: Reply) -> Outcome
-    ensures { λ r. ⌜ r ≡ found.unlabeled table reply ⌝ }
+    ensures { λ r. ⌜ r ≡ parts.unlabeled table reply ⌝ }
 {
     Outcome {
         table,

@@ -6,7 +6,7 @@ use crate::TenantId;
 ghost use mathlib.Core.Path.{_≡_};
 ghost use Prim.Native.Nat.{_<_};
 ghost use Rattle.segments.specs.Calls as calls;
-ghost use Rattle.segments.specs.Found.{fitsIn, freeOf, keptIn, leftOf, remainingOf};
+ghost use Rattle.segments.specs.Parts.{fitsIn, freeOf, keptIn, leftOf, remainingOf};
 ghost use Rattle.segments.specs.Segments.{slots, tenants};
 ghost use Rattle.segments.specs.Slots as rules;
 

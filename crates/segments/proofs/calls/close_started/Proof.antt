@@ -4,7 +4,7 @@ use Prim.Native.Nat.{_<_}
 use borrow.Author.Tests.{ltb-true, not-false, not-true}
 use Rattle.label.specs.declared.errno.Errno.the-variants.{Access}
 use Rattle.segments.specs.Calls.{accessOf}
-use Rattle.segments.specs.Found.{unlabeled}
+use Rattle.segments.specs.Parts.{unlabeled}
 use Rattle.segments.specs.Replies.{done}
 use Rattle.segments.specs.Segments.{slots, withSegment}
 use Rattle.segments.specs.declared.Reply.the-variants.{Done}

@@ -5,7 +5,7 @@ use borrow.Author.Tests.{not-false, not-true}
 use lib.Dec.{leb}
 use Rattle.label.specs.declared.errno.Errno.the-variants.{NoMem, NoSpace}
 use Rattle.segments.specs.Calls.{accessOf, found, slotOr0}
-use Rattle.segments.specs.Found.{unlabeled}
+use Rattle.segments.specs.Parts.{unlabeled}
 use Rattle.segments.specs.Replies.{opened}
 use Rattle.segments.specs.Segments.{ceilingAt, segmentOf, tenants, withSegment}
 use Rattle.segments.specs.Slots.{lowestEmpty, pagesOf}

@@ -5,7 +5,7 @@ use native.Mathlib.Omega.{arith}
 use borrow.Author.Tests.{ltb-true, not-false, not-true}
 use Rattle.label.specs.declared.errno.Errno.the-variants.{Access}
 use Rattle.segments.specs.Calls.{accessOf}
-use Rattle.segments.specs.Found.{unlabeled}
+use Rattle.segments.specs.Parts.{unlabeled}
 use Rattle.segments.specs.Replies.{done}
 use Rattle.segments.specs.Segments.{slots}
 use Rattle.segments.specs.declared.Reply.the-variants.{Done}

@@ -8,7 +8,7 @@ use lib.Dec.{leb}
 use Rattle.label.specs.declared.errno.Errno.the-variants.{Access, NoMem}
 use Rattle.label.proofs.BoolLaws.{first-true}
 use Rattle.segments.specs.Calls.{accessOf, slotValid, writable}
-use Rattle.segments.specs.Found.{unlabeled}
+use Rattle.segments.specs.Parts.{unlabeled}
 use Rattle.segments.specs.Replies.{done}
 use Rattle.segments.specs.Segments.{ceilingAt, pagesAt, slots}
 use Rattle.segments.specs.Slots.{pagesOf}

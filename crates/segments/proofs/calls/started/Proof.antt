@@ -1,7 +1,7 @@
 use borrow.Author.Needs.{needs}
 use mathlib.Core.Path.{subst, subst⁻¹}
 use Rattle.segments.specs.Calls.{stepOf}
-use Rattle.segments.specs.Found.{Started}
+use Rattle.segments.specs.Parts.{Started}
 use Rattle.segments.specs.Replies.{Results}
 use Rattle.segments.specs.declared.Call.{Call}
 use Rattle.segments.proofs.ResultsLaws.{same-call}

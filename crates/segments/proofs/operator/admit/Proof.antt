@@ -8,7 +8,7 @@ use lib.Dec.{leb, ltb}
 use Rattle.label.specs.declared.errno.Errno.the-variants.{Busy, Invalid, NoMem}
 use Rattle.label.proofs.BoolLaws.{three-true}
 use Rattle.range.specs.Tuple
-use Rattle.segments.specs.Found.{fitsIn, unlabeled}
+use Rattle.segments.specs.Parts.{fitsIn, unlabeled}
 use Rattle.segments.specs.Operator.{admitAnswer, admitOf}
 use Rattle.segments.specs.Replies.{done}
 use Rattle.segments.specs.Segments.{tenants}

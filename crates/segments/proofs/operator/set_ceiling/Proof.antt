@@ -8,7 +8,7 @@ use borrow.Author.Tests.{not-false, not-true}
 use lib.Dec.{leb}
 use Rattle.label.specs.declared.errno.Errno.the-variants.{Busy, Invalid, NoMem}
 use Rattle.label.proofs.BoolLaws.{first-true}
-use Rattle.segments.specs.Found.{fitsIn, keptIn, unlabeled}
+use Rattle.segments.specs.Parts.{fitsIn, keptIn, unlabeled}
 use Rattle.segments.specs.Operator.{setCeilingAnswer, setCeilingOf}
 use Rattle.segments.specs.Replies.{done}
 use Rattle.segments.specs.Segments.{ceilingAt, tenants}

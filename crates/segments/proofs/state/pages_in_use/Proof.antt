@@ -5,7 +5,7 @@ use Prim.Native.Nat.{_≤_, _<_}
 use native.Mathlib.Omega.{arith}
 use borrow.Author.Tests.{not-false, not-true}
 use Rattle.label.specs.Answer.{granted}
-use Rattle.segments.specs.Found.{remainingOf}
+use Rattle.segments.specs.Parts.{remainingOf}
 use Rattle.segments.specs.Segments.{ceilingAt, tenants}
 use Rattle.segments.specs.Slots.{pagesOf}
 use Rattle.segments.specs.Sound.{admitted, sound}

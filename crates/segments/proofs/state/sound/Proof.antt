@@ -2,7 +2,7 @@ use borrow.Author.Needs.{needs}
 use mathlib.Core.Bool.{_&&_}
 use mathlib.Core.Path.{sym, ap, ap₂, _∙_}
 use Rattle.label.proofs.BoolLaws.{second-true}
-use Rattle.segments.specs.Found.{keptIn}
+use Rattle.segments.specs.Parts.{keptIn}
 use Rattle.segments.specs.Segments.{pagesValid}
 use Rattle.segments.specs.Slots.{ceilingsOf}
 use Rattle.segments.specs.Sound.{sound}

@@ -1,6 +1,6 @@
 use borrow.Author.Needs.{needs}
 use mathlib.Core.Path.{ap, _∙_}
-use Rattle.segments.specs.Found.{keptIn}
+use Rattle.segments.specs.Parts.{keptIn}
 use Rattle.segments.specs.Segments.{ceilingAt}
 use Rattle.segments.specs.Slots.{pagesOf}
 use Rattle.segments.specs.Sound.{underCeiling}
