@@ -1,4 +1,9 @@
 // The account of shared memory segments: who holds which slot, with how many pages, under which label.
+pub mod calls;
+pub mod operator;
+mod slots;
+pub mod state;
+
 use label::Label;
 use label::errno::Errno;
 use range::tuple::Tuple;

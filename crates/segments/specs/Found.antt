@@ -1,0 +1,99 @@
+-- What the enums of the code say, the calls by their numbers, and the parts of the rules that the code tests by themselves. Assumes nothing.
+use mathlib.Core.Bool.{Bool, true, false, cond}
+use mathlib.Core.Option.{Option, none, some}
+use mathlib.Core.Path.{_≡_}
+use Prim.Native.Nat.{ℕ, _+_, _-_}
+use lib.Dec.{leb}
+use Rattle.label.specs.Answer.{Answer, granted, require}
+use Rattle.label.specs.Index.{any, every}
+use Rattle.label.specs.Label
+use Rattle.label.specs.declared.Label.{Label}
+use Rattle.segments.specs.Calls.{callOf, callValid, cleared}
+use Rattle.segments.specs.Replies.{Grant, done}
+use Rattle.segments.specs.Segments.{slot, slots, tenantAt, tenantId, tenants}
+use Rattle.segments.specs.Sound.{clearedBy, slotSound, sound, tenantSound, underCeiling}
+use Rattle.segments.specs.declared.Action.the-variants.{Open, Size, Post, Look, Close}
+use Rattle.segments.specs.declared.Call.{Call}
+use Rattle.segments.specs.declared.Outcome.{Outcome}
+use Rattle.segments.specs.declared.Reply.{Reply}
+use Rattle.segments.specs.declared.SegmentTable.{SegmentTable}
+use Rattle.segments.specs.declared.Slot.{Slot}
+use Rattle.segments.specs.declared.TenantId.{TenantId}
+use Rattle.segments.specs.declared.slots.Free.{Free}
+use Rattle.segments.specs.declared.slots.Free.the-variants.{At, Nothing}
+use Rattle.segments.specs.declared.slots.Remaining.{Remaining}
+use Rattle.segments.specs.declared.slots.Remaining.the-variants.{Pages, Exceeded}
+
+-- ---- what the enums say
+
+abbrev pub freeOf : Free → Option Slot
+freeOf (At p) = some p
+freeOf Nothing = none
+
+abbrev pub remainingOf : Remaining → Option ℕ
+remainingOf (Pages n) = some n
+remainingOf Exceeded = none
+
+-- ---- limits
+
+-- what is left of a limit of which n is used, if n is not over it
+abbrev pub leftOf : ℕ → ℕ → Option ℕ
+leftOf limit n = cond (leb n limit) (some (limit - n)) none
+
+-- whether the limit is kept
+abbrev pub keptIn : Option ℕ → Bool
+keptIn none = false
+keptIn (some left) = true
+
+-- whether what is wanted is in what is left and what it replaces
+abbrev pub fitsIn : Option ℕ → ℕ → ℕ → Bool
+fitsIn none replaced wanted = false
+fitsIn (some left) replaced wanted = leb wanted (left + replaced)
+
+-- ---- the parts of a sound state
+
+abbrev pub tenantsSound : SegmentTable → Bool
+tenantsSound s = every (λ t. tenantSound (tenantAt s (tenantId t))) tenants
+
+-- whether slot p has an owner and holds a label in its clearance
+abbrev pub ownerClears : SegmentTable → Slot → Bool
+ownerClears s p = any (λ t. clearedBy s p (tenantId t)) tenants
+
+abbrev pub slotsSound : SegmentTable → Bool
+slotsSound s = every (λ p. slotSound s (slot p)) slots
+
+abbrev pub ceilingsKept : SegmentTable → Bool
+ceilingsKept s = every (λ t. underCeiling s (tenantId t)) tenants
+
+-- ---- the calls, by their numbers
+
+abbrev pub openCall : TenantId → Label → ℕ → Call
+openCall t l pages = callOf t l (Open (record { pages = pages }))
+
+abbrev pub sizeCall : TenantId → Label → Slot → ℕ → Call
+sizeCall t l p pages = callOf t l (Size (record { slot = p; pages = pages }))
+
+abbrev pub postCall : TenantId → Label → Slot → ℕ → Call
+postCall t l p version = callOf t l (Post (record { slot = p; version = version }))
+
+abbrev pub lookCall : TenantId → Label → Slot → Call
+lookCall t l p = callOf t l (Look (record { slot = p }))
+
+abbrev pub closeCall : TenantId → Label → Slot → Call
+closeCall t l p = callOf t l (Close (record { slot = p }))
+
+-- ---- the checks that every call starts with
+
+unfoldable pub startOf : SegmentTable → Call → Answer Grant
+startOf s c = require (sound s) 22 (require (callValid s c) 22 (require (cleared s c) 1 (granted done)))
+
+-- a call that has passed these
+pub record Started (s : SegmentTable) (c : Call) : Type 0 where
+  pub sound : sound s ≡ true
+  pub valid : callValid s c ≡ true
+  pub cleared : cleared s c ≡ true
+
+-- ---- outcomes that show no label
+
+abbrev pub unlabeled : SegmentTable → Reply → Outcome
+unlabeled s r = record { table = s; answer = record { reply = r; label = Label.zeroLabel } }

@@ -1,0 +1,314 @@
+// The tenant calls. `step` makes document 01's checks in its order; a refusal hands the state back as it was.
+use crate::Action;
+use crate::Answer;
+use crate::Call;
+use crate::CloseCall;
+use crate::LookCall;
+use crate::OpenCall;
+use crate::Outcome;
+use crate::PostCall;
+use crate::Reply;
+use crate::SLOTS;
+use crate::Segment;
+use crate::SegmentTable;
+use crate::Shown;
+use crate::SizeCall;
+use crate::Slot;
+use crate::TenantId;
+use crate::operator::unlabeled;
+use crate::slots;
+use crate::state;
+use label::Label;
+use label::answer;
+use label::components;
+use label::errno::Errno;
+ghost use mathlib.Core.Path.{_≡_};
+ghost use mathlib.Core.Bool.{true};
+ghost use Prim.Native.Nat.{_<_};
+ghost use Rattle.label.specs.Answer.{outcomeOf};
+ghost use Rattle.segments.specs.Calls as rules;
+ghost use Rattle.segments.specs.Calls.{numbersValid, slotValid, stepOf};
+ghost use Rattle.segments.specs.Found.{Started, closeCall, fitsIn, leftOf, lookCall, openCall, postCall, sizeCall, startOf};
+ghost use Rattle.segments.specs.Replies.{Results, done};
+ghost use Rattle.segments.specs.Segments.{ceilingAt, slots, tenants};
+ghost use Rattle.segments.specs.Slots.{pagesOf};
+ghost use Rattle.segments.specs.Sound.{sound};
+
+// ---- the checks
+
+fn slot_valid(slot: Slot) -> bool
+    ensures { λ r. ⌜ r ≡ slotValid slot ⌝ }
+{
+    slot.0 < SLOTS as u64
+}
+
+fn numbers_valid(action: Action) -> bool
+    ensures { λ r. ⌜ r ≡ numbersValid action ⌝ }
+{
+    match action {
+        Action::Open(x) => state::pages_valid(x.pages),
+        Action::Size(x) => slot_valid(x.slot) & state::pages_valid(x.pages),
+        Action::Post(x) => slot_valid(x.slot),
+        Action::Look(x) => slot_valid(x.slot),
+        Action::Close(x) => slot_valid(x.slot),
+    }
+}
+
+fn valid(table: SegmentTable, call: Call) -> bool
+    ensures { λ r. ⌜ r ≡ rules.callValid table call ⌝ }
+{
+    let action = call.action;
+    state::admitted(table, call.tenant) & label::valid(call.label) & numbers_valid(action)
+}
+
+// Whether the subject's label is in its tenant's clearance.
+fn cleared(table: SegmentTable, call: Call) -> bool
+    requires { ⌜ sound table ≡ true ⌝ }
+    requires { ⌜ rules.callValid table call ≡ true ⌝ }
+    ensures { λ r. ⌜ r ≡ rules.cleared table call ⌝ }
+{
+    let tenant = table.tenants[call.tenant.0 as usize];
+    state::contains(tenant.clearance, call.label)
+}
+
+// The checks that every call starts with.
+fn start(table: SegmentTable, call: Call) -> answer::Outcome
+    ensures { λ o. ⌜ outcomeOf o done ≡ startOf table call ⌝ }
+{
+    if !state::sound(table) {
+        return answer::Outcome::Refused(Errno::Invalid);
+    }
+    if !valid(table, call) {
+        return answer::Outcome::Refused(Errno::Invalid);
+    }
+    if !cleared(table, call) {
+        return answer::Outcome::Refused(Errno::Perm);
+    }
+    answer::Outcome::Granted
+}
+
+// Whether the slot is the tenant's own, filled, and its label the subject's.
+fn writable(table: SegmentTable, tenant: TenantId, label: Label, slot: Slot) -> bool
+    requires { ⌜ slot .0 < slots ⌝ }
+    ensures { λ r. ⌜ r ≡ rules.writable table tenant label slot ⌝ }
+{
+    let x = table.segments[slot.0 as usize];
+    let held = x.label;
+    let a = label.categories;
+    let b = held.categories;
+    slots::owns(table, tenant, slot)
+        & slots::filled(table, slot)
+        & components::equal(label.hierarchy, a, held.hierarchy, b)
+}
+
+// Whether the slot is filled and the subject's label dominates the label there.
+fn visible(table: SegmentTable, label: Label, slot: Slot) -> bool
+    requires { ⌜ slot .0 < slots ⌝ }
+    ensures { λ r. ⌜ r ≡ rules.visible table label slot ⌝ }
+{
+    let x = table.segments[slot.0 as usize];
+    let held = x.label;
+    let a = label.categories;
+    let b = held.categories;
+    slots::filled(table, slot) & components::dominates(label.hierarchy, a, held.hierarchy, b)
+}
+
+// Whether the tenant's ceiling has room for pages, some of which take the place of others.
+fn has_room(table: SegmentTable, tenant: TenantId, replaced: u64, pages: u64) -> bool
+    requires { ⌜ tenant .0 < tenants ⌝ }
+    ensures { λ r. ⌜ r ≡ fitsIn (leftOf (ceilingAt table tenant) (pagesOf table tenant)) replaced pages ⌝ }
+{
+    let ceiling = table.tenants[tenant.0 as usize].ceiling;
+    slots::fits(slots::pages_left(table, tenant, ceiling), replaced, pages)
+}
+
+// ---- what each call does, once it has passed the first checks
+
+fn open_started(table: SegmentTable, tenant: TenantId, label: Label, pages: u64) -> Outcome
+    requires { ⌜ Started table (openCall tenant label pages) ⌝ }
+    ensures { λ r. ⌜ Results r (stepOf table (openCall tenant label pages)) ⌝ }
+{
+    let free = slots::lowest_empty(table, tenant);
+    let room = has_room(table, tenant, 0, pages);
+    if !slots::found(free) {
+        return unlabeled(table, Reply::Refused(Errno::NoSpace));
+    }
+    if !room {
+        return unlabeled(table, Reply::Refused(Errno::NoMem));
+    }
+    let slot = slots::slot_or_0(free);
+    let x = Segment {
+        label: label,
+        pages: pages,
+        version: 0,
+    };
+    unlabeled(state::with_segment(table, slot, x), Reply::Opened(slot))
+}
+
+fn size_started(table: SegmentTable, tenant: TenantId, label: Label, slot: Slot, pages: u64) -> Outcome
+    requires { ⌜ Started table (sizeCall tenant label slot pages) ⌝ }
+    ensures { λ r. ⌜ Results r (stepOf table (sizeCall tenant label slot pages)) ⌝ }
+{
+    if !writable(table, tenant, label, slot) {
+        return unlabeled(table, Reply::Refused(Errno::Access));
+    }
+    let mut x = table.segments[slot.0 as usize];
+    if !has_room(table, tenant, x.pages, pages) {
+        return unlabeled(table, Reply::Refused(Errno::NoMem));
+    }
+    x.pages = pages;
+    unlabeled(state::with_segment(table, slot, x), Reply::Done)
+}
+
+fn post_started(table: SegmentTable, tenant: TenantId, label: Label, slot: Slot, version: u64) -> Outcome
+    requires { ⌜ Started table (postCall tenant label slot version) ⌝ }
+    ensures { λ r. ⌜ Results r (stepOf table (postCall tenant label slot version)) ⌝ }
+{
+    if !writable(table, tenant, label, slot) {
+        return unlabeled(table, Reply::Refused(Errno::Access));
+    }
+    let mut x = table.segments[slot.0 as usize];
+    x.version = version;
+    unlabeled(state::with_segment(table, slot, x), Reply::Done)
+}
+
+fn look_started(table: SegmentTable, tenant: TenantId, label: Label, slot: Slot) -> Outcome
+    requires { ⌜ Started table (lookCall tenant label slot) ⌝ }
+    ensures { λ r. ⌜ Results r (stepOf table (lookCall tenant label slot)) ⌝ }
+{
+    if !visible(table, label, slot) {
+        return unlabeled(table, Reply::Refused(Errno::Access));
+    }
+    let x = table.segments[slot.0 as usize];
+    let shown = x.label;
+    Outcome {
+        table: table,
+        answer: Answer {
+            reply: Reply::Shown(Shown {
+                pages: x.pages,
+                version: x.version,
+            }),
+            label: shown,
+        },
+    }
+}
+
+fn close_started(table: SegmentTable, tenant: TenantId, label: Label, slot: Slot) -> Outcome
+    requires { ⌜ Started table (closeCall tenant label slot) ⌝ }
+    ensures { λ r. ⌜ Results r (stepOf table (closeCall tenant label slot)) ⌝ }
+{
+    if !writable(table, tenant, label, slot) {
+        return unlabeled(table, Reply::Refused(Errno::Access));
+    }
+    unlabeled(state::with_segment(table, slot, state::zero_segment()), Reply::Done)
+}
+
+fn started(table: SegmentTable, call: Call) -> Outcome
+    requires { ⌜ Started table call ⌝ }
+    ensures { λ r. ⌜ Results r (stepOf table call) ⌝ }
+{
+    let tenant = call.tenant;
+    let label = call.label;
+    let action = call.action;
+    match action {
+        Action::Open(x) => open_started(table, tenant, label, x.pages),
+        Action::Size(x) => size_started(table, tenant, label, x.slot, x.pages),
+        Action::Post(x) => post_started(table, tenant, label, x.slot, x.version),
+        Action::Look(x) => look_started(table, tenant, label, x.slot),
+        Action::Close(x) => close_started(table, tenant, label, x.slot),
+    }
+}
+
+// ---- the calls
+
+// What a call answers, and the state that it leaves.
+pub fn step(table: SegmentTable, call: Call) -> Outcome
+    ensures { λ r. ⌜ Results r (stepOf table call) ⌝ }
+{
+    let o = start(table, call);
+    match o {
+        answer::Outcome::Granted => started(table, call),
+        answer::Outcome::Refused(e) => unlabeled(table, Reply::Refused(e)),
+    }
+}
+
+// The tenant's lowest empty slot gets the label and the pages; the slot is answered.
+pub fn open(table: SegmentTable, tenant: TenantId, label: Label, pages: u64) -> Outcome
+    ensures { λ r. ⌜ Results r (stepOf table (openCall tenant label pages)) ⌝ }
+{
+    let action = Action::Open(OpenCall { pages: pages });
+    step(
+        table,
+        Call {
+            tenant: tenant,
+            label: label,
+            action: action,
+        },
+    )
+}
+
+// The slot gets another number of pages.
+pub fn size(table: SegmentTable, tenant: TenantId, label: Label, slot: Slot, pages: u64) -> Outcome
+    ensures { λ r. ⌜ Results r (stepOf table (sizeCall tenant label slot pages)) ⌝ }
+{
+    let action = Action::Size(SizeCall {
+        slot: slot,
+        pages: pages,
+    });
+    step(
+        table,
+        Call {
+            tenant: tenant,
+            label: label,
+            action: action,
+        },
+    )
+}
+
+// The slot gets another version.
+pub fn post(table: SegmentTable, tenant: TenantId, label: Label, slot: Slot, version: u64) -> Outcome
+    ensures { λ r. ⌜ Results r (stepOf table (postCall tenant label slot version)) ⌝ }
+{
+    let action = Action::Post(PostCall {
+        slot: slot,
+        version: version,
+    });
+    step(
+        table,
+        Call {
+            tenant: tenant,
+            label: label,
+            action: action,
+        },
+    )
+}
+
+// What the slot holds is shown: its label, pages and version.
+pub fn look(table: SegmentTable, tenant: TenantId, label: Label, slot: Slot) -> Outcome
+    ensures { λ r. ⌜ Results r (stepOf table (lookCall tenant label slot)) ⌝ }
+{
+    let action = Action::Look(LookCall { slot: slot });
+    step(
+        table,
+        Call {
+            tenant: tenant,
+            label: label,
+            action: action,
+        },
+    )
+}
+
+// The slot is zeros, and its pages are free.
+pub fn close(table: SegmentTable, tenant: TenantId, label: Label, slot: Slot) -> Outcome
+    ensures { λ r. ⌜ Results r (stepOf table (closeCall tenant label slot)) ⌝ }
+{
+    let action = Action::Close(CloseCall { slot: slot });
+    step(
+        table,
+        Call {
+            tenant: tenant,
+            label: label,
+            action: action,
+        },
+    )
+}

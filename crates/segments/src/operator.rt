@@ -1,0 +1,120 @@
+// The operator's calls.
+use crate::Answer;
+use crate::Outcome;
+use crate::Reply;
+use crate::SLOTS;
+use crate::SegmentTable;
+use crate::TENANTS;
+use crate::Tenant;
+use crate::TenantId;
+use crate::slots;
+use crate::state;
+use label::answer::Test;
+use label::errno::Errno;
+use range::tuple;
+use range::tuple::Tuple;
+ghost use mathlib.Core.Path.{_≡_};
+ghost use mathlib.Core.Bool.{not, _&&_};
+ghost use Rattle.range.specs.Tuple as tuples;
+ghost use Rattle.segments.specs.Found.{unlabeled};
+ghost use Rattle.segments.specs.Operator.{admitOf, makeOf, setCeilingOf};
+ghost use Rattle.segments.specs.Replies.{Results};
+ghost use Rattle.segments.specs.Segments.{emptyTable};
+
+// A state and a reply that shows no label.
+pub(crate) fn unlabeled(table: SegmentTable, reply: Reply) -> Outcome
+    ensures { λ r. ⌜ r ≡ unlabeled table reply ⌝ }
+{
+    Outcome {
+        table: table,
+        answer: Answer {
+            reply: reply,
+            label: label::zero(),
+        },
+    }
+}
+
+// The state with no tenants.
+fn empty_table(pool: u64) -> SegmentTable
+    ensures { λ r. ⌜ r ≡ emptyTable pool ⌝ }
+{
+    let tenant = Tenant {
+        ceiling: 0,
+        clearance: tuple::empty(),
+    };
+    let segment = state::zero_segment();
+    SegmentTable {
+        pool: pool,
+        tenants: [tenant; TENANTS],
+        segments: [segment; SLOTS],
+    }
+}
+
+// A state with this pool and no tenants. A refused make hands back a state of zeros.
+pub fn make(pool: u64) -> Outcome
+    ensures { λ r. ⌜ Results r (makeOf pool) ⌝ }
+{
+    if state::pages_valid(pool) {
+        return unlabeled(empty_table(pool), Reply::Done);
+    }
+    unlabeled(empty_table(0), Reply::Refused(Errno::Invalid))
+}
+
+// Whether a tuple can be a clearance.
+fn clearance_valid(t: Tuple) -> bool
+    ensures { λ r. ⌜ r ≡ (tuples.validOf t && not (tuples.emptyOf t)) ⌝ }
+{
+    let test = tuple::is_empty(t);
+    match test {
+        Test::Holds(empty) => !empty,
+        Test::Refused(_) => false,
+    }
+}
+
+// Admits a tenant, with a ceiling on its pages and a clearance.
+pub fn admit(table: SegmentTable, tenant: TenantId, ceiling: u64, clearance: Tuple) -> Outcome
+    ensures { λ r. ⌜ Results r (admitOf table tenant ceiling clearance) ⌝ }
+{
+    if !state::sound(table) {
+        return unlabeled(table, Reply::Refused(Errno::Invalid));
+    }
+    if !((tenant.0 < TENANTS as u64) & clearance_valid(clearance) & (1 <= ceiling)) {
+        return unlabeled(table, Reply::Refused(Errno::Invalid));
+    }
+    if state::admitted(table, tenant) {
+        return unlabeled(table, Reply::Refused(Errno::Busy));
+    }
+    if !slots::fits(slots::pool_left(table), 0, ceiling) {
+        return unlabeled(table, Reply::Refused(Errno::NoMem));
+    }
+    let x = Tenant {
+        ceiling: ceiling,
+        clearance: clearance,
+    };
+    unlabeled(state::with_tenant(table, tenant, x), Reply::Done)
+}
+
+// Gives an admitted tenant another ceiling.
+pub fn set_ceiling(table: SegmentTable, tenant: TenantId, ceiling: u64) -> Outcome
+    ensures { λ r. ⌜ Results r (setCeilingOf table tenant ceiling) ⌝ }
+{
+    if !state::sound(table) {
+        return unlabeled(table, Reply::Refused(Errno::Invalid));
+    }
+    if !(state::admitted(table, tenant) & (1 <= ceiling)) {
+        return unlabeled(table, Reply::Refused(Errno::Invalid));
+    }
+    if !slots::kept(slots::pages_left(table, tenant, ceiling)) {
+        return unlabeled(table, Reply::Refused(Errno::Busy));
+    }
+    let x = table.tenants[tenant.0 as usize];
+    if !slots::fits(slots::pool_left(table), x.ceiling, ceiling) {
+        return unlabeled(table, Reply::Refused(Errno::NoMem));
+    }
+    let clearance = x.clearance;
+    let changed = Tenant {
+        ceiling: ceiling,
+        clearance: clearance,
+    };
+    unlabeled(state::with_tenant(table, tenant, changed), Reply::Done)
+}

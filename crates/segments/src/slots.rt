@@ -1,0 +1,151 @@
+// Whose a slot is (document 01: place), which slots are filled, and how many pages are taken.
+use crate::SegmentTable;
+use crate::Slot;
+use crate::TENANTS;
+use crate::TenantId;
+ghost use mathlib.Core.Path.{_≡_};
+ghost use Prim.Native.Nat.{_<_};
+ghost use Rattle.segments.specs.Calls as calls;
+ghost use Rattle.segments.specs.Found.{fitsIn, freeOf, keptIn, leftOf, remainingOf};
+ghost use Rattle.segments.specs.Segments.{slots, tenants};
+ghost use Rattle.segments.specs.Slots as rules;
+
+// The lowest empty slot of a tenant's own.
+pub(crate) enum Free {
+    At(Slot),
+    Nothing,
+}
+
+// What is left of a limit, or that it is exceeded.
+pub(crate) enum Remaining {
+    Pages(u64),
+    Exceeded,
+}
+
+// The first slot of t's own. This function and the next alone know which slots a tenant owns: t owns 8t to 8t+7.
+pub(crate) fn first_slot(s: SegmentTable, t: TenantId) -> u64
+    requires { ⌜ t .0 < tenants ⌝ }
+    ensures { λ r. ⌜ r ≡ rules.firstSlot s t ⌝ }
+{
+    8 * t.0
+}
+
+// How many slots t owns.
+pub(crate) fn slot_count(s: SegmentTable, t: TenantId) -> u64
+    ensures { λ r. ⌜ r ≡ rules.slotCount s t ⌝ }
+{
+    8
+}
+
+// Whether p is t's own.
+pub(crate) fn owns(s: SegmentTable, t: TenantId, p: Slot) -> bool
+    ensures { λ r. ⌜ r ≡ rules.owns s t p ⌝ }
+{
+    if t.0 < TENANTS as u64 {
+        let first = first_slot(s, t);
+        let end = first + slot_count(s, t);
+        return (first <= p.0) & (p.0 < end);
+    }
+    false
+}
+
+// Whether p has pages.
+pub(crate) fn filled(s: SegmentTable, p: Slot) -> bool
+    requires { ⌜ p .0 < slots ⌝ }
+    ensures { λ r. ⌜ r ≡ rules.filled s p ⌝ }
+{
+    1 <= s.segments[p.0 as usize].pages
+}
+
+pub(crate) fn lowest_empty(s: SegmentTable, t: TenantId) -> Free
+    requires { ⌜ t .0 < tenants ⌝ }
+    ensures { λ r. ⌜ freeOf r ≡ rules.lowestEmpty s t ⌝ }
+{
+    let first = first_slot(s, t);
+    let count = slot_count(s, t);
+    let mut i: u64 = 0;
+    while i < count {
+        if !filled(s, Slot(first + i)) {
+            return Free::At(Slot(first + i));
+        }
+        i += 1;
+    }
+    Free::Nothing
+}
+
+// Whether an empty slot was found.
+pub(crate) fn found(free: Free) -> bool
+    ensures { λ r. ⌜ r ≡ calls.found (freeOf free) ⌝ }
+{
+    match free {
+        Free::At(_) => true,
+        Free::Nothing => false,
+    }
+}
+
+// The slot that was found; 0 where none was.
+pub(crate) fn slot_or_0(free: Free) -> Slot
+    ensures { λ r. ⌜ r ≡ calls.slotOr0 (freeOf free) ⌝ }
+{
+    match free {
+        Free::At(p) => p,
+        Free::Nothing => Slot(0),
+    }
+}
+
+// What is left of a limit when t's pages are taken from it. It counts down, so that no sum wraps, whatever the state holds.
+pub(crate) fn pages_left(s: SegmentTable, t: TenantId, limit: u64) -> Remaining
+    requires { ⌜ t .0 < tenants ⌝ }
+    ensures { λ r. ⌜ remainingOf r ≡ leftOf limit (rules.pagesOf s t) ⌝ }
+{
+    let first = first_slot(s, t);
+    let count = slot_count(s, t);
+    let mut left = limit;
+    let mut i: u64 = 0;
+    while i < count {
+        let pages = s.segments[(first + i) as usize].pages;
+        if left < pages {
+            return Remaining::Exceeded;
+        }
+        left -= pages;
+        i += 1;
+    }
+    Remaining::Pages(left)
+}
+
+// What is left of the pool when every tenant's ceiling is taken from it.
+pub(crate) fn pool_left(s: SegmentTable) -> Remaining
+    ensures { λ r. ⌜ remainingOf r ≡ leftOf (s .pool) (rules.ceilingsOf s) ⌝ }
+{
+    let mut left = s.pool;
+    let mut i = 0;
+    while i < TENANTS {
+        let ceiling = s.tenants[i].ceiling;
+        if left < ceiling {
+            return Remaining::Exceeded;
+        }
+        left -= ceiling;
+        i += 1;
+    }
+    Remaining::Pages(left)
+}
+
+// Whether a limit is kept.
+pub(crate) fn kept(left: Remaining) -> bool
+    ensures { λ r. ⌜ r ≡ keptIn (remainingOf left) ⌝ }
+{
+    match left {
+        Remaining::Pages(_) => true,
+        Remaining::Exceeded => false,
+    }
+}
+
+// Whether what is wanted is in what is left of a limit and what it replaces.
+pub(crate) fn fits(left: Remaining, replaced: u64, wanted: u64) -> bool
+    ensures { λ r. ⌜ r ≡ fitsIn (remainingOf left) replaced wanted ⌝ }
+{
+    match left {
+        Remaining::Pages(n) => if wanted <= n { true } else { wanted - n <= replaced },
+        Remaining::Exceeded => false,
+    }
+}

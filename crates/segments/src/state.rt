@@ -1,0 +1,219 @@
+// The state as a whole (document 01: the board): when it is sound, who is admitted, and what a change leaves.
+use crate::MAX_PAGES;
+use crate::SLOTS;
+use crate::Segment;
+use crate::SegmentTable;
+use crate::Slot;
+use crate::TENANTS;
+use crate::Tenant;
+use crate::TenantId;
+use crate::slots;
+use crate::slots::Remaining;
+use label::Label;
+use label::answer::Number;
+use label::answer::Test;
+use label::errno::Errno;
+use range::tuple;
+use range::tuple::Tuple;
+ghost use mathlib.Core.Path.{_≡_};
+ghost use mathlib.Core.Bool.{true};
+ghost use Prim.Native.Nat.{_<_};
+ghost use Rattle.label.specs.Answer.{granted, numberAnswerOf, require};
+ghost use Rattle.range.specs.Tuple as tuples;
+ghost use Rattle.segments.specs.Found.{ceilingsKept, ownerClears, slotsSound, tenantsSound};
+ghost use Rattle.segments.specs.Segments.{pagesValid, slots, tenants, withSegment, withTenant, zeroSegment};
+ghost use Rattle.segments.specs.Slots.{pagesOf};
+ghost use Rattle.segments.specs.Sound as rules;
+
+// Whether a number of pages is one that a pool or a call may have.
+pub(crate) fn pages_valid(pages: u64) -> bool
+    ensures { λ r. ⌜ r ≡ pagesValid pages ⌝ }
+{
+    (1 <= pages) & (pages <= MAX_PAGES)
+}
+
+// Whether t is admitted.
+pub(crate) fn admitted(s: SegmentTable, t: TenantId) -> bool
+    ensures { λ r. ⌜ r ≡ rules.admitted s t ⌝ }
+{
+    if t.0 < TENANTS as u64 {
+        return 1 <= s.tenants[t.0 as usize].ceiling;
+    }
+    false
+}
+
+// Whether a label is in a valid tuple.
+pub(crate) fn contains(t: Tuple, l: Label) -> bool
+    requires { ⌜ tuples.validOf t ≡ true ⌝ }
+    ensures { λ r. ⌜ r ≡ tuples.containsOf t l ⌝ }
+{
+    let test = tuple::contains(t, l);
+    match test {
+        Test::Holds(b) => b,
+        Test::Refused(_) => false,
+    }
+}
+
+// Whether a tenant's record is that of one admitted, with a valid clearance that is not empty, or holds zeros.
+fn tenant_sound(x: Tenant) -> bool
+    ensures { λ r. ⌜ r ≡ rules.tenantSound x ⌝ }
+{
+    let admitted = 1 <= x.ceiling;
+    let test = tuple::is_empty(x.clearance);
+    match test {
+        Test::Holds(empty) => (admitted & !empty) | (!admitted & empty),
+        Test::Refused(_) => false,
+    }
+}
+
+fn tenants_sound(s: SegmentTable) -> bool
+    ensures { λ r. ⌜ r ≡ tenantsSound s ⌝ }
+{
+    let mut i = 0;
+    while i < TENANTS {
+        if !tenant_sound(s.tenants[i]) {
+            return false;
+        }
+        i += 1;
+    }
+    true
+}
+
+// Whether p is t's own and holds a label in t's clearance.
+fn cleared_by(s: SegmentTable, p: Slot, t: TenantId) -> bool
+    requires { ⌜ tenantsSound s ≡ true ⌝ }
+    requires { ⌜ p .0 < slots ⌝ }
+    requires { ⌜ t .0 < tenants ⌝ }
+    ensures { λ r. ⌜ r ≡ rules.clearedBy s p t ⌝ }
+{
+    let x = s.segments[p.0 as usize];
+    let owner = s.tenants[t.0 as usize];
+    slots::owns(s, t, p) & contains(owner.clearance, x.label)
+}
+
+// Whether p has an owner and holds a label in its clearance.
+fn owner_clears(s: SegmentTable, p: Slot) -> bool
+    requires { ⌜ tenantsSound s ≡ true ⌝ }
+    requires { ⌜ p .0 < slots ⌝ }
+    ensures { λ r. ⌜ r ≡ ownerClears s p ⌝ }
+{
+    let mut i: u64 = 0;
+    while i < TENANTS as u64 {
+        if cleared_by(s, p, TenantId(i)) {
+            return true;
+        }
+        i += 1;
+    }
+    false
+}
+
+// Whether a segment is zeros, as an empty slot holds.
+fn zeros(x: Segment) -> bool
+    ensures { λ r. ⌜ r ≡ rules.zeros x ⌝ }
+{
+    label::is_zero(x.label) & (x.pages == 0) & (x.version == 0)
+}
+
+fn slot_sound(s: SegmentTable, p: Slot) -> bool
+    requires { ⌜ tenantsSound s ≡ true ⌝ }
+    requires { ⌜ p .0 < slots ⌝ }
+    ensures { λ r. ⌜ r ≡ rules.slotSound s p ⌝ }
+{
+    if slots::filled(s, p) {
+        return owner_clears(s, p);
+    }
+    zeros(s.segments[p.0 as usize])
+}
+
+fn slots_sound(s: SegmentTable) -> bool
+    requires { ⌜ tenantsSound s ≡ true ⌝ }
+    ensures { λ r. ⌜ r ≡ slotsSound s ⌝ }
+{
+    let mut i: u64 = 0;
+    while i < SLOTS as u64 {
+        if !slot_sound(s, Slot(i)) {
+            return false;
+        }
+        i += 1;
+    }
+    true
+}
+
+// Whether t's pages are at most its ceiling.
+fn under_ceiling(s: SegmentTable, t: TenantId) -> bool
+    requires { ⌜ t .0 < tenants ⌝ }
+    ensures { λ r. ⌜ r ≡ rules.underCeiling s t ⌝ }
+{
+    slots::kept(slots::pages_left(s, t, s.tenants[t.0 as usize].ceiling))
+}
+
+fn ceilings_kept(s: SegmentTable) -> bool
+    ensures { λ r. ⌜ r ≡ ceilingsKept s ⌝ }
+{
+    let mut i: u64 = 0;
+    while i < TENANTS as u64 {
+        if !under_ceiling(s, TenantId(i)) {
+            return false;
+        }
+        i += 1;
+    }
+    true
+}
+
+// Whether the state keeps document 01's rules. Every call tests this first and refuses an unsound state with 22.
+pub fn sound(s: SegmentTable) -> bool
+    ensures { λ r. ⌜ r ≡ rules.sound s ⌝ }
+{
+    if pages_valid(s.pool) & tenants_sound(s) {
+        return slots_sound(s) & slots::kept(slots::pool_left(s)) & ceilings_kept(s);
+    }
+    false
+}
+
+// The pages that a tenant has in use, for an operator to see.
+pub fn pages_in_use(s: SegmentTable, t: TenantId) -> Number
+    ensures { λ r. ⌜ numberAnswerOf r ≡ require (rules.sound s) 22 (require (rules.admitted s t) 22 (granted (pagesOf s t))) ⌝ }
+{
+    if !sound(s) {
+        return Number::Refused(Errno::Invalid);
+    }
+    if !admitted(s, t) {
+        return Number::Refused(Errno::Invalid);
+    }
+    let ceiling = s.tenants[t.0 as usize].ceiling;
+    let left = slots::pages_left(s, t, ceiling);
+    match left {
+        Remaining::Pages(n) => Number::Value(ceiling - n),
+        Remaining::Exceeded => Number::Refused(Errno::Invalid),
+    }
+}
+
+pub(crate) fn zero_segment() -> Segment
+    ensures { λ r. ⌜ r ≡ zeroSegment ⌝ }
+{
+    Segment {
+        label: label::zero(),
+        pages: 0,
+        version: 0,
+    }
+}
+
+// The state with another record for t.
+pub(crate) fn with_tenant(s: SegmentTable, t: TenantId, x: Tenant) -> SegmentTable
+    requires { ⌜ t .0 < tenants ⌝ }
+    ensures { λ r. ⌜ r ≡ withTenant s t x ⌝ }
+{
+    let mut next = s;
+    next.tenants[t.0 as usize] = x;
+    next
+}
+
+// The state with another segment in p.
+pub(crate) fn with_segment(s: SegmentTable, p: Slot, x: Segment) -> SegmentTable
+    requires { ⌜ p .0 < slots ⌝ }
+    ensures { λ r. ⌜ r ≡ withSegment s p x ⌝ }
+{
+    let mut next = s;
+    next.segments[p.0 as usize] = x;
+    next
+}
