@@ -1,0 +1,112 @@
+// The state as text, a line at a time: the pool, the admitted tenants, the filled slots.
+use crate::answer::put_field;
+use console::lines;
+use console::text;
+use label::answer::Number;
+use label::words;
+use label::words::Found;
+use label::words::WORDS;
+use libc::STDOUT_FILENO;
+use segments::SLOTS;
+use segments::Segment;
+use segments::SegmentTable;
+use segments::TENANTS;
+use segments::TenantId;
+use segments::state;
+
+// How many categories there are.
+const CATEGORIES: u64 = (64 * WORDS) as u64;
+
+// The longest line is a slot's: five words and four numbers, then a blank and a number for each category.
+const LINE_BYTES: usize = 128 + 21 * 64 * WORDS;
+
+// Appends a blank and a number for each category.
+fn put_members(out: &mut [u8], at: usize, categories: [u64; WORDS]) -> usize {
+    let mut end = at;
+    let mut from: u64 = 0;
+    while from < CATEGORIES {
+        let Found::At(c) = words::next(categories, from) else {
+            return end;
+        };
+        end = put_field(out, end, b" ", c);
+        from = c + 1;
+    }
+    end
+}
+
+fn put_categories(out: &mut [u8], at: usize, categories: [u64; WORDS]) -> usize {
+    let end = put_members(out, at, categories);
+    if end == at {
+        return text::append(out, at, b" -");
+    }
+    end
+}
+
+fn put_slot(out: &mut [u8], slot: u64, x: Segment) -> usize {
+    let label = x.label;
+    let number = put_field(out, 0, b"place ", slot);
+    let pages = put_field(out, number, b" pages ", x.pages);
+    let version = put_field(out, pages, b" edition ", x.version);
+    let hierarchy = put_field(out, version, b" hierarchy ", label.hierarchy as u64);
+    let word = text::append(out, hierarchy, b" categories");
+    let categories = put_categories(out, word, label.categories);
+    text::append(out, categories, b"\n")
+}
+
+fn put_tenant(out: &mut [u8], tenant: u64, ceiling: u64, pages: u64) -> usize {
+    let number = put_field(out, 0, b"tenant ", tenant);
+    let limit = put_field(out, number, b" ceiling ", ceiling);
+    let used = put_field(out, limit, b" pages ", pages);
+    text::append(out, used, b"\n")
+}
+
+fn put_pool(out: &mut [u8], pool: u64) -> usize {
+    let at = put_field(out, 0, b"pool ", pool);
+    text::append(out, at, b"\n")
+}
+
+fn print_slots(out: &mut [u8], s: SegmentTable) {
+    let mut i = 0;
+    while i < SLOTS {
+        let x = s.segments[i];
+        if x.pages > 0 {
+            let n = put_slot(out, i as u64, x);
+            io::write_all(STDOUT_FILENO, lines::front(out, n));
+        }
+        i += 1;
+    }
+}
+
+fn print_tenant(out: &mut [u8], s: SegmentTable, tenant: usize) {
+    let ceiling = s.tenants[tenant].ceiling;
+    let used = state::pages_in_use(s, TenantId(tenant as u64));
+    match used {
+        Number::Value(pages) => {
+            let n = put_tenant(out, tenant as u64, ceiling, pages);
+            io::write_all(STDOUT_FILENO, lines::front(out, n));
+        }
+        Number::Refused(_) => {}
+    }
+}
+
+fn print_tenants(out: &mut [u8], s: SegmentTable) {
+    let mut i = 0;
+    while i < TENANTS {
+        print_tenant(out, s, i);
+        i += 1;
+    }
+}
+
+fn print_lines(out: &mut [u8], s: SegmentTable) {
+    let n = put_pool(out, s.pool);
+    io::write_all(STDOUT_FILENO, lines::front(out, n));
+    print_tenants(out, s);
+    print_slots(out, s);
+    io::write_all(STDOUT_FILENO, b"end\n");
+}
+
+// Prints a state that is sound.
+pub(crate) fn print(s: SegmentTable) {
+    let mut out = [0u8; LINE_BYTES];
+    print_lines(&mut out, s);
+}
