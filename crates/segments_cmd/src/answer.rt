@@ -8,31 +8,67 @@ use segments::Answer;
 use segments::Reply;
 use segments::Shown;
 use segments::Slot;
+ghost use Prim.Native.Nat.{_+_, _≤_};
+ghost use lib.ListN.{length};
+ghost use Rattle.console.specs.Bytes.{Put};
+ghost use Rattle.console.specs.Text.{Appended};
+ghost use Rattle.hexline.specs.Line.{labelLineOf};
+ghost use Rattle.segments_cmd.specs.Answer.{FieldPut, NumbersPut, answerBytes, hexlineBytes, lineOr, numberBytes, placeText, replyText, shownText};
+
+// The size of the buffer for an answer.
+const ANSWER_BYTES: usize = 512;
 
 // Appends a word and a number.
-pub(crate) fn put_field(out: &mut [u8], at: usize, word: &[u8], n: u64) -> usize {
+pub(crate) fn put_field(out: &mut [u8], at: usize, word: &[u8], n: u64) -> usize
+    requires { ⌜ at + length (now word) + numberBytes ≤ length (now out) ⌝ }
+    ensures { λ r. ⌜ FieldPut (now (out .entry)) at (now (word .entry)) n r (now (out .exit)) ⌝ }
+{
     let next = text::append(out, at, word);
     text::append_decimal(out, next, n)
 }
 
-fn put_place(out: &mut [u8], slot: Slot) -> usize {
+fn put_place(out: &mut [u8], slot: Slot) -> usize
+    requires { ⌜ answerBytes ≤ length (now out) ⌝ }
+    ensures { λ r. ⌜ Put (now (out .entry)) 0 (placeText slot) r (now (out .exit)) ⌝ }
+{
     let at = put_field(out, 0, b"place ", slot.0);
     text::append(out, at, b"\n")
 }
 
-// The numbers that a look shows, and in a second line the label.
-fn put_shown(out: &mut [u8], x: Shown, label: Label) -> usize {
+// The numbers that a look shows.
+fn put_numbers(out: &mut [u8], x: Shown) -> usize
+    requires { ⌜ answerBytes ≤ length (now out) ⌝ }
+    ensures { λ r. ⌜ NumbersPut (now (out .entry)) x r (now (out .exit)) ⌝ }
+{
     let pages = put_field(out, 0, b"shown ", x.pages);
     let version = put_field(out, pages, b" ", x.version);
-    let at = text::append(out, version, b"\n");
+    text::append(out, version, b"\n")
+}
+
+// Appends the hex line of a label.
+fn put_label(out: &mut [u8], at: usize, label: Label) -> usize
+    requires { ⌜ at + hexlineBytes ≤ length (now out) ⌝ }
+    ensures { λ r. ⌜ Put (now (out .entry)) at (lineOr (labelLineOf label)) r (now (out .exit)) ⌝ }
+{
     let written = hexline::write_label(label, &mut out[at..]);
     match written {
         Written::Length(n) => at + n,
-        Written::Refused(e) => text::append_error(out, 0, e),
+        Written::Refused(_) => at,
     }
 }
 
-fn put_reply(out: &mut [u8], reply: Reply, label: Label) -> usize {
+fn put_shown(out: &mut [u8], x: Shown, label: Label) -> usize
+    requires { ⌜ answerBytes ≤ length (now out) ⌝ }
+    ensures { λ r. ⌜ Put (now (out .entry)) 0 (shownText x label) r (now (out .exit)) ⌝ }
+{
+    let at = put_numbers(out, x);
+    put_label(out, at, label)
+}
+
+fn put_reply(out: &mut [u8], reply: Reply, label: Label) -> usize
+    requires { ⌜ answerBytes ≤ length (now out) ⌝ }
+    ensures { λ r. ⌜ Appended (now (out .entry)) 0 (replyText reply label) r (now (out .exit)) ⌝ }
+{
     match reply {
         Reply::Done => text::append(out, 0, b"ok\n"),
         Reply::Opened(slot) => put_place(out, slot),
@@ -42,7 +78,7 @@ fn put_reply(out: &mut [u8], reply: Reply, label: Label) -> usize {
 }
 
 pub(crate) fn print(a: Answer) {
-    let mut out = [0u8; 512];
+    let mut out = [0u8; ANSWER_BYTES];
     let reply = a.reply;
     let n = put_reply(&mut out, reply, a.label);
     io::write_all(STDOUT_FILENO, lines::front(&out, n));

@@ -44,7 +44,12 @@ pub(crate) fn admit(table: SegmentTable, tenant: TenantId, ceiling: u64, line: &
     refused(table)
 }
 
-pub(crate) fn of_tenant(table: SegmentTable, tenant: TenantId, action: Action, line: &[u8]) -> Outcome {
+pub(crate) fn of_tenant(
+    table: SegmentTable,
+    tenant: TenantId,
+    action: Action,
+    line: &[u8],
+) -> Outcome {
     let read = hexline::read_label(line);
     let outcome = read.outcome;
     let label = read.label;

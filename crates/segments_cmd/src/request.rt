@@ -8,6 +8,9 @@ use segments::PostCall;
 use segments::SizeCall;
 use segments::Slot;
 use segments::TenantId;
+ghost use mathlib.Core.Path.{_≡_};
+ghost use Rattle.console.specs.Command.{wordOf};
+ghost use Rattle.segments_cmd.specs.Request.{ofNone, ofOne, ofThree, ofTwo, requestOf, takesOperand};
 
 pub(crate) enum Request {
     // A bad line, an unknown word, or numbers of the wrong count or form.
@@ -22,7 +25,9 @@ pub(crate) enum Request {
 }
 
 // The command of that word with no number.
-fn of_none(line: &[u8]) -> Request {
+fn of_none(line: &[u8]) -> Request
+    ensures { λ r. ⌜ r ≡ ofNone (wordOf (now (line .entry))) ⌝ }
+{
     if command::is_word(line, b"show") {
         return Request::Show;
     }
@@ -30,7 +35,9 @@ fn of_none(line: &[u8]) -> Request {
 }
 
 // The command of that word with one number.
-fn of_one(line: &[u8], n: u64) -> Request {
+fn of_one(line: &[u8], n: u64) -> Request
+    ensures { λ r. ⌜ r ≡ ofOne (wordOf (now (line .entry))) n ⌝ }
+{
     if command::is_word(line, b"make") {
         return Request::Make(n);
     }
@@ -38,7 +45,9 @@ fn of_one(line: &[u8], n: u64) -> Request {
 }
 
 // The command of that word with a tenant and one number more.
-fn of_two(line: &[u8], tenant: TenantId, n: u64) -> Request {
+fn of_two(line: &[u8], tenant: TenantId, n: u64) -> Request
+    ensures { λ r. ⌜ r ≡ ofTwo (wordOf (now (line .entry))) tenant n ⌝ }
+{
     if command::is_word(line, b"admit") {
         return Request::Admit(tenant, n);
     }
@@ -58,7 +67,9 @@ fn of_two(line: &[u8], tenant: TenantId, n: u64) -> Request {
 }
 
 // The command of that word with a tenant, a slot and one number more.
-fn of_three(line: &[u8], tenant: TenantId, slot: Slot, n: u64) -> Request {
+fn of_three(line: &[u8], tenant: TenantId, slot: Slot, n: u64) -> Request
+    ensures { λ r. ⌜ r ≡ ofThree (wordOf (now (line .entry))) tenant slot n ⌝ }
+{
     if command::is_word(line, b"size") {
         return Request::Call(tenant, Action::Size(SizeCall { slot, pages: n }));
     }
@@ -68,7 +79,9 @@ fn of_three(line: &[u8], tenant: TenantId, slot: Slot, n: u64) -> Request {
     Request::Invalid
 }
 
-pub(crate) fn of_line(line: &[u8]) -> Request {
+pub(crate) fn of_line(line: &[u8]) -> Request
+    ensures { λ r. ⌜ r ≡ requestOf (now (line .entry)) ⌝ }
+{
     let c = command::parse(line);
     if !c.valid {
         return Request::Invalid;
@@ -90,7 +103,9 @@ pub(crate) fn of_line(line: &[u8]) -> Request {
 }
 
 // Whether a request has an operand line.
-pub(crate) fn takes_operand(r: Request) -> bool {
+pub(crate) fn takes_operand(r: Request) -> bool
+    ensures { λ b. ⌜ b ≡ takesOperand r ⌝ }
+{
     match r {
         Request::Invalid => false,
         Request::Make(_) => false,

@@ -51,7 +51,11 @@ fn respond(table: SegmentTable, r: Request, line: &[u8]) -> Session {
         Request::Invalid => reply(call::refused(table)),
         Request::Make(pool) => reply(call::make(table, pool)),
         Request::Admit(tenant, ceiling) => reply(call::admit(table, tenant, ceiling, line)),
-        Request::SetCeiling(tenant, ceiling) => reply(operator::set_ceiling(table, tenant, ceiling)),
+        Request::SetCeiling(tenant, ceiling) => reply(operator::set_ceiling(
+            table,
+            tenant,
+            ceiling,
+        )),
         Request::Call(tenant, action) => reply(call::of_tenant(table, tenant, action, line)),
         Request::Show => show(table),
     }

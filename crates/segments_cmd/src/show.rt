@@ -13,6 +13,12 @@ use segments::SegmentTable;
 use segments::TENANTS;
 use segments::TenantId;
 use segments::state;
+ghost use Prim.Native.Nat.{_+_, _<_, _≤_};
+ghost use lib.ListN.{length};
+ghost use Rattle.console.specs.Bytes.{Put};
+ghost use Rattle.label.specs.Words.{membersOf};
+ghost use Rattle.segments.specs.Segments.{tenants};
+ghost use Rattle.segments_cmd.specs.Show.{CategoriesPut, categoriesBytes, categoriesText, lineBytes, listText, poolText, slotText, tenantText};
 
 // How many categories there are.
 const CATEGORIES: u64 = (64 * WORDS) as u64;
@@ -21,7 +27,10 @@ const CATEGORIES: u64 = (64 * WORDS) as u64;
 const LINE_BYTES: usize = 128 + 21 * 64 * WORDS;
 
 // Appends a blank and a number for each category.
-fn put_members(out: &mut [u8], at: usize, categories: [u64; WORDS]) -> usize {
+fn put_members(out: &mut [u8], at: usize, categories: [u64; WORDS]) -> usize
+    requires { ⌜ at + categoriesBytes ≤ length (now out) ⌝ }
+    ensures { λ r. ⌜ CategoriesPut (now (out .entry)) at (listText (membersOf categories)) r (now (out .exit)) ⌝ }
+{
     let mut end = at;
     let mut from: u64 = 0;
     while from < CATEGORIES {
@@ -34,7 +43,10 @@ fn put_members(out: &mut [u8], at: usize, categories: [u64; WORDS]) -> usize {
     end
 }
 
-fn put_categories(out: &mut [u8], at: usize, categories: [u64; WORDS]) -> usize {
+fn put_categories(out: &mut [u8], at: usize, categories: [u64; WORDS]) -> usize
+    requires { ⌜ at + categoriesBytes ≤ length (now out) ⌝ }
+    ensures { λ r. ⌜ CategoriesPut (now (out .entry)) at (categoriesText (membersOf categories)) r (now (out .exit)) ⌝ }
+{
     let end = put_members(out, at, categories);
     if end == at {
         return text::append(out, at, b" -");
@@ -42,30 +54,42 @@ fn put_categories(out: &mut [u8], at: usize, categories: [u64; WORDS]) -> usize 
     end
 }
 
-fn put_slot(out: &mut [u8], slot: u64, x: Segment) -> usize {
+fn put_slot(out: &mut [u8], slot: u64, x: Segment) -> usize
+    requires { ⌜ lineBytes ≤ length (now out) ⌝ }
+    ensures { λ r. ⌜ Put (now (out .entry)) 0 (slotText slot x) r (now (out .exit)) ⌝ }
+{
     let label = x.label;
     let number = put_field(out, 0, b"place ", slot);
     let pages = put_field(out, number, b" pages ", x.pages);
     let version = put_field(out, pages, b" edition ", x.version);
     let hierarchy = put_field(out, version, b" hierarchy ", label.hierarchy as u64);
     let word = text::append(out, hierarchy, b" categories");
-    let categories = put_categories(out, word, label.categories);
-    text::append(out, categories, b"\n")
+    let categories = label.categories;
+    let end = put_categories(out, word, categories);
+    text::append(out, end, b"\n")
 }
 
-fn put_tenant(out: &mut [u8], tenant: u64, ceiling: u64, pages: u64) -> usize {
+fn put_tenant(out: &mut [u8], tenant: u64, ceiling: u64, pages: u64) -> usize
+    requires { ⌜ lineBytes ≤ length (now out) ⌝ }
+    ensures { λ r. ⌜ Put (now (out .entry)) 0 (tenantText tenant ceiling pages) r (now (out .exit)) ⌝ }
+{
     let number = put_field(out, 0, b"tenant ", tenant);
     let limit = put_field(out, number, b" ceiling ", ceiling);
     let used = put_field(out, limit, b" pages ", pages);
     text::append(out, used, b"\n")
 }
 
-fn put_pool(out: &mut [u8], pool: u64) -> usize {
+fn put_pool(out: &mut [u8], pool: u64) -> usize
+    requires { ⌜ lineBytes ≤ length (now out) ⌝ }
+    ensures { λ r. ⌜ Put (now (out .entry)) 0 (poolText pool) r (now (out .exit)) ⌝ }
+{
     let at = put_field(out, 0, b"pool ", pool);
     text::append(out, at, b"\n")
 }
 
-fn print_slots(out: &mut [u8], s: SegmentTable) {
+fn print_slots(out: &mut [u8], s: SegmentTable)
+    requires { ⌜ lineBytes ≤ length (now out) ⌝ }
+{
     let mut i = 0;
     while i < SLOTS {
         let x = s.segments[i];
@@ -77,7 +101,10 @@ fn print_slots(out: &mut [u8], s: SegmentTable) {
     }
 }
 
-fn print_tenant(out: &mut [u8], s: SegmentTable, tenant: usize) {
+fn print_tenant(out: &mut [u8], s: SegmentTable, tenant: usize)
+    requires { ⌜ lineBytes ≤ length (now out) ⌝ }
+    requires { ⌜ tenant < tenants ⌝ }
+{
     let ceiling = s.tenants[tenant].ceiling;
     let used = state::pages_in_use(s, TenantId(tenant as u64));
     match used {
@@ -89,7 +116,9 @@ fn print_tenant(out: &mut [u8], s: SegmentTable, tenant: usize) {
     }
 }
 
-fn print_tenants(out: &mut [u8], s: SegmentTable) {
+fn print_tenants(out: &mut [u8], s: SegmentTable)
+    requires { ⌜ lineBytes ≤ length (now out) ⌝ }
+{
     let mut i = 0;
     while i < TENANTS {
         print_tenant(out, s, i);
@@ -97,7 +126,9 @@ fn print_tenants(out: &mut [u8], s: SegmentTable) {
     }
 }
 
-fn print_lines(out: &mut [u8], s: SegmentTable) {
+fn print_lines(out: &mut [u8], s: SegmentTable)
+    requires { ⌜ lineBytes ≤ length (now out) ⌝ }
+{
     let n = put_pool(out, s.pool);
     io::write_all(STDOUT_FILENO, lines::front(out, n));
     print_tenants(out, s);
