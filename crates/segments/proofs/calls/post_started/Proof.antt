@@ -1,0 +1,63 @@
+use mathlib.Core.Path.{refl, sym, ap, _∙_}
+use native.Mathlib.Omega.{arith}
+use borrow.Author.Tests.{ltb-true, not-false, not-true}
+use Rattle.label.specs.declared.errno.Errno.the-variants.{Access}
+use Rattle.segments.specs.Calls.{accessOf}
+use Rattle.segments.specs.Segments.{slots}
+use Rattle.segments.proofs.CodeSteps.{started-numbers, step-granted, step-refused}
+use Prim.Native.Nat.{_<_}
+use Rattle.segments.specs.Found.{unlabeled}
+use Rattle.segments.specs.Replies.{done}
+use Rattle.segments.specs.declared.Reply.the-variants.{Done}
+use Rattle.segments.specs.declared.SegmentTable.{SegmentTable}
+use borrow.Author.Needs.{needs}
+use Rattle.segments.proofs.calls.post_started.Statement.{statement}
+use Rattle.segments.proofs.calls.post_started.Tie as tie
+
+-- the slot is one of the state's
+named : (c : tie.Start) → c .args .slot .0 < slots
+named c = ltb-true (c .args .slot .0) slots (started-numbers _ _ (c .pre))
+
+writable-requires : tie.Need-writable-requires
+writable-requires c κs = named c
+
+unlabeled-requires : tie.Need-unlabeled-requires
+unlabeled-requires c κs = search needs
+
+returns : tie.Need-returns
+unfolding accessOf
+returns c =
+    let k = c .before .before in
+    step-refused _ _ (k .before .pre) _ Access (c .unlabeled .ensures) (rw (sym (k .writable .ensures) ∙ not-true _ (c .before .if1 .taken)))
+
+mul-x : tie.Need-mul-x
+mul-x c = let h = named (c .before .before) in omega arith
+
+element-copy-out-x : tie.Need-element-copy-out-x
+element-copy-out-x c = let h = named (c .before .before) in omega arith
+
+with-segment-requires : tie.Need-with-segment-requires
+with-segment-requires c κs = named (c .before .before .before)
+
+unlabeled-requires-2 : tie.Need-unlabeled-requires-2
+unlabeled-requires-2 c κs = search needs
+
+returns-2 : tie.Need-returns-2
+unfolding accessOf
+returns-2 c =
+    let e = c .before .before .before in
+    let k = e .before in
+    step-granted _ _ (k .before .pre) _ Done done (c .unlabeled2 .ensures ∙ ap (λ (s : SegmentTable). unlabeled s Done) (c .before .with-segment .ensures)) (rw (sym (k .writable .ensures) ∙ not-false _ (e .if1 .left))) refl refl
+
+pub post-started-spec : {M : Type 1} → statement M
+post-started-spec =
+    tie.close
+    (tie.spec
+    writable-requires
+    unlabeled-requires
+    returns
+    mul-x
+    element-copy-out-x
+    with-segment-requires
+    unlabeled-requires-2
+    returns-2)

@@ -1,0 +1,95 @@
+use borrow.Author.Needs.{needs}
+use mathlib.Core.Bool.{true}
+use mathlib.Core.Path.{_≡_, refl, sym, ap, _∙_}
+use Prim.Native.Nat.{_+_, _-_, _<_}
+use native.Mathlib.Omega.{arith}
+use lib.Dec.{leb}
+use borrow.Author.Tests.{ltb-true, not-false, not-true}
+use Rattle.label.proofs.BoolLaws.{first-true}
+use Rattle.label.specs.declared.errno.Errno.the-variants.{Access, NoMem}
+use Rattle.segments.specs.Calls.{accessOf, slotValid, writable}
+use Rattle.segments.specs.Found.{unlabeled}
+use Rattle.segments.specs.Replies.{done}
+use Rattle.segments.specs.Segments.{ceilingAt, pagesAt, slots}
+use Rattle.segments.specs.Slots.{pagesOf}
+use Rattle.segments.specs.declared.Reply.the-variants.{Done}
+use Rattle.segments.specs.declared.SegmentTable.{SegmentTable}
+use Rattle.segments.proofs.CodeLaws.{fits-exact, pages-among, pages-kept}
+use Rattle.segments.proofs.CodeSteps.{started-numbers, started-tenant, step-granted, step-refused, writable-owned}
+use Rattle.segments.proofs.calls.size_started.Statement.{statement}
+use Rattle.segments.proofs.calls.size_started.Tie as tie
+
+-- the slot is one of the state's
+named : (c : tie.Start) → c .args .slot .0 < slots
+named c = ltb-true (c .args .slot .0) slots (first-true (slotValid (c .args .slot)) _ (started-numbers _ _ (c .pre)))
+
+-- what each test says
+is-writable : (c : tie.Else1) → let a = c .before .before .args in writable (a .t1) (a .tenant) (a .label) (a .slot) ≡ true
+is-writable c = sym (c .before .writable .ensures) ∙ not-false _ (c .if1 .left)
+
+room : (c : tie.After-has-room) → let a = c .before .before .before .before .args in
+    leb (pagesOf (a .t1) (a .tenant) - pagesAt (a .t1) (a .slot) + a .pages) (ceilingAt (a .t1) (a .tenant)) ≡ c .has-room .result
+room c =
+    let e = c .before .before in
+    let s = e .before .before in
+    sym (c .has-room .ensures ∙ fits-exact _ _ _ _ (pages-kept _ _ (s .pre .sound) (started-tenant _ _ (s .pre))) (pages-among _ _ _ (writable-owned _ _ _ _ (is-writable e))))
+
+writable-requires : tie.Need-writable-requires
+writable-requires c κs = named c
+
+unlabeled-requires : tie.Need-unlabeled-requires
+unlabeled-requires c κs = search needs
+
+returns : tie.Need-returns
+unfolding accessOf
+returns c =
+    let k = c .before .before in
+    step-refused _ _ (k .before .pre) _ Access (c .unlabeled .ensures) (rw (sym (k .writable .ensures) ∙ not-true _ (c .before .if1 .taken)))
+
+mul-x : tie.Need-mul-x
+mul-x c = let h = named (c .before .before) in omega arith
+
+element-copy-out-x : tie.Need-element-copy-out-x
+element-copy-out-x c = let h = named (c .before .before) in omega arith
+
+has-room-requires : tie.Need-has-room-requires
+has-room-requires c κs = started-tenant _ _ (c .before .before .before .pre)
+
+unlabeled-requires-2 : tie.Need-unlabeled-requires-2
+unlabeled-requires-2 c κs = search needs
+
+returns-2 : tie.Need-returns-2
+unfolding accessOf
+returns-2 c =
+    let t = c .before in
+    let e = t .before .before .before in
+    step-refused _ _ (e .before .before .pre) _ NoMem (c .unlabeled2 .ensures) (rw (is-writable e, room (t .before) ∙ not-true _ (t .if2 .taken)))
+
+with-segment-requires : tie.Need-with-segment-requires
+with-segment-requires c κs = named (c .before .before .before .before .before)
+
+unlabeled-requires-3 : tie.Need-unlabeled-requires-3
+unlabeled-requires-3 c κs = search needs
+
+returns-3 : tie.Need-returns-3
+unfolding accessOf
+returns-3 c =
+    let f = c .before .before in
+    let e = f .before .before .before in
+    step-granted _ _ (e .before .before .pre) _ Done done (c .unlabeled3 .ensures ∙ ap (λ (s : SegmentTable). unlabeled s Done) (c .before .with-segment .ensures)) (rw (is-writable e, room (f .before) ∙ not-false _ (f .if2 .left))) refl refl
+
+pub size-started-spec : {M : Type 1} → statement M
+size-started-spec =
+    tie.close
+    (tie.spec
+    writable-requires
+    unlabeled-requires
+    returns
+    mul-x
+    element-copy-out-x
+    has-room-requires
+    unlabeled-requires-2
+    returns-2
+    with-segment-requires
+    unlabeled-requires-3
+    returns-3)

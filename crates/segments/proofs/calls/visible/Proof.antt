@@ -1,0 +1,24 @@
+use Rattle.segments.specs.Calls.{visible}
+use borrow.Author.Needs.{needs}
+use Rattle.segments.proofs.calls.visible.Statement.{statement}
+use Rattle.segments.proofs.calls.visible.Tie as tie
+
+mul-x : tie.Need-mul-x
+mul-x c = search needs
+
+element-copy-out-x : tie.Need-element-copy-out-x
+element-copy-out-x c = search needs
+
+filled-requires : tie.Need-filled-requires
+filled-requires c κs = search needs
+
+dominates-requires : tie.Need-dominates-requires
+dominates-requires c κs = search needs
+
+returns : tie.Need-returns
+unfolding visible
+returns c = rw (c .before .filled .ensures, c .dominates .ensures)
+
+pub visible-spec : {M : Type 1} → statement M
+visible-spec =
+    tie.close (tie.spec mul-x element-copy-out-x filled-requires dominates-requires returns)

@@ -1,0 +1,162 @@
+use borrow.Author.Needs.{needs}
+use mathlib.Core.Bool.{Bool, true, _&&_}
+use mathlib.Core.Option.{Option}
+use mathlib.Core.Path.{_≡_, refl, sym, ap, _∙_}
+use Prim.Native.Nat.{ℕ, _+_, _-_, _<_}
+use native.Mathlib.Omega.{arith}
+use lib.Dec.{leb}
+use borrow.Author.Tests.{not-false, not-true}
+use Rattle.label.specs.declared.errno.Errno.the-variants.{Busy, Invalid, NoMem}
+use Rattle.label.proofs.BoolLaws.{first-true}
+use Rattle.segments.specs.Found.{fitsIn, keptIn, unlabeled}
+use Rattle.segments.specs.Operator.{setCeilingAnswer, setCeilingOf}
+use Rattle.segments.specs.Replies.{done}
+use Rattle.segments.specs.Segments.{ceilingAt, tenants}
+use Rattle.segments.specs.Slots.{ceilingsOf, pagesOf}
+use Rattle.segments.specs.Sound.{admitted, sound}
+use Rattle.segments.specs.declared.Reply.the-variants.{Done}
+use Rattle.segments.specs.declared.SegmentTable.{SegmentTable}
+use Rattle.segments.proofs.CodeLaws.{admitted-tenant, ceiling-among, fits-exact, kept-exact, sound-parts}
+use Rattle.segments.proofs.CodeSteps.{results-granted, results-refused}
+use Rattle.segments.proofs.operator.set_ceiling.Statement.{statement}
+use Rattle.segments.proofs.operator.set_ceiling.Tie as tie
+
+-- what each test says
+is-sound : (c : tie.Else1) → sound (c .before .before .args .t1) ≡ true
+is-sound c = sym (c .before .sound .ensures) ∙ not-false _ (c .if1 .left)
+
+tested : (c : tie.After-admitted) → let a = c .before .before .before .args in
+    (admitted (a .t1) (a .tenant) && leb 1 (a .ceiling)) ≡ (c .admitted .result && leb 1 (a .ceiling))
+tested c =
+    let a = c .before .before .before .args in
+    ap (λ (b : Bool). b && leb 1 (a .ceiling)) (sym (c .admitted .ensures))
+
+is-valid : (c : tie.Else2) → let a = c .before .before .before .before .args in (admitted (a .t1) (a .tenant) && leb 1 (a .ceiling)) ≡ true
+is-valid c = tested (c .before) ∙ not-false _ (c .if2 .left)
+
+inside : (c : tie.Else2) → c .before .before .before .before .args .tenant .0 < tenants
+inside c =
+    let a = c .before .before .before .before .args in
+    admitted-tenant (a .t1) (a .tenant) (first-true (admitted (a .t1) (a .tenant)) (leb 1 (a .ceiling)) (is-valid c))
+
+in-use : (c : tie.After-kept) → let a = c .before .before .before .before .before .before .args in leb (pagesOf (a .t1) (a .tenant)) (a .ceiling) ≡ c .kept .result
+in-use c =
+    let a = c .before .before .before .before .before .before .args in
+    sym (c .kept .ensures ∙ ap keptIn (c .before .pages-left .ensures) ∙ kept-exact (a .ceiling) (pagesOf (a .t1) (a .tenant)))
+
+room : (c : tie.After-fits2) → let a = c .before .before .before .before .before .before .before .before .before .before .args in
+    leb (ceilingsOf (a .t1) - ceilingAt (a .t1) (a .tenant) + a .ceiling) (a .t1 .pool) ≡ c .fits2 .result
+room c =
+    let f = c .before .before .before .before .before .before in
+    let e = f .before .before in
+    let a = e .before .before .args in
+    sym
+    (c .fits2 .ensures
+    ∙ ap (λ (x : Option ℕ). fitsIn x (ceilingAt (a .t1) (a .tenant)) (a .ceiling)) (c .before .pool-left .ensures)
+    ∙ fits-exact (a .t1 .pool) (ceilingsOf (a .t1)) (ceilingAt (a .t1) (a .tenant)) (a .ceiling) (sound-parts (a .t1) (is-sound e) .pool) (ceiling-among (a .t1) (a .tenant) (inside f)))
+
+sound-requires : tie.Need-sound-requires
+sound-requires c κs = search needs
+
+unlabeled-requires : tie.Need-unlabeled-requires
+unlabeled-requires c κs = search needs
+
+returns : tie.Need-returns
+unfolding setCeilingOf setCeilingAnswer
+returns c =
+    let k = c .before .before in
+    results-refused _ (k .before .args .t1) _ _ Invalid (c .unlabeled .ensures) (rw (sym (k .sound .ensures) ∙ not-true _ (c .before .if1 .taken)))
+
+admitted-requires : tie.Need-admitted-requires
+admitted-requires c κs = search needs
+
+unlabeled-requires-2 : tie.Need-unlabeled-requires-2
+unlabeled-requires-2 c κs = search needs
+
+returns-2 : tie.Need-returns-2
+unfolding setCeilingOf setCeilingAnswer
+returns-2 c =
+    let t = c .before in
+    let e = t .before .before in
+    results-refused _ (e .before .before .args .t1) _ _ Invalid (c .unlabeled2 .ensures) (rw (is-sound e, tested (t .before) ∙ not-true _ (t .if2 .taken)))
+
+pages-left-requires : tie.Need-pages-left-requires
+pages-left-requires c κs = inside c
+
+kept-requires : tie.Need-kept-requires
+kept-requires c κs = search needs
+
+unlabeled-requires-3 : tie.Need-unlabeled-requires-3
+unlabeled-requires-3 c κs = search needs
+
+returns-3 : tie.Need-returns-3
+unfolding setCeilingOf setCeilingAnswer
+returns-3 c =
+    let t = c .before in
+    let f = t .before .before .before in
+    let e = f .before .before in
+    results-refused _ (e .before .before .args .t1) _ _ Busy (c .unlabeled3 .ensures) (rw (is-sound e, is-valid f, in-use (t .before) ∙ not-true _ (t .if3 .taken)))
+
+mul-x : tie.Need-mul-x
+mul-x c = let h = inside (c .before .before .before) in omega arith
+
+element-copy-out-x : tie.Need-element-copy-out-x
+element-copy-out-x c = let h = inside (c .before .before .before) in omega arith
+
+pool-left-requires : tie.Need-pool-left-requires
+pool-left-requires c κs = search needs
+
+fits-requires : tie.Need-fits-requires
+fits-requires c κs = search needs
+
+unlabeled-requires-4 : tie.Need-unlabeled-requires-4
+unlabeled-requires-4 c κs = search needs
+
+returns-4 : tie.Need-returns-4
+unfolding setCeilingOf setCeilingAnswer
+returns-4 c =
+    let t = c .before in
+    let g = t .before .before .before .before in
+    let f = g .before .before .before in
+    let e = f .before .before in
+    results-refused _ (e .before .before .args .t1) _ _ NoMem (c .unlabeled4 .ensures) (rw (is-sound e, is-valid f, in-use (g .before) ∙ not-false _ (g .if3 .left), room (t .before) ∙ not-true _ (t .if4 .taken)))
+
+with-tenant-requires : tie.Need-with-tenant-requires
+with-tenant-requires c κs = inside (c .before .before .before .before .before .before .before .before)
+
+unlabeled-requires-5 : tie.Need-unlabeled-requires-5
+unlabeled-requires-5 c κs = search needs
+
+returns-5 : tie.Need-returns-5
+unfolding setCeilingOf setCeilingAnswer
+returns-5 c =
+    let h = c .before .before .before in
+    let g = h .before .before .before .before in
+    let f = g .before .before .before in
+    let e = f .before .before in
+    results-granted _ (e .before .before .args .t1) _ _ Done done (c .unlabeled5 .ensures ∙ ap (λ (s : SegmentTable). unlabeled s Done) (c .before .with-tenant .ensures))
+    (rw (is-sound e, is-valid f, in-use (g .before) ∙ not-false _ (g .if3 .left), room (h .before) ∙ not-false _ (h .if4 .left))) refl refl
+
+pub set-ceiling-spec : {M : Type 1} → statement M
+set-ceiling-spec =
+    tie.close
+    (tie.spec
+    sound-requires
+    unlabeled-requires
+    returns
+    admitted-requires
+    unlabeled-requires-2
+    returns-2
+    pages-left-requires
+    kept-requires
+    unlabeled-requires-3
+    returns-3
+    mul-x
+    element-copy-out-x
+    pool-left-requires
+    fits-requires
+    unlabeled-requires-4
+    returns-4
+    with-tenant-requires
+    unlabeled-requires-5
+    returns-5)

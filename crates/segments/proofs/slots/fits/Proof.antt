@@ -1,0 +1,39 @@
+use Prim.Native.Nat.{_+_, _-_}
+use lib.Dec.{leb}
+use Rattle.label.proofs.BoolLaws.{same-truth}
+use mathlib.Core.Path.{sym}
+use native.Mathlib.Omega.{arith}
+use borrow.Author.Tests.{le-leb, leb-true}
+use borrow.Author.Needs.{needs}
+use Rattle.segments.proofs.slots.fits.Statement.{statement}
+use Rattle.segments.proofs.slots.fits.Tie as tie
+
+enum-known-left : tie.Need-enum-known-left
+enum-known-left c = search needs
+
+sub-result : tie.Need-sub-result
+sub-result c = search needs
+
+enum-told : tie.Need-enum-told
+enum-told c = search needs
+
+returns : tie.Need-returns
+returns c =
+    let w = c .before .before .left .given in
+    let a = c .before .before .before .before .args in
+    rw (w .1) (sym (le-leb (a .wanted) (w .0 .0 + a .replaced) (omega arith)))
+
+returns-2 : tie.Need-returns-2
+returns-2 c =
+    let w = c .before .before .left .given in
+    let a = c .before .before .before .before .args in
+    rw (w .1)
+    (same-truth (leb (a .wanted - w .0 .0) (a .replaced)) (leb (a .wanted) (w .0 .0 + a .replaced))
+    (λ e. let l = leb-true (a .wanted - w .0 .0) (a .replaced) e in le-leb (a .wanted) (w .0 .0 + a .replaced) (omega arith))
+    (λ e. let l = leb-true (a .wanted) (w .0 .0 + a .replaced) e in le-leb (a .wanted - w .0 .0) (a .replaced) (omega arith)))
+
+returns-3 : tie.Need-returns-3
+returns-3 c = search needs
+
+pub fits-spec : {M : Type 1} → statement M
+fits-spec = tie.close (tie.spec enum-known-left sub-result enum-told returns returns-2 returns-3)

@@ -1,0 +1,31 @@
+use native.Mathlib.Omega.{arith}
+use Rattle.segments.proofs.CodeLaws.{owns-inside, owns-outside}
+use Rattle.segments.proofs.SlotsLaws.{own-bound}
+use borrow.Author.Needs.{needs}
+use Rattle.segments.proofs.slots.owns.Statement.{statement}
+use Rattle.segments.proofs.slots.owns.Tie as tie
+
+first-slot-requires : tie.Need-first-slot-requires
+first-slot-requires c κs = search needs
+
+slot-count-requires : tie.Need-slot-count-requires
+slot-count-requires c κs = search needs
+
+add-end : tie.Need-add-end
+add-end c =
+    let a = c .before .before .before .before .args in
+    let b = own-bound (a .s) (a .t) (c .before .before .if1 .taken) in
+    omega arith
+
+returns : tie.Need-returns
+returns c =
+    let n = c .before .before in
+    let t = n .before .before in
+    let a = t .before .before .args in
+    owns-inside (a .s) (a .t) _ _ (n .before .first-slot .ensures) (n .slot-count .ensures) (a .p) (t .if1 .taken)
+
+returns-2 : tie.Need-returns-2
+returns-2 c = owns-outside _ _ _ (c .if1 .left)
+
+pub owns-spec : {M : Type 1} → statement M
+owns-spec = tie.close (tie.spec first-slot-requires slot-count-requires add-end returns returns-2)

@@ -1,0 +1,82 @@
+use borrow.Author.Needs.{needs}
+use mathlib.Core.Path.{sym, ap, _∙_}
+use Prim.Native.Nat.{_+_, _-_, _≤_}
+use native.Mathlib.Omega.{arith}
+use Rattle.segments.specs.Found.{leftOf}
+use Rattle.segments.specs.Segments.{pagesAt, slot, slots}
+use Rattle.segments.proofs.CodeLaws.{Taken, pages-by, take-all, take-next, take-none, take-over}
+use Rattle.segments.proofs.SlotsLaws.{own-bound}
+use Rattle.segments.proofs.slots.pages_left.Statement.{statement}
+use Rattle.segments.proofs.slots.pages_left.Tie as tie
+
+abbrev Inv-loop : tie.InvT-loop
+Inv-loop limit s first count left₀ i₀ left i = Taken (λ p. pagesAt s (slot p)) first count limit i left
+
+abbrev μ-loop : tie.MeasureT-loop
+μ-loop limit s first count left₀ i₀ left i = count - i
+
+-- the slots that are read are slots of the state
+bound : (c : tie.After-slot-count Inv-loop μ-loop) → c .before .first-slot .result + c .slot-count .result ≤ slots
+bound c =
+    let a = c .before .before .args in
+    let b = own-bound (a .t1) (a .t) (c .before .before .pre) in
+    omega arith
+
+first-slot-requires : tie.Need-first-slot-requires Inv-loop μ-loop
+first-slot-requires c κs = search needs
+
+slot-count-requires : tie.Need-slot-count-requires Inv-loop μ-loop
+slot-count-requires c κs = search needs
+
+loop-holds : tie.Need-loop-holds Inv-loop μ-loop
+loop-holds c = take-none _ _ _ _
+
+add-pages : tie.Need-add-pages Inv-loop μ-loop
+add-pages c = let b = bound (c .before .before) in omega arith
+
+mul-pages : tie.Need-mul-pages Inv-loop μ-loop
+mul-pages c = let b = bound (c .before .before) in omega arith
+
+element-copy-out-pages : tie.Need-element-copy-out-pages Inv-loop μ-loop
+element-copy-out-pages c = let b = bound (c .before .before) in omega arith
+
+returns : tie.Need-returns Inv-loop μ-loop
+returns c =
+    let h = c .before .before in
+    let n = h .before in
+    let a = n .before .before .args in
+    sym (ap (leftOf (a .limit)) (sym (pages-by (a .t1) (a .t) _ _ (n .before .first-slot .ensures) (n .slot-count .ensures))) ∙ take-over _ _ _ _ _ _ (c .before .loop-test .taken) (c .if1 .taken) (h .loop .inv))
+
+add-i : tie.Need-add-i Inv-loop μ-loop
+add-i c = search needs
+
+loop-less : tie.Need-loop-less Inv-loop μ-loop
+loop-less c = search needs
+
+loop-again : tie.Need-loop-again Inv-loop μ-loop
+loop-again c = take-next _ _ _ _ _ _ (c .before .loop-test .taken) (c .if1 .left) (c .before .before .loop .inv)
+
+returns-2 : tie.Need-returns-2 Inv-loop μ-loop
+returns-2 c =
+    let h = c .before in
+    let n = h .before in
+    let a = n .before .before .args in
+    sym (ap (leftOf (a .limit)) (sym (pages-by (a .t1) (a .t) _ _ (n .before .first-slot .ensures) (n .slot-count .ensures))) ∙ take-all _ _ _ _ _ _ (c .loop-test .left) (h .loop .inv))
+
+pub pages-left-spec : {M : Type 1} → statement M
+pages-left-spec =
+    tie.close
+    (tie.spec
+    Inv-loop
+    μ-loop
+    first-slot-requires
+    slot-count-requires
+    loop-holds
+    add-pages
+    mul-pages
+    element-copy-out-pages
+    returns
+    add-i
+    loop-less
+    loop-again
+    returns-2)

@@ -1,0 +1,60 @@
+use native.Mathlib.Nat.{zero-add}
+use borrow.Author.Needs.{needs}
+use mathlib.Core.Path.{sym}
+use Prim.Native.Nat.{_-_}
+use Rattle.segments.specs.Segments.{ceilingAt, tenantId, tenants}
+use Rattle.segments.specs.Slots.{ceilingsOf}
+use Rattle.segments.proofs.CodeLaws.{Taken, take-all, take-next, take-none, take-over}
+use Rattle.segments.proofs.slots.pool_left.Statement.{statement}
+use Rattle.segments.proofs.slots.pool_left.Tie as tie
+
+abbrev Inv-loop : tie.InvT-loop
+Inv-loop s left₀ i₀ left i = Taken (λ t. ceilingAt s (tenantId t)) 0 tenants (s .pool) i left
+
+abbrev μ-loop : tie.MeasureT-loop
+μ-loop s left₀ i₀ left i = tenants - i
+
+loop-holds : tie.Need-loop-holds Inv-loop μ-loop
+loop-holds c = take-none _ _ _ _
+
+mul-ceiling : tie.Need-mul-ceiling Inv-loop μ-loop
+mul-ceiling c = search needs
+
+element-copy-out-ceiling : tie.Need-element-copy-out-ceiling Inv-loop μ-loop
+element-copy-out-ceiling c = search needs
+
+returns : tie.Need-returns Inv-loop μ-loop
+unfolding ceilingsOf
+returns c =
+    let l = c .before .before .loop in
+    sym (take-over _ _ _ _ (l .i) (l .left) (c .before .loop-test .taken) (rw zero-add (c .if1 .taken)) (l .inv))
+
+add-i : tie.Need-add-i Inv-loop μ-loop
+add-i c = search needs
+
+loop-less : tie.Need-loop-less Inv-loop μ-loop
+loop-less c = search needs
+
+loop-again : tie.Need-loop-again Inv-loop μ-loop
+loop-again c =
+    let l = c .before .before .loop in
+    rw zero-add at (take-next _ _ _ _ (l .i) (l .left) (c .before .loop-test .taken) (rw zero-add (c .if1 .left)) (l .inv))
+
+returns-2 : tie.Need-returns-2 Inv-loop μ-loop
+unfolding ceilingsOf
+returns-2 c = sym (take-all _ _ _ _ _ _ (c .loop-test .left) (c .before .loop .inv))
+
+pub pool-left-spec : {M : Type 1} → statement M
+pool-left-spec =
+    tie.close
+    (tie.spec
+    Inv-loop
+    μ-loop
+    loop-holds
+    mul-ceiling
+    element-copy-out-ceiling
+    returns
+    add-i
+    loop-less
+    loop-again
+    returns-2)

@@ -1,0 +1,28 @@
+use mathlib.Core.Path.{sym, ap, _∙_}
+use Rattle.label.specs.Answer.{testOf}
+use Rattle.segments.proofs.CodeLaws.{contains-refused, contains-told}
+use borrow.Author.Needs.{needs}
+use Rattle.segments.proofs.state.contains.Statement.{statement}
+use Rattle.segments.proofs.state.contains.Tie as tie
+
+contains-requires : tie.Need-contains-requires
+contains-requires c κs = search needs
+
+enum-known-test : tie.Need-enum-known-test
+enum-known-test c = search needs
+
+enum-told : tie.Need-enum-told
+enum-told c = search needs
+
+returns : tie.Need-returns
+returns c =
+    let k = c .before .before .before in
+    contains-told _ _ _ (ap testOf (sym (c .before .test .given .1)) ∙ k .contains .ensures)
+
+returns-2 : tie.Need-returns-2
+returns-2 c =
+    let k = c .before .before in
+    contains-refused _ _ _ _ (k .before .pre) (ap testOf (sym (c .enum-told .given .1)) ∙ k .contains .ensures)
+
+pub contains-spec : {M : Type 1} → statement M
+contains-spec = tie.close (tie.spec contains-requires enum-known-test enum-told returns returns-2)

@@ -1,0 +1,88 @@
+use borrow.Author.Needs.{needs}
+use mathlib.Core.Bool.{true}
+use mathlib.Core.Path.{_≡_, sym, ap, _∙_}
+use Prim.Native.Nat.{_≤_, _<_}
+use native.Mathlib.Omega.{arith}
+use borrow.Author.Tests.{not-false, not-true}
+use Rattle.label.specs.Answer.{granted}
+use Rattle.segments.specs.Found.{remainingOf}
+use Rattle.segments.specs.Segments.{ceilingAt, tenants}
+use Rattle.segments.specs.Slots.{pagesOf}
+use Rattle.segments.specs.Sound.{admitted, sound}
+use Rattle.segments.proofs.CodeLaws.{admitted-tenant, left-never, left-told, pages-kept}
+use Rattle.segments.proofs.state.pages_in_use.Statement.{statement}
+use Rattle.segments.proofs.state.pages_in_use.Tie as tie
+
+is-sound : (c : tie.Else1) → sound (c .before .before .args .t1) ≡ true
+is-sound c = sym (c .before .sound .ensures) ∙ not-false _ (c .if1 .left)
+
+is-admitted : (c : tie.Else2) → let a = c .before .before .before .before .args in admitted (a .t1) (a .t) ≡ true
+is-admitted c = sym (c .before .admitted .ensures) ∙ not-false _ (c .if2 .left)
+
+inside : (c : tie.Else2) → c .before .before .before .before .args .t .0 < tenants
+inside c = admitted-tenant _ _ (is-admitted c)
+
+in-ceiling : (c : tie.Else2) → let a = c .before .before .before .before .args in pagesOf (a .t1) (a .t) ≤ ceilingAt (a .t1) (a .t)
+in-ceiling c = pages-kept _ _ (is-sound (c .before .before)) (inside c)
+
+sound-requires : tie.Need-sound-requires
+sound-requires c κs = search needs
+
+returns : tie.Need-returns
+returns c = rw (sym (c .before .sound .ensures) ∙ not-true _ (c .if1 .taken))
+
+admitted-requires : tie.Need-admitted-requires
+admitted-requires c κs = search needs
+
+returns-2 : tie.Need-returns-2
+returns-2 c = rw (is-sound (c .before .before), sym (c .before .admitted .ensures) ∙ not-true _ (c .if2 .taken))
+
+mul-ceiling : tie.Need-mul-ceiling
+mul-ceiling c = let h = inside c in omega arith
+
+element-copy-out-ceiling : tie.Need-element-copy-out-ceiling
+element-copy-out-ceiling c = let h = inside c in omega arith
+
+pages-left-requires : tie.Need-pages-left-requires
+pages-left-requires c κs = inside c
+
+enum-known-left : tie.Need-enum-known-left
+enum-known-left c = search needs
+
+sub-t17 : tie.Need-sub-t17
+sub-t17 c =
+    let p = c .before .before .before in
+    let h = left-told _ _ _ (in-ceiling (p .before)) (ap remainingOf (sym (c .before .left .given .1)) ∙ p .pages-left .ensures) in
+    omega arith
+
+enum-told : tie.Need-enum-told
+enum-told c = search needs
+
+returns-3 : tie.Need-returns-3
+returns-3 c =
+    let p = c .before .before .before in
+    let e = p .before in
+    let h = left-told _ _ _ (in-ceiling e) (ap remainingOf (sym (c .before .left .given .1)) ∙ p .pages-left .ensures) in
+    rw (is-sound (e .before .before), is-admitted e) (ap granted (h .1))
+
+returns-4 : tie.Need-returns-4
+returns-4 c =
+    let p = c .before .before in
+    absurd (left-never _ _ (in-ceiling (p .before)) (ap remainingOf (sym (c .enum-told .given .1)) ∙ p .pages-left .ensures))
+
+pub pages-in-use-spec : {M : Type 1} → statement M
+pages-in-use-spec =
+    tie.close
+    (tie.spec
+    sound-requires
+    returns
+    admitted-requires
+    returns-2
+    mul-ceiling
+    element-copy-out-ceiling
+    pages-left-requires
+    enum-known-left
+    sub-t17
+    enum-told
+    returns-3
+    returns-4)

@@ -1,0 +1,29 @@
+use mathlib.Core.Path.{sym, ap, _∙_}
+use Rattle.label.specs.Answer.{testOf}
+use Rattle.segments.proofs.CodeLaws.{tenant-refused, tenant-told}
+use borrow.Author.Needs.{needs}
+use Rattle.segments.proofs.state.tenant_sound.Statement.{statement}
+use Rattle.segments.proofs.state.tenant_sound.Tie as tie
+
+is-empty-requires : tie.Need-is-empty-requires
+is-empty-requires c κs = search needs
+
+enum-known-test : tie.Need-enum-known-test
+enum-known-test c = search needs
+
+enum-told : tie.Need-enum-told
+enum-told c = search needs
+
+returns : tie.Need-returns
+returns c =
+    let k = c .before .before .before in
+    tenant-told _ _ (ap testOf (sym (c .before .test .given .1)) ∙ k .is-empty .ensures)
+
+returns-2 : tie.Need-returns-2
+returns-2 c =
+    let k = c .before .before in
+    tenant-refused _ _ _ (ap testOf (sym (c .enum-told .given .1)) ∙ k .is-empty .ensures)
+
+pub tenant-sound-spec : {M : Type 1} → statement M
+tenant-sound-spec =
+    tie.close (tie.spec is-empty-requires enum-known-test enum-told returns returns-2)
