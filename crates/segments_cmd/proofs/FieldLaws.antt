@@ -10,7 +10,7 @@ use Rattle.console.specs.Text.{Appended, appendedOf, decimalOf, pastOf}
 use Rattle.console.proofs.ByteLaws.{put-length, puts}
 use Rattle.console.proofs.DecimalLaws.{decimal-length}
 use Rattle.console.proofs.TextLaws.{appended}
-use Rattle.segments_cmd.specs.Answer.{FieldPut, field, numberBytes}
+use Rattle.segments_cmd.specs.Answer.{PutWithin, field, numberBytes}
 
 -- an append puts its bytes
 pub appended-put : {out : List ℕ} {at : ℕ} {bs : List ℕ} {r : ℕ} {after : List ℕ} → at + length bs ≤ length out → Appended out at bs r after → Put out at bs r after
@@ -29,19 +29,6 @@ put-same-length {out} {at} {bs} room p = rw (p .written) (put-length out at bs r
 pub number-length : (n : ℕ) → n < 2 ^ 64 → length (decimalOf n) ≤ numberBytes
 number-length n h = decimal-length n 19 (omega arith)
 
--- a word and then a number
-pub field-put : {out : List ℕ} {at : ℕ} {word : List ℕ} {n q r : ℕ} {mid after : List ℕ} → n < 2 ^ 64 → at + length word + numberBytes ≤ length out
-    → Appended out at word q mid → Appended mid q (decimalOf n) r after → FieldPut out at word n r after
-field-put {out} {at} {word} {n} {q} {r} {mid} {after} h room a b =
-    let l = number-length n h in
-    let e = length-append word (decimalOf n) in
-    let w : at + length word ≤ length out = omega arith in
-    let p = appended-put w a in
-    let m = put-same-length w p in
-    let i = p .past in
-    let whole = puts out at w p (appended-put (omega arith) b) in
-    let k = whole .past in record { put = whole; past = omega arith }
-
 -- bytes that are put behind others
 pub then-put : {out : List ℕ} {at : ℕ} {cs bs : List ℕ} {r s : ℕ} {mid after : List ℕ}
     → r ≤ length out → Put out at cs r mid → Put mid r bs s after → Put out at (cs ++ bs) s after
@@ -52,3 +39,15 @@ pub then-appended : {out : List ℕ} {at : ℕ} {cs bs : List ℕ} {r s : ℕ} {
 then-appended {out} {at} h p q =
     let e = p .past in
     let l = put-same-length (omega arith) p in then-put (omega arith) p (appended-put (omega arith) q)
+
+-- a word and then a number
+pub field-put : {out : List ℕ} {at : ℕ} {word : List ℕ} {n q r : ℕ} {mid after : List ℕ} → n < 2 ^ 64 → at + length word + numberBytes ≤ length out
+    → Appended out at word q mid → Appended mid q (decimalOf n) r after → PutWithin (at + length word + numberBytes) out at (field word n) r after
+field-put {out} {at} {word} {n} {q} {r} {mid} {after} h room a b =
+    let l = number-length n h in
+    let e = length-append word (decimalOf n) in
+    let w : at + length word ≤ length out = omega arith in
+    let p = appended-put w a in
+    let i = p .past in
+    let whole = then-appended (omega arith) p b in
+    let k = whole .past in record { put = whole; within = omega arith }

@@ -1,8 +1,6 @@
 -- The answers of calls as text. Assumes nothing.
 use mathlib.Core.List.{List, [], _∷_, _++_}
-use mathlib.Core.Path.{_≡_}
-use Prim.Native.Nat.{ℕ, _+_, _≤_}
-use lib.ListN.{length}
+use Prim.Native.Nat.{ℕ, _≤_}
 use Rattle.console.specs.Bytes.{Put, blank, lf}
 use Rattle.console.specs.Text.{decimalOf, errorText}
 use Rattle.hexline.specs.Line.{labelLineOf}
@@ -17,7 +15,10 @@ use Rattle.segments.specs.declared.Slot.{Slot}
 abbrev pub numberBytes : ℕ
 numberBytes = 20
 
--- room for the hex line of a label
+-- room for the numbers that a look shows, and for a hex line
+abbrev pub numbersBytes : ℕ
+numbersBytes = 112
+
 abbrev pub hexlineBytes : ℕ
 hexlineBytes = 400
 
@@ -29,10 +30,10 @@ answerBytes = 512
 abbrev pub field : List ℕ → ℕ → List ℕ
 field word n = word ++ decimalOf n
 
--- a word and a number were put in out at index at. The second follows, and is stated for callers
-pub record FieldPut (out : List ℕ) (at : ℕ) (word : List ℕ) (n r : ℕ) (after : List ℕ) : Type 0 where
-  pub put : Put out at (field word n) r after
-  pub past : r ≤ at + length word + numberBytes
+-- the bytes bs were put in out at index at, and r, the index past them, is at most limit
+pub record PutWithin (limit : ℕ) (out : List ℕ) (at : ℕ) (bs : List ℕ) (r : ℕ) (after : List ℕ) : Type 0 where
+  pub put : Put out at bs r after
+  pub within : r ≤ limit
 
 -- `ok` and LF
 unfoldable pub okLine : List ℕ
@@ -52,11 +53,6 @@ placeText p = field placeWord (p .0) ++ (lf ∷ [])
 -- the first line of what a look shows
 unfoldable pub shownNumbers : Numbers → List ℕ
 shownNumbers x = field shownWord (x .pages) ++ field (blank ∷ []) (x .version) ++ (lf ∷ [])
-
--- these numbers were put at the front of out. The second follows, and is stated for callers
-pub record NumbersPut (out : List ℕ) (x : Numbers) (r : ℕ) (after : List ℕ) : Type 0 where
-  pub put : Put out 0 (shownNumbers x) r after
-  pub past : r + hexlineBytes ≤ answerBytes
 
 -- a label that has no line, which no sound state holds, adds none
 abbrev pub lineOr : Answer (List ℕ) → List ℕ

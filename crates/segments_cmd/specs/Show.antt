@@ -1,16 +1,22 @@
 -- The state as text, a line at a time. Assumes nothing.
 use mathlib.Core.List.{List, [], _∷_, _++_}
-use mathlib.Core.Path.{_≡_}
-use Prim.Native.Nat.{ℕ, _+_, _*_, _≤_}
-use lib.ListN.{length}
-use Rattle.console.specs.Bytes.{Put, blank, lf}
+use Prim.Native.Nat.{ℕ, _+_, _*_}
+use Rattle.console.specs.Bytes.{blank, lf}
 use Rattle.label.specs.Words.{membersOf, words}
+use Rattle.label.specs.declared.Label.{Label}
 use Rattle.segments.specs.declared.Segment.{Segment}
 use Rattle.segments_cmd.specs.Answer.{field, placeWord}
 
 -- the most bytes that a label's categories take: a blank and a number each
 abbrev pub categoriesBytes : ℕ
 categoriesBytes = 21 * (64 * words)
+
+-- the most bytes of a slot's line: its numbers, and its label
+abbrev pub segmentBytes : ℕ
+segmentBytes = 82
+
+abbrev pub labelBytes : ℕ
+labelBytes = 42 + categoriesBytes
 
 -- the size of the buffer for a line
 abbrev pub lineBytes : ℕ
@@ -64,13 +70,12 @@ poolText pool = field poolWord pool ++ (lf ∷ [])
 unfoldable pub tenantText : ℕ → ℕ → ℕ → List ℕ
 tenantText t ceiling pages = field tenantWord t ++ field ceilingWord ceiling ++ field pagesWord pages ++ (lf ∷ [])
 
--- the line of a filled slot
-unfoldable pub slotText : ℕ → Segment → List ℕ
-slotText p x =
-    field placeWord p ++ field pagesWord (x .pages) ++ field editionWord (x .version) ++ field hierarchyWord (x .label .hierarchy)
-    ++ categoriesWord ++ categoriesText (membersOf (x .label .categories)) ++ (lf ∷ [])
+-- the line of a filled slot: the segment's numbers, and its label
+unfoldable pub segmentText : ℕ → Segment → List ℕ
+segmentText p x = field placeWord p ++ field pagesWord (x .pages) ++ field editionWord (x .version)
 
--- categories were put in out at index at. The second follows, and is stated for callers
-pub record CategoriesPut (out : List ℕ) (at : ℕ) (text : List ℕ) (r : ℕ) (after : List ℕ) : Type 0 where
-  pub put : Put out at text r after
-  pub past : r ≤ at + categoriesBytes
+unfoldable pub labelText : Label → List ℕ
+labelText l = field hierarchyWord (l .hierarchy) ++ categoriesWord ++ categoriesText (membersOf (l .categories))
+
+unfoldable pub slotText : ℕ → Segment → List ℕ
+slotText p x = segmentText p x ++ labelText (x .label) ++ (lf ∷ [])

@@ -10,10 +10,9 @@ use segments::Shown;
 use segments::Slot;
 ghost use Prim.Native.Nat.{_+_, _≤_};
 ghost use lib.ListN.{length};
-ghost use Rattle.console.specs.Bytes.{Put};
 ghost use Rattle.console.specs.Text.{Appended};
 ghost use Rattle.hexline.specs.Line.{labelLineOf};
-ghost use Rattle.segments_cmd.specs.Answer.{FieldPut, NumbersPut, answerBytes, hexlineBytes, lineOr, numberBytes, placeText, replyText, shownText};
+ghost use Rattle.segments_cmd.specs.Answer.{PutWithin, answerBytes, field, hexlineBytes, lineOr, numberBytes, numbersBytes, placeText, replyText, shownNumbers, shownText};
 
 // The size of the buffer for an answer.
 const ANSWER_BYTES: usize = 512;
@@ -21,7 +20,7 @@ const ANSWER_BYTES: usize = 512;
 // Appends a word and a number.
 pub(crate) fn put_field(out: &mut [u8], at: usize, word: &[u8], n: u64) -> usize
     requires { ⌜ at + length (now word) + numberBytes ≤ length (now out) ⌝ }
-    ensures { λ r. ⌜ FieldPut (now (out .entry)) at (now (word .entry)) n r (now (out .exit)) ⌝ }
+    ensures { λ r. ⌜ PutWithin (at + length (now (word .entry)) + numberBytes) (now (out .entry)) at (field (now (word .entry)) n) r (now (out .exit)) ⌝ }
 {
     let next = text::append(out, at, word);
     text::append_decimal(out, next, n)
@@ -29,7 +28,7 @@ pub(crate) fn put_field(out: &mut [u8], at: usize, word: &[u8], n: u64) -> usize
 
 fn put_place(out: &mut [u8], slot: Slot) -> usize
     requires { ⌜ answerBytes ≤ length (now out) ⌝ }
-    ensures { λ r. ⌜ Put (now (out .entry)) 0 (placeText slot) r (now (out .exit)) ⌝ }
+    ensures { λ r. ⌜ PutWithin answerBytes (now (out .entry)) 0 (placeText slot) r (now (out .exit)) ⌝ }
 {
     let at = put_field(out, 0, b"place ", slot.0);
     text::append(out, at, b"\n")
@@ -38,7 +37,7 @@ fn put_place(out: &mut [u8], slot: Slot) -> usize
 // The numbers that a look shows.
 fn put_numbers(out: &mut [u8], x: Shown) -> usize
     requires { ⌜ answerBytes ≤ length (now out) ⌝ }
-    ensures { λ r. ⌜ NumbersPut (now (out .entry)) x r (now (out .exit)) ⌝ }
+    ensures { λ r. ⌜ PutWithin numbersBytes (now (out .entry)) 0 (shownNumbers x) r (now (out .exit)) ⌝ }
 {
     let pages = put_field(out, 0, b"shown ", x.pages);
     let version = put_field(out, pages, b" ", x.version);
@@ -48,7 +47,7 @@ fn put_numbers(out: &mut [u8], x: Shown) -> usize
 // Appends the hex line of a label.
 fn put_label(out: &mut [u8], at: usize, label: Label) -> usize
     requires { ⌜ at + hexlineBytes ≤ length (now out) ⌝ }
-    ensures { λ r. ⌜ Put (now (out .entry)) at (lineOr (labelLineOf label)) r (now (out .exit)) ⌝ }
+    ensures { λ r. ⌜ PutWithin (at + hexlineBytes) (now (out .entry)) at (lineOr (labelLineOf label)) r (now (out .exit)) ⌝ }
 {
     let written = hexline::write_label(label, &mut out[at..]);
     match written {
@@ -59,7 +58,7 @@ fn put_label(out: &mut [u8], at: usize, label: Label) -> usize
 
 fn put_shown(out: &mut [u8], x: Shown, label: Label) -> usize
     requires { ⌜ answerBytes ≤ length (now out) ⌝ }
-    ensures { λ r. ⌜ Put (now (out .entry)) 0 (shownText x label) r (now (out .exit)) ⌝ }
+    ensures { λ r. ⌜ PutWithin answerBytes (now (out .entry)) 0 (shownText x label) r (now (out .exit)) ⌝ }
 {
     let at = put_numbers(out, x);
     put_label(out, at, label)

@@ -2,6 +2,7 @@
 use crate::answer::put_field;
 use console::lines;
 use console::text;
+use label::Label;
 use label::answer::Number;
 use label::words;
 use label::words::Found;
@@ -18,7 +19,8 @@ ghost use lib.ListN.{length};
 ghost use Rattle.console.specs.Bytes.{Put};
 ghost use Rattle.label.specs.Words.{membersOf};
 ghost use Rattle.segments.specs.Segments.{tenants};
-ghost use Rattle.segments_cmd.specs.Show.{CategoriesPut, categoriesBytes, categoriesText, lineBytes, listText, poolText, slotText, tenantText};
+ghost use Rattle.segments_cmd.specs.Answer.{PutWithin};
+ghost use Rattle.segments_cmd.specs.Show.{categoriesBytes, categoriesText, labelBytes, labelText, lineBytes, listText, poolText, segmentBytes, segmentText, slotText, tenantText};
 
 // How many categories there are.
 const CATEGORIES: u64 = (64 * WORDS) as u64;
@@ -29,7 +31,7 @@ const LINE_BYTES: usize = 128 + 21 * 64 * WORDS;
 // Appends a blank and a number for each category.
 fn put_members(out: &mut [u8], at: usize, categories: [u64; WORDS]) -> usize
     requires { ⌜ at + categoriesBytes ≤ length (now out) ⌝ }
-    ensures { λ r. ⌜ CategoriesPut (now (out .entry)) at (listText (membersOf categories)) r (now (out .exit)) ⌝ }
+    ensures { λ r. ⌜ PutWithin (at + categoriesBytes) (now (out .entry)) at (listText (membersOf categories)) r (now (out .exit)) ⌝ }
 {
     let mut end = at;
     let mut from: u64 = 0;
@@ -45,7 +47,7 @@ fn put_members(out: &mut [u8], at: usize, categories: [u64; WORDS]) -> usize
 
 fn put_categories(out: &mut [u8], at: usize, categories: [u64; WORDS]) -> usize
     requires { ⌜ at + categoriesBytes ≤ length (now out) ⌝ }
-    ensures { λ r. ⌜ CategoriesPut (now (out .entry)) at (categoriesText (membersOf categories)) r (now (out .exit)) ⌝ }
+    ensures { λ r. ⌜ PutWithin (at + categoriesBytes) (now (out .entry)) at (categoriesText (membersOf categories)) r (now (out .exit)) ⌝ }
 {
     let end = put_members(out, at, categories);
     if end == at {
@@ -54,18 +56,32 @@ fn put_categories(out: &mut [u8], at: usize, categories: [u64; WORDS]) -> usize
     end
 }
 
+// The numbers of a segment.
+fn put_segment(out: &mut [u8], slot: u64, x: Segment) -> usize
+    requires { ⌜ lineBytes ≤ length (now out) ⌝ }
+    ensures { λ r. ⌜ PutWithin segmentBytes (now (out .entry)) 0 (segmentText slot x) r (now (out .exit)) ⌝ }
+{
+    let number = put_field(out, 0, b"place ", slot);
+    let pages = put_field(out, number, b" pages ", x.pages);
+    put_field(out, pages, b" edition ", x.version)
+}
+
+fn put_label(out: &mut [u8], at: usize, label: Label) -> usize
+    requires { ⌜ at + labelBytes ≤ length (now out) ⌝ }
+    ensures { λ r. ⌜ PutWithin (at + labelBytes) (now (out .entry)) at (labelText label) r (now (out .exit)) ⌝ }
+{
+    let categories = label.categories;
+    let hierarchy = put_field(out, at, b" hierarchy ", label.hierarchy as u64);
+    let word = text::append(out, hierarchy, b" categories");
+    put_categories(out, word, categories)
+}
+
 fn put_slot(out: &mut [u8], slot: u64, x: Segment) -> usize
     requires { ⌜ lineBytes ≤ length (now out) ⌝ }
     ensures { λ r. ⌜ Put (now (out .entry)) 0 (slotText slot x) r (now (out .exit)) ⌝ }
 {
-    let label = x.label;
-    let number = put_field(out, 0, b"place ", slot);
-    let pages = put_field(out, number, b" pages ", x.pages);
-    let version = put_field(out, pages, b" edition ", x.version);
-    let hierarchy = put_field(out, version, b" hierarchy ", label.hierarchy as u64);
-    let word = text::append(out, hierarchy, b" categories");
-    let categories = label.categories;
-    let end = put_categories(out, word, categories);
+    let at = put_segment(out, slot, x);
+    let end = put_label(out, at, x.label);
     text::append(out, end, b"\n")
 }
 
@@ -87,20 +103,27 @@ fn put_pool(out: &mut [u8], pool: u64) -> usize
     text::append(out, at, b"\n")
 }
 
+// Prints a slot that is filled.
+fn print_slot(out: &mut [u8], slot: u64, x: Segment)
+    requires { ⌜ lineBytes ≤ length (now out) ⌝ }
+{
+    if x.pages > 0 {
+        let n = put_slot(out, slot, x);
+        io::write_all(STDOUT_FILENO, lines::front(out, n));
+    }
+}
+
 fn print_slots(out: &mut [u8], s: SegmentTable)
     requires { ⌜ lineBytes ≤ length (now out) ⌝ }
 {
     let mut i = 0;
     while i < SLOTS {
-        let x = s.segments[i];
-        if x.pages > 0 {
-            let n = put_slot(out, i as u64, x);
-            io::write_all(STDOUT_FILENO, lines::front(out, n));
-        }
+        print_slot(out, i as u64, s.segments[i]);
         i += 1;
     }
 }
 
+// Prints a tenant that is admitted.
 fn print_tenant(out: &mut [u8], s: SegmentTable, tenant: usize)
     requires { ⌜ lineBytes ≤ length (now out) ⌝ }
     requires { ⌜ tenant < tenants ⌝ }

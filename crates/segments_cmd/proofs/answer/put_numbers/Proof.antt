@@ -1,10 +1,8 @@
 use borrow.Author.Needs.{needs}
+use Rattle.segments_cmd.specs.Answer.{shownNumbers, shownWord}
+use Rattle.segments_cmd.proofs.FieldLaws.{appended-put, then-put}
 use Rattle.segments_cmd.proofs.answer.put_numbers.Statement.{statement}
 use Rattle.segments_cmd.proofs.answer.put_numbers.Tie as tie
-use Rattle.segments_cmd.proofs.answer.put_numbers.Reads as reads
-use Rattle.segments_cmd.proofs.answer.put_numbers.Lts as lts
-use Rattle.console.proofs.text.append.Reads as append-reads
-use Rattle.segments_cmd.proofs.answer.put_field.Reads as put-field-reads
 
 slice-aggregate-put-field : tie.Need-slice-aggregate-put-field
 slice-aggregate-put-field c = search needs
@@ -28,7 +26,14 @@ same-length : tie.Need-same-length
 same-length c = search needs
 
 returns : tie.Need-returns
-returns c = ?
+unfolding shownNumbers shownWord
+returns c =
+    let a = c .before .before in
+    let g = a .before .before .before .before .before in
+    let f = g .before .before .before .before .before in
+    let q = appended-put (search needs) (a .append .ensures) in
+    let e = q .past in
+    record { put = then-put (search needs) (then-put (search needs) (f .put-field .ensures .put) (g .put-field2 .ensures .put)) q; within = search needs }
 
 pub put-numbers-spec : {M : Type 1} → statement M
 put-numbers-spec =

@@ -1,6 +1,6 @@
 use borrow.Author.Needs.{needs}
 use Rattle.segments_cmd.specs.Answer.{placeText, placeWord}
-use Rattle.segments_cmd.proofs.FieldLaws.{then-appended}
+use Rattle.segments_cmd.proofs.FieldLaws.{appended-put, then-put}
 use Rattle.segments_cmd.proofs.answer.put_place.Statement.{statement}
 use Rattle.segments_cmd.proofs.answer.put_place.Tie as tie
 
@@ -21,9 +21,11 @@ same-length c = search needs
 
 returns : tie.Need-returns
 unfolding placeText placeWord
-returns c = 
+returns c =
     let a = c .before .before in
-    let f = a .before .before .before .before .before in then-appended (search needs) (f .put-field .ensures .put) (a .append .ensures)
+    let f = a .before .before .before .before .before in
+    let q = appended-put (search needs) (a .append .ensures) in
+    let e = q .past in record { put = then-put (search needs) (f .put-field .ensures .put) q; within = search needs }
 
 pub put-place-spec : {M : Type 1} → statement M
 put-place-spec =

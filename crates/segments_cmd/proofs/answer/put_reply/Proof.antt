@@ -1,12 +1,8 @@
 use borrow.Author.Needs.{needs}
+use Rattle.segments_cmd.specs.Answer.{okLine}
+use Rattle.segments_cmd.proofs.FieldLaws.{put-appended}
 use Rattle.segments_cmd.proofs.answer.put_reply.Statement.{statement}
 use Rattle.segments_cmd.proofs.answer.put_reply.Tie as tie
-use Rattle.segments_cmd.proofs.answer.put_reply.Reads as reads
-use Rattle.segments_cmd.proofs.answer.put_reply.Lts as lts
-use Rattle.console.proofs.text.append.Reads as append-reads
-use Rattle.console.proofs.text.append_error.Reads as append-error-reads
-use Rattle.segments_cmd.proofs.answer.put_place.Reads as put-place-reads
-use Rattle.segments_cmd.proofs.answer.put_shown.Reads as put-shown-reads
 
 enum-told : tie.Need-enum-told
 enum-told c = search needs
@@ -39,25 +35,32 @@ same-length : tie.Need-same-length
 same-length c = search needs
 
 returns : tie.Need-returns
-returns c = ?
+unfolding okLine
+returns c = let a = c .before .before in rw (a .before .before .before .enum-told .given .1) (a .append .ensures)
 
 same-length-2 : tie.Need-same-length-2
 same-length-2 c = search needs
 
 returns-2 : tie.Need-returns-2
-returns-2 c = ?
+returns-2 c =
+    let p = c .before .before in
+    let e = p .put-place .ensures in
+    let i = e .put .past in rw (p .before .before .before .reply .given .1) (put-appended (search needs) (e .put))
 
 same-length-3 : tie.Need-same-length-3
 same-length-3 c = search needs
 
 returns-3 : tie.Need-returns-3
-returns-3 c = ?
+returns-3 c =
+    let p = c .before .before in
+    let e = p .put-shown .ensures in
+    let i = e .put .past in rw (p .before .before .before .reply2 .given .1) (put-appended (search needs) (e .put))
 
 same-length-4 : tie.Need-same-length-4
 same-length-4 c = search needs
 
 returns-4 : tie.Need-returns-4
-returns-4 c = ?
+returns-4 c = let p = c .before .before in rw (p .before .before .before .reply3 .given .1) (p .append-error .ensures)
 
 pub put-reply-spec : {M : Type 1} → statement M
 put-reply-spec =

@@ -17,7 +17,7 @@ of-none-requires c κs = search needs
 
 returns-2 : tie.Need-returns-2
 unfolding requestOf
-returns-2 c = 
+returns-2 c =
     let t = c .before in
     let e1 = t .before .before .before in
     let p = e1 .before .before in
@@ -31,7 +31,7 @@ of-one-requires c κs = search needs
 
 returns-3 : tie.Need-returns-3
 unfolding requestOf
-returns-3 c = 
+returns-3 c =
     let t = c .before in
     let e2 = t .before .before in
     let e1 = e2 .before .before .before in
@@ -49,7 +49,7 @@ of-two-requires c κs = search needs
 
 returns-4 : tie.Need-returns-4
 unfolding requestOf
-returns-4 c = 
+returns-4 c =
     let t = c .before in
     let e3 = t .before .before in
     let e2 = e3 .before .before in
@@ -71,7 +71,7 @@ of-three-requires c κs = search needs
 
 returns-5 : tie.Need-returns-5
 unfolding requestOf
-returns-5 c = 
+returns-5 c =
     let t = c .before in
     let e4 = t .before .before in
     let e3 = e4 .before .before in
@@ -82,7 +82,7 @@ returns-5 c =
 
 returns-6 : tie.Need-returns-6
 unfolding requestOf
-returns-6 c = 
+returns-6 c =
     let e4 = c .before .before in
     let e3 = e4 .before .before in
     let e2 = e3 .before .before in

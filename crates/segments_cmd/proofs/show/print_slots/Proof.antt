@@ -1,49 +1,43 @@
+use borrow.Author.Needs.{needs}
+use mathlib.Core.Path.{_≡_}
+use Prim.Native.Nat.{_-_, _≤_}
+use lib.ListN.{length}
+use Rattle.segments.specs.Segments.{slots}
 use Rattle.segments_cmd.proofs.show.print_slots.Statement.{statement}
 use Rattle.segments_cmd.proofs.show.print_slots.Tie as tie
-use Rattle.segments_cmd.proofs.show.print_slots.Reads as reads
-use Rattle.segments_cmd.proofs.show.print_slots.Lts as lts
-use Rattle.console.proofs.lines.front.Reads as front-reads
-use Rattle.io.proofs.write_all.Reads as write-all-reads
-use Rattle.segments_cmd.proofs.show.put_slot.Reads as put-slot-reads
 
 abbrev Inv-loop : tie.InvT-loop
-Inv-loop out₀ s i₀ out i = ?
+Inv-loop out₀ s i₀ out i = (length out ≡ length out₀) × (i ≤ slots)
 
 abbrev μ-loop : tie.MeasureT-loop
-μ-loop out₀ s i₀ out i = ?
+μ-loop out₀ s i₀ out i = slots - i
 
 loop-holds : tie.Need-loop-holds Inv-loop μ-loop
-loop-holds c = ?
+loop-holds c = search needs
 
-mul-x : tie.Need-mul-x Inv-loop μ-loop
-mul-x c = ?
+mul-print-slot : tie.Need-mul-print-slot Inv-loop μ-loop
+mul-print-slot c = search needs
 
-element-copy-out-x : tie.Need-element-copy-out-x Inv-loop μ-loop
-element-copy-out-x c = ?
+element-copy-out-print-slot : tie.Need-element-copy-out-print-slot Inv-loop μ-loop
+element-copy-out-print-slot c = search needs
 
-put-slot-requires : tie.Need-put-slot-requires Inv-loop μ-loop
-put-slot-requires c κs = ?
-
-front-requires : tie.Need-front-requires Inv-loop μ-loop
-front-requires c κs = ?
-
-write-all-requires : tie.Need-write-all-requires Inv-loop μ-loop
-write-all-requires c κs = ?
+print-slot-requires : tie.Need-print-slot-requires Inv-loop μ-loop
+print-slot-requires c κs = search needs
 
 add-i : tie.Need-add-i Inv-loop μ-loop
-add-i c = ?
+add-i c = search needs
 
 loop-less : tie.Need-loop-less Inv-loop μ-loop
-loop-less c = ?
+loop-less c = search needs
 
 loop-again : tie.Need-loop-again Inv-loop μ-loop
-loop-again c = ?
+loop-again c = search needs
 
 same-length : tie.Need-same-length Inv-loop μ-loop
-same-length c = ?
+same-length c = search needs
 
 returns : tie.Need-returns Inv-loop μ-loop
-returns c = ?
+returns c = search needs
 
 pub print-slots-spec : {M : Type 1} → statement M
 print-slots-spec =
@@ -52,11 +46,9 @@ print-slots-spec =
     Inv-loop
     μ-loop
     loop-holds
-    mul-x
-    element-copy-out-x
-    put-slot-requires
-    front-requires
-    write-all-requires
+    mul-print-slot
+    element-copy-out-print-slot
+    print-slot-requires
     add-i
     loop-less
     loop-again

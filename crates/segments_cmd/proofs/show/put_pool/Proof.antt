@@ -1,10 +1,8 @@
 use borrow.Author.Needs.{needs}
+use Rattle.segments_cmd.specs.Show.{poolText, poolWord}
+use Rattle.segments_cmd.proofs.FieldLaws.{then-appended}
 use Rattle.segments_cmd.proofs.show.put_pool.Statement.{statement}
 use Rattle.segments_cmd.proofs.show.put_pool.Tie as tie
-use Rattle.segments_cmd.proofs.show.put_pool.Reads as reads
-use Rattle.segments_cmd.proofs.show.put_pool.Lts as lts
-use Rattle.console.proofs.text.append.Reads as append-reads
-use Rattle.segments_cmd.proofs.answer.put_field.Reads as put-field-reads
 
 slice-aggregate-put-field : tie.Need-slice-aggregate-put-field
 slice-aggregate-put-field c = search needs
@@ -22,7 +20,10 @@ same-length : tie.Need-same-length
 same-length c = search needs
 
 returns : tie.Need-returns
-returns c = ?
+unfolding poolText poolWord
+returns c =
+    let a = c .before .before in
+    let f = a .before .before .before .before .before in then-appended (search needs) (f .put-field .ensures .put) (a .append .ensures)
 
 pub put-pool-spec : {M : Type 1} → statement M
 put-pool-spec =

@@ -1,10 +1,8 @@
 use borrow.Author.Needs.{needs}
+use Rattle.segments_cmd.specs.Show.{ceilingWord, pagesWord, tenantText, tenantWord}
+use Rattle.segments_cmd.proofs.FieldLaws.{then-appended, then-put}
 use Rattle.segments_cmd.proofs.show.put_tenant.Statement.{statement}
 use Rattle.segments_cmd.proofs.show.put_tenant.Tie as tie
-use Rattle.segments_cmd.proofs.show.put_tenant.Reads as reads
-use Rattle.segments_cmd.proofs.show.put_tenant.Lts as lts
-use Rattle.console.proofs.text.append.Reads as append-reads
-use Rattle.segments_cmd.proofs.answer.put_field.Reads as put-field-reads
 
 slice-aggregate-put-field : tie.Need-slice-aggregate-put-field
 slice-aggregate-put-field c = search needs
@@ -34,7 +32,14 @@ same-length : tie.Need-same-length
 same-length c = search needs
 
 returns : tie.Need-returns
-returns c = ?
+unfolding tenantText tenantWord ceilingWord pagesWord
+returns c =
+    let a = c .before .before in
+    let h = a .before .before .before .before .before in
+    let g = h .before .before .before .before .before in
+    let f = g .before .before .before .before .before in
+    let p = then-put (search needs) (f .put-field .ensures .put) (g .put-field2 .ensures .put) in
+    then-appended (search needs) (then-put (search needs) p (h .put-field3 .ensures .put)) (a .append .ensures)
 
 pub put-tenant-spec : {M : Type 1} → statement M
 put-tenant-spec =
