@@ -1,0 +1,24 @@
+use borrow.Author.Needs.{needs}
+use Rattle.segments_cmd.specs.Answer.{shownText}
+use Rattle.segments_cmd.proofs.FieldLaws.{then-put}
+use Rattle.segments_cmd.proofs.answer.put_shown.Statement.{statement}
+use Rattle.segments_cmd.proofs.answer.put_shown.Tie as tie
+
+put-numbers-requires : tie.Need-put-numbers-requires
+put-numbers-requires c κs = search needs
+
+put-label-requires : tie.Need-put-label-requires
+put-label-requires c κs = search needs
+
+same-length : tie.Need-same-length
+same-length c = search needs
+
+returns : tie.Need-returns
+unfolding shownText
+returns c =
+    let l = c .before .before in
+    let n = l .before .before .before .before in
+    record { put = then-put (search needs) (n .put-numbers .ensures .put) (l .put-label .ensures .put); within = search needs }
+
+pub put-shown-spec : {M : Type 1} → statement M
+put-shown-spec = tie.close (tie.spec put-numbers-requires put-label-requires same-length returns)

@@ -1,0 +1,114 @@
+use borrow.Author.Needs.{needs}
+use mathlib.Core.Option.{some}
+use mathlib.Core.Path.{_≡_, refl, sym, ap, _∙_}
+use Prim.Native.Nat.{_+_, _-_, _*_, _≤_, _<_}
+use native.Mathlib.Omega.{arith}
+use lib.ListN.{length}
+use Rattle.console.specs.Bytes.{Put}
+use Rattle.console.proofs.ByteLaws.{put-nil}
+use Rattle.label.specs.Words.{foundOf, membersBelow, nextOf, words}
+use Rattle.segments_cmd.specs.Show.{listText}
+use Rattle.segments_cmd.proofs.CategoryLaws.{list-end, list-last, list-next, next-above, next-below}
+use Rattle.segments_cmd.proofs.FieldLaws.{then-put}
+use Rattle.segments_cmd.proofs.show.put_members.Statement.{statement}
+use Rattle.segments_cmd.proofs.show.put_members.Tie as tie
+
+abbrev Inv-loop : tie.InvT-loop
+Inv-loop out₀ at categories end₀ from₀ t7 out end from =
+    (length out ≡ length out₀) × (from ≤ 64 * words) × (end ≤ at + 21 * from) × Put out₀ at (listText (membersBelow categories from)) end out
+
+abbrev μ-loop : tie.MeasureT-loop
+μ-loop out₀ at categories end₀ from₀ t7 out end from = 64 * words - from
+
+-- the category that is found
+found-c : (k : tie.After-known-told Inv-loop μ-loop)
+    → nextOf (k .before .before .before .before .before .before .before .args .categories) (k .before .before .before .before .before .loop .from)
+    ≡ some (k .before .c .given .0 .0)
+found-c k = sym (k .before .before .before .next .ensures) ∙ ap foundOf (k .before .c .given .1)
+
+next-c : (k : tie.After-known-told Inv-loop μ-loop)
+    → (k .before .before .before .before .before .loop .from ≤ k .before .c .given .0 .0) × (k .before .c .given .0 .0 < 64 * words)
+next-c k =
+    let l = k .before .before .before .before .before in
+    let ws = l .before .before .args .categories in
+    let h : length ws ≡ words = search needs in
+    let b = next-below ws (l .loop .from) (k .before .c .given .0 .0) (found-c k) in (next-above ws (l .loop .from) (k .before .c .given .0 .0) (found-c k), omega arith)
+
+loop-holds : tie.Need-loop-holds Inv-loop μ-loop
+unfolding listText membersBelow
+loop-holds c =
+    let a = c .before .args in (refl, omega arith, omega arith, record { past = omega arith; written = sym (put-nil (a .out .now) (a .at)) })
+
+next-requires : tie.Need-next-requires Inv-loop μ-loop
+next-requires c κs = search needs
+
+enum-known-c : tie.Need-enum-known-c Inv-loop μ-loop
+enum-known-c c = search needs
+
+enum-told : tie.Need-enum-told Inv-loop μ-loop
+enum-told c = search needs
+
+same-length : tie.Need-same-length Inv-loop μ-loop
+same-length c = search needs
+
+returns : tie.Need-returns Inv-loop μ-loop
+returns c =
+    let n = c .before .before in
+    let l = n .before .before in
+    let ws = l .before .before .args .categories in
+    let h : length ws ≡ words = search needs in
+    let e = list-last ws (l .loop .from) (omega arith) (sym (n .next .ensures) ∙ ap foundOf (c .enum-told .given .1)) in
+    record { put = rw e at (l .loop .inv .3); within = omega arith }
+
+slice-aggregate-put-field : tie.Need-slice-aggregate-put-field Inv-loop μ-loop
+slice-aggregate-put-field c = search needs
+
+put-field-requires : tie.Need-put-field-requires Inv-loop μ-loop
+put-field-requires c κs = search needs
+
+add-from : tie.Need-add-from Inv-loop μ-loop
+add-from c = let k = c .before .before .before .before .before in omega (arith, next-c k .1)
+
+loop-less : tie.Need-loop-less Inv-loop μ-loop
+loop-less c = let k = c .before .before .before .before .before in omega (arith, next-c k .0, next-c k .1)
+
+loop-again : tie.Need-loop-again Inv-loop μ-loop
+loop-again c =
+    let p = c .before .before in
+    let k = p .before .before .before in
+    let n = k .before .before .before in
+    let l = n .before .before in
+    let ws = l .before .before .args .categories in
+    let r = next-c k in
+    let e = list-next ws (l .loop .from) (k .before .c .given .0 .0) (found-c k) in
+    (search needs, omega arith, omega arith, rw e (then-put (omega arith) (l .loop .inv .3) (p .put-field .ensures .put)))
+
+same-length-2 : tie.Need-same-length-2 Inv-loop μ-loop
+same-length-2 c = search needs
+
+returns-2 : tie.Need-returns-2 Inv-loop μ-loop
+returns-2 c =
+    let l = c .before in
+    let ws = l .before .before .args .categories in
+    let h : length ws ≡ words = search needs in
+    let e = list-end ws (l .loop .from) (omega arith) in record { put = rw e at (l .loop .inv .3); within = omega arith }
+
+pub put-members-spec : {M : Type 1} → statement M
+put-members-spec =
+    tie.close
+    (tie.spec
+    Inv-loop
+    μ-loop
+    loop-holds
+    next-requires
+    enum-known-c
+    enum-told
+    same-length
+    returns
+    slice-aggregate-put-field
+    put-field-requires
+    add-from
+    loop-less
+    loop-again
+    same-length-2
+    returns-2)

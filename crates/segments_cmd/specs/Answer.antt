@@ -1,0 +1,70 @@
+-- The answers of calls as text. Assumes nothing.
+use mathlib.Core.List.{List, [], _∷_, _++_}
+use Prim.Native.Nat.{ℕ, _≤_}
+use Rattle.console.specs.Bytes.{Put, blank, lf}
+use Rattle.console.specs.Text.{decimalOf, errorText}
+use Rattle.hexline.specs.Line.{labelLineOf}
+use Rattle.label.specs.Answer.{Answer, granted, refused}
+use Rattle.label.specs.declared.Label.{Label}
+use Rattle.segments.specs.declared.Reply.{Reply}
+use Rattle.segments.specs.declared.Reply.the-variants.{Done, Opened, Shown, Refused}
+use Rattle.segments.specs.declared.Shown.{Shown as Numbers}
+use Rattle.segments.specs.declared.Slot.{Slot}
+
+-- the most bytes that a number below 2 ^ 64 takes
+abbrev pub numberBytes : ℕ
+numberBytes = 20
+
+-- room for the numbers that a look shows, and for a hex line
+abbrev pub numbersBytes : ℕ
+numbersBytes = 112
+
+abbrev pub hexlineBytes : ℕ
+hexlineBytes = 400
+
+-- the size of the buffer for an answer
+abbrev pub answerBytes : ℕ
+answerBytes = 512
+
+-- a word and a number
+abbrev pub field : List ℕ → ℕ → List ℕ
+field word n = word ++ decimalOf n
+
+-- the bytes bs were put in out at index at, and r, the index past them, is at most limit
+pub record PutWithin (limit : ℕ) (out : List ℕ) (at : ℕ) (bs : List ℕ) (r : ℕ) (after : List ℕ) : Type 0 where
+  pub put : Put out at bs r after
+  pub within : r ≤ limit
+
+-- `ok` and LF
+unfoldable pub okLine : List ℕ
+okLine = 111 ∷ 107 ∷ lf ∷ []
+
+-- `place `
+unfoldable pub placeWord : List ℕ
+placeWord = 112 ∷ 108 ∷ 97 ∷ 99 ∷ 101 ∷ blank ∷ []
+
+-- `shown `
+unfoldable pub shownWord : List ℕ
+shownWord = 115 ∷ 104 ∷ 111 ∷ 119 ∷ 110 ∷ blank ∷ []
+
+unfoldable pub placeText : Slot → List ℕ
+placeText p = field placeWord (p .0) ++ (lf ∷ [])
+
+-- the first line of what a look shows
+unfoldable pub shownNumbers : Numbers → List ℕ
+shownNumbers x = field shownWord (x .pages) ++ field (blank ∷ []) (x .version) ++ (lf ∷ [])
+
+-- a label that has no line, which no sound state holds, adds none
+abbrev pub lineOr : Answer (List ℕ) → List ℕ
+lineOr (granted line) = line
+lineOr (refused n detail) = []
+
+unfoldable pub shownText : Numbers → Label → List ℕ
+shownText x l = shownNumbers x ++ lineOr (labelLineOf l)
+
+-- what a reply prints, with the label beside it
+abbrev pub replyText : Reply → Label → List ℕ
+replyText Done l = okLine
+replyText (Opened p) l = placeText p
+replyText (Shown x) l = shownText x l
+replyText (Refused e) l = errorText e

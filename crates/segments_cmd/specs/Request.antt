@@ -1,0 +1,100 @@
+-- A command line as a request. Assumes nothing.
+use mathlib.Core.Bool.{Bool, true, false, cond}
+use mathlib.Core.List.{List, [], _∷_}
+use Prim.Native.Nat.{ℕ}
+use lib.Dec.{eqb}
+use lib.ListN.{getD}
+use Rattle.console.specs.Bytes.{sameBytes}
+use Rattle.console.specs.Command.{commandOf, wordOf}
+use Rattle.console.specs.declared.command.Command.{Command}
+use Rattle.segments.specs.Segments.{slot, tenantId}
+use Rattle.segments.specs.declared.Action.the-variants.{Open, Size, Post, Look, Close}
+use Rattle.segments.specs.declared.Slot.{Slot}
+use Rattle.segments.specs.declared.TenantId.{TenantId}
+use Rattle.segments_cmd.specs.declared.request.Request.{Request}
+use Rattle.segments_cmd.specs.declared.request.Request.the-variants.{Invalid, Make, Admit, SetCeiling, Call, Show}
+
+-- `show`
+unfoldable pub showWord : List ℕ
+showWord = 115 ∷ 104 ∷ 111 ∷ 119 ∷ []
+
+-- `make`
+unfoldable pub makeWord : List ℕ
+makeWord = 109 ∷ 97 ∷ 107 ∷ 101 ∷ []
+
+-- `admit`
+unfoldable pub admitWord : List ℕ
+admitWord = 97 ∷ 100 ∷ 109 ∷ 105 ∷ 116 ∷ []
+
+-- `ceiling`
+unfoldable pub ceilingWord : List ℕ
+ceilingWord = 99 ∷ 101 ∷ 105 ∷ 108 ∷ 105 ∷ 110 ∷ 103 ∷ []
+
+-- `open`
+unfoldable pub openWord : List ℕ
+openWord = 111 ∷ 112 ∷ 101 ∷ 110 ∷ []
+
+-- `size`
+unfoldable pub sizeWord : List ℕ
+sizeWord = 115 ∷ 105 ∷ 122 ∷ 101 ∷ []
+
+-- `post`
+unfoldable pub postWord : List ℕ
+postWord = 112 ∷ 111 ∷ 115 ∷ 116 ∷ []
+
+-- `look`
+unfoldable pub lookWord : List ℕ
+lookWord = 108 ∷ 111 ∷ 111 ∷ 107 ∷ []
+
+-- `close`
+unfoldable pub closeWord : List ℕ
+closeWord = 99 ∷ 108 ∷ 111 ∷ 115 ∷ 101 ∷ []
+
+-- ---- the requests by their words, with 0, 1, 2 and 3 numbers
+
+unfoldable pub ofNone : List ℕ → Request
+ofNone word = cond (sameBytes word showWord) Show Invalid
+
+unfoldable pub ofOne : List ℕ → ℕ → Request
+ofOne word n = cond (sameBytes word makeWord) (Make n) Invalid
+
+unfoldable pub ofTwo : List ℕ → TenantId → ℕ → Request
+ofTwo word t n =
+    cond (sameBytes word admitWord) (Admit t n)
+    (cond (sameBytes word ceilingWord) (SetCeiling t n)
+    (cond (sameBytes word openWord) (Call t (Open (record { pages = n })))
+    (cond (sameBytes word lookWord) (Call t (Look (record { slot = slot n })))
+    (cond (sameBytes word closeWord) (Call t (Close (record { slot = slot n })))
+    Invalid))))
+
+unfoldable pub ofThree : List ℕ → TenantId → Slot → ℕ → Request
+ofThree word t p n =
+    cond (sameBytes word sizeWord) (Call t (Size (record { slot = p; pages = n })))
+    (cond (sameBytes word postWord) (Call t (Post (record { slot = p; version = n })))
+    Invalid)
+
+-- ---- command lines
+
+abbrev pub byCount : List ℕ → ℕ → List ℕ → Request
+byCount word count ns =
+    cond (eqb count 0) (ofNone word)
+    (cond (eqb count 1) (ofOne word (getD ns 0 0))
+    (cond (eqb count 2) (ofTwo word (tenantId (getD ns 0 0)) (getD ns 1 0))
+    (cond (eqb count 3) (ofThree word (tenantId (getD ns 0 0)) (slot (getD ns 1 0)) (getD ns 2 0))
+    Invalid)))
+
+abbrev pub ofCommand : List ℕ → Command → Request
+ofCommand word c = cond (c .valid) (byCount word (c .count) (c .numbers)) Invalid
+
+-- what a command line asks for
+unfoldable pub requestOf : List ℕ → Request
+requestOf line = ofCommand (wordOf line) (commandOf line)
+
+-- whether a request has an operand line
+abbrev pub takesOperand : Request → Bool
+takesOperand Invalid = false
+takesOperand (Make n) = false
+takesOperand (Admit t n) = true
+takesOperand (SetCeiling t n) = false
+takesOperand (Call t a) = true
+takesOperand Show = false

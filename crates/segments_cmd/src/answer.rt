@@ -1,0 +1,84 @@
+// The answer of a call as text.
+use console::lines;
+use console::text;
+use label::Label;
+use label::answer::Written;
+use libc::STDOUT_FILENO;
+use segments::Answer;
+use segments::Reply;
+use segments::Shown;
+use segments::Slot;
+ghost use Prim.Native.Nat.{_+_, _≤_};
+ghost use lib.ListN.{length};
+ghost use Rattle.console.specs.Text.{Appended};
+ghost use Rattle.hexline.specs.Line.{labelLineOf};
+ghost use Rattle.segments_cmd.specs.Answer.{PutWithin, answerBytes, field, hexlineBytes, lineOr, numberBytes, numbersBytes, placeText, replyText, shownNumbers, shownText};
+
+// The size of the buffer for an answer.
+const ANSWER_BYTES: usize = 512;
+
+// Appends a word and a number.
+pub(crate) fn put_field(out: &mut [u8], at: usize, word: &[u8], n: u64) -> usize
+    requires { ⌜ at + length (now word) + numberBytes ≤ length (now out) ⌝ }
+    ensures { λ r. ⌜ PutWithin (at + length (now (word .entry)) + numberBytes) (now (out .entry)) at (field (now (word .entry)) n) r (now (out .exit)) ⌝ }
+{
+    let next = text::append(out, at, word);
+    text::append_decimal(out, next, n)
+}
+
+fn put_place(out: &mut [u8], slot: Slot) -> usize
+    requires { ⌜ answerBytes ≤ length (now out) ⌝ }
+    ensures { λ r. ⌜ PutWithin answerBytes (now (out .entry)) 0 (placeText slot) r (now (out .exit)) ⌝ }
+{
+    let at = put_field(out, 0, b"place ", slot.0);
+    text::append(out, at, b"\n")
+}
+
+// The numbers that a look shows.
+fn put_numbers(out: &mut [u8], x: Shown) -> usize
+    requires { ⌜ answerBytes ≤ length (now out) ⌝ }
+    ensures { λ r. ⌜ PutWithin numbersBytes (now (out .entry)) 0 (shownNumbers x) r (now (out .exit)) ⌝ }
+{
+    let pages = put_field(out, 0, b"shown ", x.pages);
+    let version = put_field(out, pages, b" ", x.version);
+    text::append(out, version, b"\n")
+}
+
+// Appends the hex line of a label.
+fn put_label(out: &mut [u8], at: usize, label: Label) -> usize
+    requires { ⌜ at + hexlineBytes ≤ length (now out) ⌝ }
+    ensures { λ r. ⌜ PutWithin (at + hexlineBytes) (now (out .entry)) at (lineOr (labelLineOf label)) r (now (out .exit)) ⌝ }
+{
+    let written = hexline::write_label(label, &mut out[at..]);
+    match written {
+        Written::Length(n) => at + n,
+        Written::Refused(_) => at,
+    }
+}
+
+fn put_shown(out: &mut [u8], x: Shown, label: Label) -> usize
+    requires { ⌜ answerBytes ≤ length (now out) ⌝ }
+    ensures { λ r. ⌜ PutWithin answerBytes (now (out .entry)) 0 (shownText x label) r (now (out .exit)) ⌝ }
+{
+    let at = put_numbers(out, x);
+    put_label(out, at, label)
+}
+
+fn put_reply(out: &mut [u8], reply: Reply, label: Label) -> usize
+    requires { ⌜ answerBytes ≤ length (now out) ⌝ }
+    ensures { λ r. ⌜ Appended (now (out .entry)) 0 (replyText reply label) r (now (out .exit)) ⌝ }
+{
+    match reply {
+        Reply::Done => text::append(out, 0, b"ok\n"),
+        Reply::Opened(slot) => put_place(out, slot),
+        Reply::Shown(x) => put_shown(out, x, label),
+        Reply::Refused(e) => text::append_error(out, 0, e),
+    }
+}
+
+pub(crate) fn print(a: Answer) {
+    let mut out = [0u8; ANSWER_BYTES];
+    let reply = a.reply;
+    let n = put_reply(&mut out, reply, a.label);
+    io::write_all(STDOUT_FILENO, lines::front(&out, n));
+}

@@ -1,0 +1,67 @@
+// The call that a request makes: its operand line is read, and where it is bad no call is made.
+use label::answer::granted;
+use label::errno::Errno;
+use segments::Action;
+use segments::Answer;
+use segments::Call;
+use segments::Outcome;
+use segments::Reply;
+use segments::SegmentTable;
+use segments::TenantId;
+use segments::calls;
+use segments::operator;
+
+// The outcome of a request that makes no call.
+pub(crate) fn refused(table: SegmentTable) -> Outcome {
+    Outcome {
+        table,
+        answer: Answer {
+            reply: Reply::Refused(Errno::Invalid),
+            label: label::zero(),
+        },
+    }
+}
+
+// A granted make leaves its new state in the place of the old one. A refused one leaves the old one, and not the zeros that it hands back.
+pub(crate) fn make(table: SegmentTable, pool: u64) -> Outcome {
+    let made = operator::make(pool);
+    let answer = made.answer;
+    let reply = answer.reply;
+    match reply {
+        Reply::Done => made,
+        Reply::Opened(_) => made,
+        Reply::Shown(_) => made,
+        Reply::Refused(_) => Outcome { table, answer },
+    }
+}
+
+pub(crate) fn admit(table: SegmentTable, tenant: TenantId, ceiling: u64, line: &[u8]) -> Outcome {
+    let read = hexline::read_tuple(line);
+    let outcome = read.outcome;
+    if granted(outcome) {
+        return operator::admit(table, tenant, ceiling, read.tuple);
+    }
+    refused(table)
+}
+
+pub(crate) fn of_tenant(
+    table: SegmentTable,
+    tenant: TenantId,
+    action: Action,
+    line: &[u8],
+) -> Outcome {
+    let read = hexline::read_label(line);
+    let outcome = read.outcome;
+    let label = read.label;
+    if granted(outcome) {
+        return calls::step(
+            table,
+            Call {
+                tenant,
+                label,
+                action,
+            },
+        );
+    }
+    refused(table)
+}

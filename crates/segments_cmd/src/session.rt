@@ -1,0 +1,99 @@
+// The lines of the input as requests: a command line, then its operand line if it has one, then its answer.
+use crate::answer;
+use crate::call;
+use crate::request;
+use crate::request::Request;
+use crate::show;
+use console::command;
+use console::lines;
+use console::lines::Line;
+use segments::Outcome;
+use segments::SegmentTable;
+use segments::operator;
+use segments::state;
+
+// The state, and the request whose operand line is due. Between two requests none is.
+pub(crate) struct Session {
+    pub table: SegmentTable,
+    pub request: Request,
+}
+
+fn between(table: SegmentTable) -> Session {
+    Session {
+        table,
+        request: Request::Invalid,
+    }
+}
+
+// The state of zeros, which is what a refused make hands back.
+pub(crate) fn start() -> Session {
+    let refused = operator::make(0);
+    between(refused.table)
+}
+
+// Prints what a call answers. The state that it leaves takes the old one's place.
+fn reply(o: Outcome) -> Session {
+    answer::print(o.answer);
+    between(o.table)
+}
+
+fn show(table: SegmentTable) -> Session {
+    if state::sound(table) {
+        show::print(table);
+        return between(table);
+    }
+    reply(call::refused(table))
+}
+
+// Answers a request, with its operand line if it has one.
+fn respond(table: SegmentTable, r: Request, line: &[u8]) -> Session {
+    match r {
+        Request::Invalid => reply(call::refused(table)),
+        Request::Make(pool) => reply(call::make(table, pool)),
+        Request::Admit(tenant, ceiling) => reply(call::admit(table, tenant, ceiling, line)),
+        Request::SetCeiling(tenant, ceiling) => reply(operator::set_ceiling(
+            table,
+            tenant,
+            ceiling,
+        )),
+        Request::Call(tenant, action) => reply(call::of_tenant(table, tenant, action, line)),
+        Request::Show => show(table),
+    }
+}
+
+// A line where a command line is due. A bad line comes as no bytes at all.
+fn take_command(table: SegmentTable, line: &[u8]) -> Session {
+    if command::is_skipped(line) {
+        return between(table);
+    }
+    let r = request::of_line(line);
+    if request::takes_operand(r) {
+        return Session { table, request: r };
+    }
+    respond(table, r, line)
+}
+
+fn take_line(s: Session, line: &[u8]) -> Session {
+    let r = s.request;
+    if request::takes_operand(r) {
+        return respond(s.table, r, line);
+    }
+    take_command(s.table, line)
+}
+
+// What a step of the input makes: no line yet, a line at the front of the buffer, or a bad one.
+pub(crate) fn take_piece(s: Session, l: Line, line: &[u8]) -> Session {
+    match l {
+        Line::More => s,
+        Line::Whole(n) => take_line(s, lines::front(line, n)),
+        Line::Bad => take_line(s, lines::front(line, 0)),
+    }
+}
+
+// The end of the input: a request that lacks its operand line is refused.
+pub(crate) fn finish(s: Session) {
+    let r = s.request;
+    if request::takes_operand(r) {
+        reply(call::refused(s.table));
+    }
+}
