@@ -123,10 +123,12 @@ same-slots s xs ys l h i p = go (any (λ t. owns s (tenantId t) p) tenants) refl
   where
     start : Reached s s
     start = record { is-sound = h; lengths = l; pool = refl; records = refl }
+
     after : (t : TenantId) (zs : List Call) → owns s t p ≡ true → segmentAt (run s zs) p ≡ segmentAt (run s (callsOf t zs)) p
     after t zs o =
         let k = run-alike t zs s s (alike-itself t s h l) in
         k .own p (owns-kept (run s zs) s t p (run-reached zs s s start .records) ∙ o)
+
     go : (b : Bool) → any (λ t. owns s (tenantId t) p) tenants ≡ b → segmentAt (run s xs) p ≡ segmentAt (run s ys) p
     go true e =
         any-then (λ t. owns s (tenantId t) p) tenants e
@@ -168,19 +170,21 @@ look-differs s u c p k e = by (checked (c .tenant) s u k (c .label) (c .action))
     by : Checked s u c → (stepOf s c .answer ≡ stepOf u c .answer → ⊥) ↔ Different p (entry s c) (entry u c)
     by (both-refused n m f g) =
         let a : stepOf s c .answer ≡ refused n none = step-answer s c ∙ f in
-        let b : stepOf u c .answer ≡ refused n none = step-answer u c ∙ g in
-        (λ h. absurd (h (a ∙ sym b)),
-        λ d. absurd (⊎-elim (λ (q : n ≡ 22). d .unrefused .0 .0 (a ∙ ap (λ (n : ℕ). refused n none) q)) (λ (q : n ≡ 1). d .unrefused .0 .1 (a ∙ ap (λ (n : ℕ). refused n none) q)) m))
+        let b : stepOf u c .answer ≡ refused n none = step-answer u c ∙ g in (
+          λ h. absurd (h (a ∙ sym b)),
+          λ d. absurd (⊎-elim (λ (q : n ≡ 22). d .unrefused .0 .0 (a ∙ ap (λ (n : ℕ). refused n none) q)) (λ (q : n ≡ 1). d .unrefused .0 .1 (a ∙ ap (λ (n : ℕ). refused n none) q)) m),
+        )
     by (both-passed f g) =
         let a : stepOf s c .answer ≡ require (visible s (c .label) p) 13 (granted (shown (segmentAt s p))) = step-answer s c ∙ f ∙ look-access s (c .tenant) (c .label) (c .action) p e in
-        let b : stepOf u c .answer ≡ require (visible u (c .label) p) 13 (granted (shown (segmentAt u p))) = step-answer u c ∙ g ∙ look-access u (c .tenant) (c .label) (c .action) p e in
-        (λ h.
-        record {
-          unrefused = (subst Not22or1 (sym a) (not-22-or-1 (visible s (c .label) p) (segmentAt s p)), subst Not22or1 (sym b) (not-22-or-1 (visible u (c .label) p) (segmentAt u p)));
-          changed = λ q. h (a ∙ ap₂ (λ (w : Bool) (x : Segment). require w 13 (granted (shown x))) (visible-same s u (c .label) p q) q ∙ sym b);
-          seen = one-seen (visible s (c .label) p) (visible u (c .label) p) (segmentAt s p) (segmentAt u p) (λ q. h (a ∙ q ∙ sym b));
-        },
-        λ d q. d .changed (seen-same (visible s (c .label) p) (visible u (c .label) p) (segmentAt s p) (segmentAt u p) (d .seen) (sym a ∙ q ∙ b)))
+        let b : stepOf u c .answer ≡ require (visible u (c .label) p) 13 (granted (shown (segmentAt u p))) = step-answer u c ∙ g ∙ look-access u (c .tenant) (c .label) (c .action) p e in (
+          λ h.
+              record {
+                unrefused = (subst Not22or1 (sym a) (not-22-or-1 (visible s (c .label) p) (segmentAt s p)), subst Not22or1 (sym b) (not-22-or-1 (visible u (c .label) p) (segmentAt u p)));
+                changed = λ q. h (a ∙ ap₂ (λ (w : Bool) (x : Segment). require w 13 (granted (shown x))) (visible-same s u (c .label) p q) q ∙ sym b);
+                seen = one-seen (visible s (c .label) p) (visible u (c .label) p) (segmentAt s p) (segmentAt u p) (λ q. h (a ∙ q ∙ sym b));
+              },
+          λ d q. d .changed (seen-same (visible s (c .label) p) (visible u (c .label) p) (segmentAt s p) (segmentAt u p) (d .seen) (sym a ∙ q ∙ b)),
+        )
 
 -- the k-th call of a tenant in two lists
 compared : (s u : SegmentTable) (c : Call) → Alike (c .tenant) s u → Compared (otherSlot s (c .tenant) (lookedAt (c .action))) (entry s c) (entry u c)
@@ -188,9 +192,11 @@ compared s u c k = go (lookedAt (c .action)) refl
   where
     same : ((p : Slot) → lookedAt (c .action) ≡ some p → owns s (c .tenant) p ≡ true) → stepOf s c .answer ≡ stepOf u c .answer
     same m = step-answer s c ∙ answer-same (c .tenant) s u k (c .label) (c .action) m ∙ sym (step-answer u c)
+
     at : (p : Slot) → lookedAt (c .action) ≡ some p → (b : Bool) → owns s (c .tenant) p ≡ b → Compared (cond b none (some p)) (entry s c) (entry u c)
     at p e true o = same (λ q f. let i : p ≡ q = cc in ap (owns s (c .tenant)) (sym i) ∙ o)
     at p e false o = look-differs s u c p k e
+
     go : (o : Option Slot) → lookedAt (c .action) ≡ o → Compared (otherSlot s (c .tenant) o) (entry s c) (entry u c)
     go none e = same (inward s (c .tenant) (c .action) e)
     go (some p) e = at p e (owns s (c .tenant) p) refl

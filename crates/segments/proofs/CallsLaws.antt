@@ -326,6 +326,7 @@ module _ (t : TenantId) (s u : SegmentTable) (k : Alike t s u) where
       next : (v : SegmentTable) (g : Grant) → answerOf v (callOf t l a) ≡ granted g
           → segmentAt (stepOf v (callOf t l a) .table) p ≡ segmentAt (withSegment v (slotOr0 (slotFor v t a)) (written (segmentAt v (slotOr0 (slotFor v t a))) l a)) p
       next v g e = ap (λ (w : SegmentTable). segmentAt w p) (next-granted v (callOf t l a) g e)
+
       other : Inward s t a → (x : Answer Grant) → answerOf s (callOf t l a) ≡ x
           → segmentAt (stepOf s (callOf t l a) .table) p ≡ segmentAt (stepOf u (callOf t l a) .table) p
       other m (refused n detail) e =

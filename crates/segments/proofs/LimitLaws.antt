@@ -1,7 +1,7 @@
 -- What is left of a limit, and what fits into it. Assumes nothing.
 use mathlib.Core.Bool.{Bool, true, false, cond}
 use mathlib.Core.Option.{none, some}
-use mathlib.Core.Path.{_≡_, refl}
+use mathlib.Core.Path.{_≡_, refl, ap, _∙_}
 use Prim.Native.Nat.{ℕ, _+_, _-_, _≤_, _<_}
 use native.Mathlib.Nat.{add-zero}
 use native.Mathlib.Omega.{arith}
@@ -85,7 +85,5 @@ fits-exact limit used replaced wanted h k =
 
 pub fits-more : (limit used wanted : ℕ) → used ≤ limit → fitsIn (leftOf limit used) 0 wanted ≡ leb (used + wanted) limit
 fits-more limit used wanted h =
-    rw (le-leb used limit h)
-    (same-truth (leb wanted (limit - used + 0)) (leb (used + wanted) limit)
-    (λ e. let l = leb-true wanted (limit - used + 0) e in le-leb (used + wanted) limit (omega arith))
-    (λ e. let l = leb-true (used + wanted) limit e in le-leb wanted (limit - used + 0) (omega arith)))
+    let z : used - 0 ≡ used = omega arith in
+    fits-exact limit used 0 wanted h (omega arith) ∙ ap (λ (n : ℕ). leb (n + wanted) limit) z

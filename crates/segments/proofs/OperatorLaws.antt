@@ -67,6 +67,7 @@ module _ (s : SegmentTable) (t : TenantId) (x : Tenant) (lengths : Lengths s) (n
           ∙ h (y .label) (ap (λ (u : TenantId). Tuple.containsOf (clearanceAt s u) (y .label)) (sym j) ∙ f))
           (λ (i : u .0 ≡ t .0 → ⊥). ap (λ (z : Tenant). Tuple.containsOf (z .clearance) (y .label)) (tenant-kept s t u x i) ∙ f)
           (same-or-not (u .0) (t .0))
+
       go : (b : Bool) → leb 1 (y .pages) ≡ b
           → cond b (any (λ u. owns s (tenantId u) p && Tuple.containsOf (clearanceAt s (tenantId u)) (y .label)) tenants) (zeros y) ≡ true
           → cond b (any (λ u. owns next (tenantId u) p && Tuple.containsOf (clearanceAt next (tenantId u)) (y .label)) tenants) (zeros y) ≡ true
@@ -123,9 +124,10 @@ tenant-sound-of n c l v e = both v (rw (le-leb 1 n l) e)
 tenant-sound-in : (x : Tenant) → 1 ≤ x .ceiling → tenantSound x ≡ true → (Tuple.validOf (x .clearance) ≡ true) × (not (Tuple.emptyOf (x .clearance)) ≡ true)
 unfolding tenantSound
 tenant-sound-in x l e =
-    let r : Bool = cond (leb 1 (x .ceiling)) (not (Tuple.emptyOf (x .clearance))) (Tuple.emptyOf (x .clearance)) in
-    (first-true (Tuple.validOf (x .clearance)) r e,
-    ap (λ (b : Bool). cond b (not (Tuple.emptyOf (x .clearance))) (Tuple.emptyOf (x .clearance))) (sym (le-leb 1 (x .ceiling) l)) ∙ second-true (Tuple.validOf (x .clearance)) r e)
+    let r : Bool = cond (leb 1 (x .ceiling)) (not (Tuple.emptyOf (x .clearance))) (Tuple.emptyOf (x .clearance)) in (
+      first-true (Tuple.validOf (x .clearance)) r e,
+      ap (λ (b : Bool). cond b (not (Tuple.emptyOf (x .clearance))) (Tuple.emptyOf (x .clearance))) (sym (le-leb 1 (x .ceiling) l)) ∙ second-true (Tuple.validOf (x .clearance)) r e,
+    )
 
 -- one that holds zeros has no label
 tenant-empty : (x : Tenant) (l : Label) → x .ceiling ≡ 0 → tenantSound x ≡ true → Tuple.containsOf (x .clearance) l ≡ true → ⊥

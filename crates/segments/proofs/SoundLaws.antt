@@ -167,7 +167,7 @@ module _ (s : SegmentTable) (t : TenantId) (q : Slot) (x : Segment) (lengths : L
   pages-written =
       let o = own-parts s t q own in
       let r = sum-but (λ p. pagesAt s (slot p)) (λ p. pagesAt next (slot p)) (q .0) (firstSlot s t) (slotCount s t)
-          (λ j h. ap (λ (y : Segment). y .pages) (segment-kept s q (slot j) x h)) (o .from) (o .to) in
+      (λ j h. ap (λ (y : Segment). y .pages) (segment-kept s q (slot j) x h)) (o .from) (o .to) in
       rw (first-kept next s t refl, count-kept next s t refl) (r ∙ ap (λ (y : Segment). pagesOf s t + y .pages) here)
 
   -- all others have what they had
