@@ -15,7 +15,7 @@ admit-requires : tie.Need-admit-requires
 admit-requires c κs = search needs
 
 returns : tie.Need-returns
-returns c = 
+returns c =
     let t = c .before in
     let g = t .before in
     let r = g .before in
@@ -25,7 +25,7 @@ refused-requires : tie.Need-refused-requires
 refused-requires c κs = search needs
 
 returns-2 : tie.Need-returns-2
-returns-2 c = 
+returns-2 c =
     let t = c .before in
     let g = t .before in
     let r = g .before in

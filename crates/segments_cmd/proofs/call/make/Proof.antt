@@ -24,28 +24,28 @@ enum-told-4 : tie.Need-enum-told-4
 enum-told-4 c = search needs
 
 returns : tie.Need-returns
-returns c = 
+returns c =
     let m = c .before .before .before in
     let o = m .make .result in
     let e = ap (λ (r : Reply). replyOf r (o .answer .label)) (c .enum-told .given .1) in
     made-granted (m .before .args .table) o (makeOf (m .before .args .pool)) (m .make .ensures) done e
 
 returns-2 : tie.Need-returns-2
-returns-2 c = 
+returns-2 c =
     let m = c .before .before .before in
     let o = m .make .result in
     let e = ap (λ (r : Reply). replyOf r (o .answer .label)) (c .enum-told2 .given .1) in
     made-granted (m .before .args .table) o (makeOf (m .before .args .pool)) (m .make .ensures) (opened (c .enum-told2 .given .0 .0)) e
 
 returns-3 : tie.Need-returns-3
-returns-3 c = 
+returns-3 c =
     let m = c .before .before .before in
     let o = m .make .result in
     let e = ap (λ (r : Reply). replyOf r (o .answer .label)) (c .enum-told3 .given .1) in
     made-granted (m .before .args .table) o (makeOf (m .before .args .pool)) (m .make .ensures) (shown (segmentOf (o .answer .label) (c .enum-told3 .given .0 .0 .pages) (c .enum-told3 .given .0 .0 .version))) e
 
 returns-4 : tie.Need-returns-4
-returns-4 c = 
+returns-4 c =
     let m = c .before .before .before in
     let o = m .make .result in
     let e = ap (λ (r : Reply). replyOf r (o .answer .label)) (c .enum-told4 .given .1) in

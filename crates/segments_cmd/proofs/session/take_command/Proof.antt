@@ -22,7 +22,7 @@ takes-operand-requires c κs = search needs
 
 returns-2 : tie.Need-returns-2
 unfolding afterCommand
-returns-2 c = 
+returns-2 c =
     let t = c .before in
     let l = t .before in
     let e = l .before in rw (sym (e .before .is-skipped .ensures) ∙ e .if1 .left, ← l .of-line .ensures, sym (t .takes-operand .ensures) ∙ c .if2 .taken)
@@ -32,7 +32,7 @@ respond-requires c κs = search needs
 
 returns-3 : tie.Need-returns-3
 unfolding afterCommand
-returns-3 c = 
+returns-3 c =
     let d = c .before in
     let t = d .before in
     let l = t .before in
