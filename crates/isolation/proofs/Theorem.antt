@@ -6,19 +6,18 @@ use mathlib.Core.List.{List, [], _∷_}
 use mathlib.Core.Logic.{_⊎_, inl, inr, ⊎-elim, _↔_}
 use mathlib.Core.Option.{Option, none, some}
 use mathlib.Core.Path.{_≡_, refl, sym, ap, ap₂, _∙_, subst}
-use Prim.Native.Nat.{ℕ, _<_, _≤_}
+use Prim.Native.Nat.{ℕ}
 use native.Mathlib.Omega.{arith}
 use borrow.Author.Tests.{eqb-false, eqb-true}
 use lib.Dec.{eqb}
-use Rattle.label.specs.Answer.{Answer, granted, refused, require}
+use Rattle.label.specs.Answer.{granted, refused, require}
 use Rattle.label.specs.Index.{any}
-use Rattle.label.specs.declared.Label.{Label}
 use Rattle.label.proofs.BoolLaws.{not-so}
 use Rattle.label.proofs.SearchLaws.{any-then, none-of}
-use Rattle.segments.specs.Calls.{answerOf, lookedAt, stepOf, visible}
-use Rattle.segments.specs.Replies.{Grant, shown}
-use Rattle.segments.specs.Segments.{Lengths, segmentAt, slots, tenantAt, tenantId, tenants}
-use Rattle.segments.specs.Slots.{owns, pagesOf}
+use Rattle.segments.specs.Calls.{lookedAt, stepOf, visible}
+use Rattle.segments.specs.Replies.{shown}
+use Rattle.segments.specs.Segments.{Lengths, segmentAt, tenantId, tenants}
+use Rattle.segments.specs.Slots.{owns}
 use Rattle.segments.specs.Sound.{sound}
 use Rattle.segments.specs.declared.Call.{Call}
 use Rattle.segments.specs.declared.Segment.{Segment}
@@ -30,7 +29,7 @@ use Rattle.segments.proofs.CallsLaws.{Alike, Checked, alike-itself, alike-join,
 use Rattle.segments.proofs.SegmentsLaws.{same-table, tenant-same}
 use Rattle.segments.proofs.SlotsLaws.{own-parts, owner-unique, owns-kept, same-tenant}
 use Rattle.segments.proofs.SoundLaws.{call-sound, sound-parts}
-use Rattle.isolation.specs.Isolation.{Agree, Compared, Different, Each, Entry, Interleaving, Isolated, Isolation, Limited, Not22or1, Pairwise, callsOf, entriesOf, next, otherSlot, project, run, states, trace}
+use Rattle.isolation.specs.Isolation.{Agree, Compared, Different, Each, Entry, Interleaving, Isolation, Limited, Not22or1, Pairwise, callsOf, entriesOf, next, otherSlot, project, run, states, trace}
 
 -- ---- a call keeps two states alike for a tenant: its own in both, another's in either
 

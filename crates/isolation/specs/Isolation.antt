@@ -106,12 +106,16 @@ unfoldable pub Each : {A : Type 0} → (A → Type 0) → List A → Type 0
 Each P [] = Unit {0}
 Each P (x ∷ xs) = P x × Each P xs
 
--- "From the same board both lists end in the same board.", and what is said above
+-- what demand 3 says of two lists from a state s
 pub record Isolated (s : SegmentTable) (xs ys : List Call) : Type 0 where
+  -- "From the same board both lists end in the same board."
   pub table : run s xs ≡ run s ys
+  -- the two sentences on answers, of every tenant number
   pub answers : (t : TenantId) → Pairwise Agree (entriesOf t (trace s xs)) (entriesOf t (trace s ys))
+  -- the sentence on what stays
   pub limits : Each (Limited s) (states s xs)
 
--- `Lengths` holds of every value of the code's type, as `segments::lengths` proves
+-- "Operator calls are not part of this.": a Call is a tenant's. `Lengths` is no condition on what a program can hold: every value of the
+-- type has it, as `segments::lengths` proves.
 abbrev pub Isolation : Type 0
 Isolation = (s : SegmentTable) → Lengths s → sound s ≡ true → (xs ys : List Call) → Interleaving xs ys → Isolated s xs ys

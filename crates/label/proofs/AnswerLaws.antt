@@ -14,6 +14,11 @@ passed t n rest e = rw e
 pub stopped : {A : Type 0} (t : Bool) (n : ℕ) (rest : Answer A) → t ≡ false → require t n rest ≡ refused n none
 stopped t n rest e = rw e
 
+-- a check that is passed or not alike, with what follows alike where it is passed
+pub require-same : {A : Type 0} (p q : Bool) (n : ℕ) (x y : Answer A) → p ≡ q → (p ≡ true → x ≡ y) → require p n x ≡ require q n y
+require-same true q n x y e h = rw (← e) (h refl)
+require-same false q n x y e h = rw (← e) refl
+
 pub answers-grant : {A : Type 0} (value z y : A) (x : Answer A) → x ≡ granted y → value ≡ y → Answered Granted value z x
 answers-grant value z y x e f = record { outcome = ap granted f ∙ sym e; beside = rw e f }
 
@@ -45,3 +50,7 @@ grants-same x y e = ap (valueOr x) e
 pub refusal-stopped : {A : Type 0} (t : Bool) (n m : ℕ) (detail : Option ℕ) (y : A) → refused m detail ≡ require t n (granted y) → t ≡ false
 refusal-stopped true n m detail y e = absurd (true≢false (sym (ap isGrant e)))
 refusal-stopped false n m detail y e = refl
+
+-- a grant tells what was to be told, and that the check before it was passed
+pub grant-told : {A : Type 0} (t : Bool) (n : ℕ) (x y : A) → granted x ≡ require t n (granted y) → (t ≡ true) × (x ≡ y)
+grant-told t n x y e = let p = grant-passed t n x (granted y) e in (p .0, grants-same x y (p .1))

@@ -5,8 +5,8 @@ use mathlib.Core.List.{List, [], _∷_, _++_, List·Memᴰ, List·Memᴰ·head, 
 use mathlib.Core.Logic.{⊎-elim, _⊎_, inl, inr, _↔_}
 use mathlib.Core.Option.{Option, none, some}
 use mathlib.Core.Path.{_≡_, refl, sym, ap, ap₂, _∙_}
-use Prim.Native.Nat.{ℕ, zero, suc, _+_, _-_, _*_, _/_, _%_, _^_, _≤_, _<_, suc-le-suc}
-use native.Mathlib.Nat.{zero-lt-suc, le-refl, lt-of-not-le, lt-of-le-of-lt, eq-or-lt-of-le, le-of-suc-le-suc, add-zero, zero-add, add-suc, suc-add, add-assoc, add-comm, mod-lt, mod-one, mod-eq-of-lt, div-lt-iff-lt-mul, pow-suc}
+use Prim.Native.Nat.{ℕ, zero, suc, _+_, _-_, _*_, _/_, _%_, _^_, _≤_, _<_}
+use native.Mathlib.Nat.{zero-lt-suc, le-refl, lt-of-not-le, lt-of-le-of-lt, eq-or-lt-of-le, le-of-suc-le-suc, add-zero, add-suc, add-assoc, add-comm, mod-lt, mod-one, mod-eq-of-lt, div-lt-iff-lt-mul, pow-suc}
 use native.Mathlib.Numerals.{one-add}
 use native.Mathlib.Omega.{arith}
 use lib.Count.{ones, ones-cat, trailingZeros, under}

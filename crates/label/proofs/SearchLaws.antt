@@ -1,7 +1,7 @@
 -- The laws of `any`, `firstFrom` and `sumFrom`, and what a loop over the index needs of them. Assumes nothing.
 use mathlib.Core.Bool.{Bool, true, false, not, _&&_, and-true, true≢false}
 use mathlib.Core.Logic.{_⊎_, inl, inr, ⊎-elim}
-use mathlib.Core.Option.{Option, none, some}
+use mathlib.Core.Option.{none, some}
 use mathlib.Core.Path.{_≡_, refl, sym, ap, _∙_}
 use Prim.Native.Nat.{ℕ, zero, suc, _+_, _-_, _≤_, _<_, suc-le-suc}
 use native.Mathlib.Nat.{zero-lt-suc, eq-or-lt-of-le, add-zero, zero-add, suc-add}
@@ -9,7 +9,7 @@ use native.Mathlib.Omega.{arith}
 use lib.Dec.{eqb}
 use borrow.Author.Tests.{eqb-true, eqb-false}
 use Rattle.label.specs.Index.{any, every, firstFrom, firstOr, sumFrom}
-use Rattle.label.proofs.IndexLaws.{every-all, every-at}
+use Rattle.label.proofs.IndexLaws.{every-at}
 use Rattle.label.proofs.BoolLaws.{not-so}
 
 pub same-or-not : (m n : ℕ) → (m ≡ n) ⊎ (m ≡ n → ⊥)

@@ -21,7 +21,7 @@ use Rattle.range.specs.Tuple.{TypedTuple, absent, containsAt, containsOf
 use Rattle.range.specs.declared.Range.{Range}
 use Rattle.range.specs.declared.tuple.RegionRange.{RegionRange}
 use Rattle.range.specs.declared.tuple.Tuple.{Tuple}
-use Rattle.range.proofs.RangeLaws.{common-label, contains-high, contains-low, contains-parts, meet-labels, meet-valid, parts-contain, parts-valid, valid-parts}
+use Rattle.range.proofs.RangeLaws.{common-label, contains-high, contains-low, contains-parts, contains-valid, meet-labels, meet-valid, parts-contain, parts-valid, valid-parts}
 
 -- ---- by the region
 
@@ -158,6 +158,13 @@ contained-in t l r e h = subst (λ (k : ℕ). Contains (rangeAt t k) l) e (conta
 contains-in : (t : Tuple) (l : Label) (r : ℕ) → regionOf (l .hierarchy) ≡ r → Contains (rangeAt t r) l → containsOf t l ≡ true
 unfolding containsOf containsAt
 contains-in t l r e c = rw e (both (c .present) (c .range))
+
+-- a label in a valid tuple is valid
+pub contained-valid : (t : Tuple) (l : Label) → validOf t ≡ true → containsOf t l ≡ true → Label.validOf l ≡ true
+contained-valid t l v h =
+    let r : ℕ = regionOf (l .hierarchy) in
+    let c = contained t l h in
+    contains-valid (rangeAt t r .range) l (valid-placed r (rangeAt t r) (c .present) (valid-region t v r (region-within (l .hierarchy) .known)) .valid) (c .range)
 
 -- ---- within exactly if each label of the one is in the other
 

@@ -1,19 +1,20 @@
 -- What a tenant call reads and what it changes: its caller's own slots, what no tenant call changes, and, for a look at another's slot,
 -- what is visible of that slot. Nothing above these laws opens `stepOf`. Assumes nothing.
-use mathlib.Core.Bool.{Bool, true, false, cond, not, _&&_, true≢false}
+use mathlib.Core.Bool.{Bool, true, false, not, _&&_, true≢false}
 use mathlib.Core.Logic.{_⊎_, inl, inr, ⊎-elim}
 use mathlib.Core.Option.{Option, none, some}
 use mathlib.Core.Path.{_≡_, refl, sym, ap, ap₂, _∙_}
-use Prim.Native.Nat.{ℕ, _+_, _-_, _<_, _≤_}
+use Prim.Native.Nat.{ℕ, _+_, _-_, _<_}
 use native.Mathlib.Omega.{arith}
-use borrow.Author.Tests.{leb-true, lt-ltb, ltb-true}
+use borrow.Author.Tests.{ltb-true}
 use lib.Dec.{leb, ltb}
 use Rattle.label.specs.Answer.{Answer, granted, refused, require}
 use Rattle.label.specs.Index.{firstFrom, sumFrom}
 use Rattle.label.specs.Label
 use Rattle.label.specs.declared.Label.{Label}
-use Rattle.label.proofs.BoolLaws.{both, first-true, not-so, second-true, three-true}
-use Rattle.label.proofs.SearchLaws.{first-least, first-same, same-or-not, sum-same}
+use Rattle.label.proofs.AnswerLaws.{grant-passed, require-same}
+use Rattle.label.proofs.BoolLaws.{first-true, three-true}
+use Rattle.label.proofs.SearchLaws.{first-same, same-or-not, sum-same}
 use Rattle.range.specs.Tuple
 use Rattle.segments.specs.Calls.{accessOf, answerOf, callOf, callValid, cleared, found, grantOf, lookedAt, numbersValid, pagesFit, permitted, slotFor, slotOr0, stepOf, target, visible, writable, written}
 use Rattle.segments.specs.Replies.{Grant, left, shown}
@@ -29,35 +30,9 @@ use Rattle.segments.specs.declared.Slot.{Slot}
 use Rattle.segments.specs.declared.Tenant.{Tenant}
 use Rattle.segments.specs.declared.TenantId.{TenantId}
 use Rattle.segments.proofs.SegmentsLaws.{lengths-kept, segment-kept, segment-same, segment-written, tenant-same}
-use Rattle.segments.proofs.SlotsLaws.{count-kept, first-kept, own-of, own-parts, own-slot, owns-kept, same-slot}
-
--- ---- checks
-
--- a check that two states pass alike, with what follows alike where it is passed
-pub require-same : {A : Type 0} (p q : Bool) (n : ℕ) (x y : Answer A) → p ≡ q → (p ≡ true → x ≡ y) → require p n x ≡ require q n y
-require-same true q n x y e h = rw (← e) (h refl)
-require-same false q n x y e h = rw (← e) refl
-
--- a grant has passed the check before it
-pub passed-grant : {A : Type 0} (p : Bool) (n : ℕ) (x : Answer A) (g : A) → require p n x ≡ granted g → (p ≡ true) × (x ≡ granted g)
-passed-grant true n x g e = (refl, e)
-passed-grant false n x g e = let z : _≡_ {A = ℕ} 0 1 = cc in absurd (omega arith)
+use Rattle.segments.proofs.SlotsLaws.{lowest-own, count-kept, first-kept, own-of, own-slot, owns-kept, same-slot}
 
 -- ---- the slot that a call is about
-
--- a slot that is found for an open is its tenant's own, and empty
-pub lowest-own : (s : SegmentTable) (t : TenantId) (p : Slot) → t .0 < tenants → lowestEmpty s t ≡ some p → (owns s t p ≡ true) × (emptyAt s (p .0) ≡ true)
-unfolding lowestEmpty
-lowest-own s t p h e = go (firstFrom (emptyAt s) (firstSlot s t) (slotCount s t)) refl e
-  where
-    go : (o : Option ℕ) → firstFrom (emptyAt s) (firstSlot s t) (slotCount s t) ≡ o → asSlot o ≡ some p → (owns s t p ≡ true) × (emptyAt s (p .0) ≡ true)
-    go none f e = let z : _≡_ {A = ℕ} 0 1 = cc in absurd (omega arith)
-    go (some k) f e =
-        let q : slot k ≡ p = cc in
-        let r = first-least (emptyAt s) (firstSlot s t) (slotCount s t) k f in
-        let a : owns s t (slot k) ≡ true = own-of s t (slot k) h (r .0 .above) (r .1) in
-        let b : emptyAt s k ≡ true = r .0 .there in
-        (ap (owns s t) (sym q) ∙ a, ap (λ (p : Slot). emptyAt s (p .0)) (sym q) ∙ b)
 
 pub writable-own : (s : SegmentTable) (t : TenantId) (l : Label) (p : Slot) → writable s t l p ≡ true → (owns s t p ≡ true) × (filled s p ≡ true)
 unfolding writable
@@ -72,7 +47,7 @@ Inward s t a = (p : Slot) → lookedAt a ≡ some p → owns s t p ≡ true
 -- such a call is about a slot of its caller's own
 pub target-own : (s : SegmentTable) (t : TenantId) (l : Label) (a : Action) (p : Slot) → t .0 < tenants → Inward s t a
     → permitted s t l a ≡ true → slotFor s t a ≡ some p → owns s t p ≡ true
-target-own s t l (Open x) p h m e f = lowest-own s t p h f .0
+target-own s t l (Open x) p h m e f = lowest-own s t p h f
 target-own s t l (Size x) p h m e f = let q : x .slot ≡ p = cc in ap (owns s t) (sym q) ∙ writable-own s t l (x .slot) e .0
 target-own s t l (Post x) p h m e f = let q : x .slot ≡ p = cc in ap (owns s t) (sym q) ∙ writable-own s t l (x .slot) e .0
 target-own s t l (Look x) p h m e f = m p f
@@ -83,6 +58,10 @@ pub valid-tenant : (s : SegmentTable) (t : TenantId) (l : Label) (a : Action) �
 unfolding callValid admitted
 valid-tenant s t l a e =
     ltb-true (t .0) tenants (first-true _ (leb 1 (ceilingAt s t)) (three-true (ltb (t .0) tenants && leb 1 (ceilingAt s t)) (Label.validOf l) (numbersValid a) e .0))
+
+pub valid-numbers : (s : SegmentTable) (t : TenantId) (l : Label) (a : Action) → callValid s (callOf t l a) ≡ true → numbersValid a ≡ true
+unfolding callValid
+valid-numbers s t l a e = three-true (admitted s t) (Label.validOf l) (numbersValid a) e .2
 
 -- ---- two states that are alike for a tenant
 
@@ -165,10 +144,10 @@ module _ (t : TenantId) (s u : SegmentTable) (k : Alike t s u) where
   slot-for-same h (Close x) = refl
 
   fit-same : t .0 < tenants → (l : Label) (a : Action) → permitted s t l a ≡ true → pagesFit s t a ≡ pagesFit u t a
-  fit-same h l (Open x) e = rw (pages-same h, ceiling-same)
+  fit-same h l (Open x) e = ap₂ (λ (used limit : ℕ). leb (used + x .pages) limit) (pages-same h) ceiling-same
   fit-same h l (Size x) e =
-      rw (pages-same h, ceiling-same)
-      (ap (λ (y : Segment). leb (pagesOf u t - y .pages + x .pages) (ceilingAt u t)) (k .own (x .slot) (writable-own s t l (x .slot) e .0)))
+      ap₂ (λ (used limit : ℕ). leb (used - pagesAt s (x .slot) + x .pages) limit) (pages-same h) ceiling-same
+      ∙ ap (λ (y : Segment). leb (pagesOf u t - y .pages + x .pages) (ceilingAt u t)) (k .own (x .slot) (writable-own s t l (x .slot) e .0))
   fit-same h l (Post x) e = refl
   fit-same h l (Look x) e = refl
   fit-same h l (Close x) e = refl
@@ -239,12 +218,12 @@ slot-found (some p) e = refl
 pub granted-passed : (s : SegmentTable) (t : TenantId) (l : Label) (a : Action) (g : Grant) → answerOf s (callOf t l a) ≡ granted g → Passed s t l a
 unfolding answerOf accessOf
 granted-passed s t l a g e =
-    let e1 = passed-grant (sound s) 22 _ g e in
-    let e2 = passed-grant (callValid s (callOf t l a)) 22 _ g (e1 .1) in
-    let e3 = passed-grant (cleared s (callOf t l a)) 1 _ g (e2 .1) in
-    let e4 = passed-grant (permitted s t l a) 13 _ g (e3 .1) in
-    let e5 = passed-grant (found (slotFor s t a)) 28 _ g (e4 .1) in
-    let e6 = passed-grant (pagesFit s t a) 12 _ g (e5 .1) in
+    let e1 = grant-passed (sound s) 22 g _ (sym e) in
+    let e2 = grant-passed (callValid s (callOf t l a)) 22 g _ (e1 .1) in
+    let e3 = grant-passed (cleared s (callOf t l a)) 1 g _ (e2 .1) in
+    let e4 = grant-passed (permitted s t l a) 13 g _ (e3 .1) in
+    let e5 = grant-passed (found (slotFor s t a)) 28 g _ (e4 .1) in
+    let e6 = grant-passed (pagesFit s t a) 12 g _ (e5 .1) in
     record {
       is-sound = e1 .0;
       is-valid = e2 .0;
@@ -255,43 +234,58 @@ granted-passed s t l a g e =
       fits = e6 .0;
     }
 
+-- what a state has, and has with whatever segment in a slot, the state that a call leaves has
+step-has : (P : SegmentTable → Type 0) (s : SegmentTable) (c : Call) → P s → ((p : Slot) (x : Segment) → P (withSegment s p x)) → P (stepOf s c .table)
+unfolding stepOf
+step-has P s c h f = go (answerOf s c)
+  where
+    go : (x : Answer Grant) → P (left s (withSegment s (target s c) (written (segmentAt s (target s c)) (c .label) (c .action))) x)
+    go (granted g) = f (target s c) _
+    go (refused n detail) = h
+
 -- pool, clearances and ceilings stay, and so do the lengths
 pub pool-kept : (s : SegmentTable) (c : Call) → stepOf s c .table .pool ≡ s .pool
-unfolding stepOf
-pool-kept s c = go (answerOf s c)
-  where
-    go : (x : Answer Grant) → left s (withSegment s (target s c) (written (segmentAt s (target s c)) (c .label) (c .action))) x .pool ≡ s .pool
-    go (granted g) = refl
-    go (refused n detail) = refl
+pool-kept s c = step-has (λ u. u .pool ≡ s .pool) s c refl (λ p x. refl)
 
 pub records-kept : (s : SegmentTable) (c : Call) → stepOf s c .table .tenants ≡ s .tenants
-unfolding stepOf
-records-kept s c = go (answerOf s c)
-  where
-    go : (x : Answer Grant) → left s (withSegment s (target s c) (written (segmentAt s (target s c)) (c .label) (c .action))) x .tenants ≡ s .tenants
-    go (granted g) = refl
-    go (refused n detail) = refl
+records-kept s c = step-has (λ u. u .tenants ≡ s .tenants) s c refl (λ p x. refl)
 
 pub next-lengths : (s : SegmentTable) (c : Call) → Lengths s → Lengths (stepOf s c .table)
-unfolding stepOf
-next-lengths s c h = go (answerOf s c)
+next-lengths s c h = step-has Lengths s c h (λ p x. lengths-kept s p x h)
+
+-- ---- looks, and calls that don't look
+
+abbrev lookOf : Slot → Action
+lookOf p = Look (record { slot = p })
+
+looks : (a : Action) (p : Slot) → lookedAt a ≡ some p → a ≡ lookOf p
+looks (Open x) p e = let z : _≡_ {A = ℕ} 0 1 = cc in absurd (omega arith)
+looks (Size x) p e = let z : _≡_ {A = ℕ} 0 1 = cc in absurd (omega arith)
+looks (Post x) p e = let z : _≡_ {A = ℕ} 0 1 = cc in absurd (omega arith)
+looks (Look x) p e = let q : x .slot ≡ p = cc in ap lookOf q
+looks (Close x) p e = let z : _≡_ {A = ℕ} 0 1 = cc in absurd (omega arith)
+
+pub look-or-not : {A : Type 0} (a : Action) → (lookedAt a ≡ none → A) → ((p : Slot) → lookedAt a ≡ some p → A) → A
+look-or-not {A} a f g = go (lookedAt a) refl
   where
-    go : (x : Answer Grant) → Lengths (left s (withSegment s (target s c) (written (segmentAt s (target s c)) (c .label) (c .action))) x)
-    go (granted g) = lengths-kept s (target s c) _ h
-    go (refused n detail) = h
+    go : (o : Option Slot) → lookedAt a ≡ o → A
+    go none e = f e
+    go (some p) e = g p e
 
 -- a look changes nothing
 pub look-next : (s : SegmentTable) (t : TenantId) (l : Label) (a : Action) (p : Slot) → lookedAt a ≡ some p → stepOf s (callOf t l a) .table ≡ s
 unfolding stepOf
-look-next s t l (Open x) p e = let z : _≡_ {A = ℕ} 0 1 = cc in absurd (omega arith)
-look-next s t l (Size x) p e = let z : _≡_ {A = ℕ} 0 1 = cc in absurd (omega arith)
-look-next s t l (Post x) p e = let z : _≡_ {A = ℕ} 0 1 = cc in absurd (omega arith)
-look-next s t l (Look x) p e = go (answerOf s (callOf t l (Look x)))
+look-next s t l a p e = ap (λ (a : Action). stepOf s (callOf t l a) .table) (looks a p e) ∙ go (answerOf s (callOf t l (lookOf p)))
   where
-    go : (y : Answer Grant) → left s (withSegment s (x .slot) (segmentAt s (x .slot))) y ≡ s
-    go (granted g) = segment-same s (x .slot)
+    go : (y : Answer Grant) → left s (withSegment s p (segmentAt s p)) y ≡ s
+    go (granted g) = segment-same s p
     go (refused n detail) = refl
-look-next s t l (Close x) p e = let z : _≡_ {A = ℕ} 0 1 = cc in absurd (omega arith)
+
+-- what a look shows once it has passed the checks before: the slot, if it is visible
+pub look-access : (s : SegmentTable) (t : TenantId) (l : Label) (a : Action) (p : Slot) → lookedAt a ≡ some p
+    → accessOf s (callOf t l a) ≡ require (visible s l p) 13 (granted (shown (segmentAt s p)))
+unfolding accessOf
+look-access s t l a p e = ap (λ (a : Action). accessOf s (callOf t l a)) (looks a p e)
 
 -- a call that doesn't look
 pub inward : (s : SegmentTable) (t : TenantId) (a : Action) → lookedAt a ≡ none → Inward s t a
@@ -299,7 +293,9 @@ inward s t a e p f = let z : none ≡ some p = sym e ∙ f in let y : _≡_ {A =
 
 -- a call leaves the slots of all others as they were
 pub untouched : (s : SegmentTable) (t : TenantId) (l : Label) (a : Action) (p : Slot) → owns s t p ≡ false → segmentAt (stepOf s (callOf t l a) .table) p ≡ segmentAt s p
-untouched s t l a p h = looks (lookedAt a) refl
+untouched s t l a p h =
+    look-or-not a (λ e. other (inward s t a e) (answerOf s (callOf t l a)) refl)
+    (λ q e. ap (λ (u : SegmentTable). segmentAt u p) (look-next s t l a q e))
   where
     other : Inward s t a → (x : Answer Grant) → answerOf s (callOf t l a) ≡ x → segmentAt (stepOf s (callOf t l a) .table) p ≡ segmentAt s p
     other m (refused n detail) e = ap (λ (u : SegmentTable). segmentAt u p) (next-refused s (callOf t l a) n detail e)
@@ -310,9 +306,6 @@ untouched s t l a p h = looks (lookedAt a) refl
         let w : slotOr0 (slotFor s t a) ≡ r .slot = ap slotOr0 (r .slot-is) in
         ap (λ (u : SegmentTable). segmentAt u p) (next-granted s (callOf t l a) g e)
         ∙ segment-kept s q p _ (λ i. true≢false (sym (ap (owns s t) (same-slot p (r .slot) (i ∙ ap (λ (p : Slot). p .0) w)) ∙ o) ∙ h))
-    looks : (o : Option Slot) → lookedAt a ≡ o → segmentAt (stepOf s (callOf t l a) .table) p ≡ segmentAt s p
-    looks none e = other (inward s t a e) (answerOf s (callOf t l a)) refl
-    looks (some q) e = ap (λ (u : SegmentTable). segmentAt u p) (look-next s t l a q e)
 
 -- what a call makes of its caller's own slots depends on these and on what never changes
 module _ (t : TenantId) (s u : SegmentTable) (k : Alike t s u) where
@@ -326,7 +319,9 @@ module _ (t : TenantId) (s u : SegmentTable) (k : Alike t s u) where
       (same-or-not (p .0) (q .0))
 
   pub own-next : (l : Label) (a : Action) (p : Slot) → owns s t p ≡ true → segmentAt (stepOf s (callOf t l a) .table) p ≡ segmentAt (stepOf u (callOf t l a) .table) p
-  own-next l a p h = looks (lookedAt a) refl
+  own-next l a p h =
+      look-or-not a (λ e. other (inward s t a e) (answerOf s (callOf t l a)) refl)
+      (λ q e. rw (look-next s t l a q e, look-next u t l a q e) (k .own p h))
     where
       next : (v : SegmentTable) (g : Grant) → answerOf v (callOf t l a) ≡ granted g
           → segmentAt (stepOf v (callOf t l a) .table) p ≡ segmentAt (withSegment v (slotOr0 (slotFor v t a)) (written (segmentAt v (slotOr0 (slotFor v t a))) l a)) p
@@ -347,16 +342,10 @@ module _ (t : TenantId) (s u : SegmentTable) (k : Alike t s u) where
           ∙ ap (λ (x : Segment). segmentAt (withSegment u (slotOr0 (slotFor s t a)) (written x l a)) p) f
           ∙ ap (λ (q : Slot). segmentAt (withSegment u q (written (segmentAt u q) l a)) p) i
           ∙ sym (next u g (sym (answer-same t s u k l a m) ∙ e))
-      looks : (o : Option Slot) → lookedAt a ≡ o → segmentAt (stepOf s (callOf t l a) .table) p ≡ segmentAt (stepOf u (callOf t l a) .table) p
-      looks none e = other (inward s t a e) (answerOf s (callOf t l a)) refl
-      looks (some q) e = rw (look-next s t l a q e, look-next u t l a q e) (k .own p h)
 
--- ---- a look
+-- ---- what two states that are alike answer before a slot is looked into
 
 -- the checks before the slots are looked into end alike: refused with 22, refused with 1, or passed
-front : {A : Type 0} → Bool → Bool → Bool → Answer A → Answer A
-front p q r x = require p 22 (require q 22 (require r 1 x))
-
 pub data Checked (s u : SegmentTable) (c : Call) : Type 0 where
   both-refused : (n : ℕ) → (n ≡ 22) ⊎ (n ≡ 1) → answerOf s c ≡ refused n none → answerOf u c ≡ refused n none → Checked s u c
   both-passed : answerOf s c ≡ accessOf s c → answerOf u c ≡ accessOf u c → Checked s u c
@@ -366,8 +355,6 @@ unfolding answerOf
 checked t s u k l a =
     go (callValid u (callOf t l a)) (cleared u (callOf t l a)) refl refl
   where
-    c : Call
-    c = callOf t l a
     go : (q r : Bool) → callValid u (callOf t l a) ≡ q → cleared u (callOf t l a) ≡ r → Checked s u (callOf t l a)
     go false r e f =
         both-refused 22 (inl refl)
@@ -381,16 +368,6 @@ checked t s u k l a =
         both-passed
         (rw (k .sounds .0, valid-same t s u k l a, e, cleared-same t s u k l a, f) refl)
         (rw (k .sounds .1, e, f) refl)
-
--- what a look shows once it has passed: the slot, if it is visible
-pub look-access : (s : SegmentTable) (t : TenantId) (l : Label) (a : Action) (p : Slot) → lookedAt a ≡ some p
-    → accessOf s (callOf t l a) ≡ require (visible s l p) 13 (granted (shown (segmentAt s p)))
-unfolding accessOf
-look-access s t l (Open x) p e = let z : _≡_ {A = ℕ} 0 1 = cc in absurd (omega arith)
-look-access s t l (Size x) p e = let z : _≡_ {A = ℕ} 0 1 = cc in absurd (omega arith)
-look-access s t l (Post x) p e = let z : _≡_ {A = ℕ} 0 1 = cc in absurd (omega arith)
-look-access s t l (Look x) p e = let q : x .slot ≡ p = cc in ap (λ (p : Slot). require (visible s l p) 13 (granted (shown (segmentAt s p)))) q
-look-access s t l (Close x) p e = let z : _≡_ {A = ℕ} 0 1 = cc in absurd (omega arith)
 
 pub step-answer : (s : SegmentTable) (c : Call) → stepOf s c .answer ≡ answerOf s c
 unfolding stepOf

@@ -2,6 +2,7 @@ pub mod SegmentsLaws
 pub mod SlotsLaws
 pub mod CallsLaws
 pub mod SoundLaws
-pub mod CodeLaws
-pub mod CodeSteps
+pub mod OperatorLaws
+pub mod LimitLaws
+pub mod ResultsLaws
 pub mod SegmentsExamples

@@ -1,33 +1,16 @@
 -- What a state holds after a segment or a tenant's record in it is replaced. Assumes nothing.
 use mathlib.Core.List.{List}
-use mathlib.Core.Path.{_≡_, refl, sym, ap, ap₂, _∙_}
-use Prim.Native.Nat.{ℕ, _<_}
+use mathlib.Core.Path.{_≡_, sym, ap, ap₂, _∙_}
+use Prim.Native.Nat.{_<_}
 use native.Mathlib.Omega.{arith}
-use lib.ListN.{getD, length, length-set, set}
-use lib.Seq.{ext-getD, getD-set-other, getD-set-same}
-use mathlib.Core.Logic.{⊎-elim}
-use Rattle.label.proofs.SearchLaws.{same-or-not}
+use lib.ListN.{length-set}
+use lib.Seq.{ext-getD, getD-set-other, getD-set-same, set-getD}
 use Rattle.segments.specs.Segments.{Lengths, segmentAt, segmentOf, slot, slots, tableOf, tenantAt, tenants, withSegment, withTenant}
 use Rattle.segments.specs.declared.Segment.{Segment}
 use Rattle.segments.specs.declared.SegmentTable.{SegmentTable}
 use Rattle.segments.specs.declared.Slot.{Slot}
 use Rattle.segments.specs.declared.Tenant.{Tenant}
 use Rattle.segments.specs.declared.TenantId.{TenantId}
-
--- ---- lists
-
--- an element put where it stands
-pub set-same : {A : Type 0} (xs : List A) (i : ℕ) (d : A) → set xs i (getD xs i d) ≡ xs
-set-same xs i d =
-    ext-getD d (set xs i (getD xs i d)) xs (length-set xs i (getD xs i d))
-    (λ j l.
-    let k = length-set xs i (getD xs i d) in
-    ⊎-elim
-    (λ (e : j ≡ i). ap (λ (n : ℕ). getD (set xs i (getD xs i d)) n d) e ∙ getD-set-same xs i (getD xs i d) d (omega arith) ∙ ap (λ (n : ℕ). getD xs n d) (sym e))
-    (λ (h : j ≡ i → ⊥). getD-set-other xs i j (getD xs i d) d h)
-    (same-or-not j i))
-
--- ---- states
 
 module _ (s : SegmentTable) where
   pub segment-written : (p : Slot) (x : Segment) → Lengths s → p .0 < slots → segmentAt (withSegment s p x) p ≡ x
@@ -37,7 +20,7 @@ module _ (s : SegmentTable) where
   segment-kept p q x h = getD-set-other (s .segments) (p .0) (q .0) x _ h
 
   pub segment-same : (p : Slot) → withSegment s p (segmentAt s p) ≡ s
-  segment-same p = ap (tableOf (s .pool) (s .tenants)) (set-same (s .segments) (p .0) _)
+  segment-same p = ap (tableOf (s .pool) (s .tenants)) (set-getD (s .segments) (p .0) _)
 
   pub lengths-kept : (p : Slot) (x : Segment) → Lengths s → Lengths (withSegment s p x)
   lengths-kept p x l = record { tenants-are = l .tenants-are; segments-are = length-set (s .segments) (p .0) x ∙ l .segments-are }

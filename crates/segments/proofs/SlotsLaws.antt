@@ -1,13 +1,19 @@
--- Whose a slot is. The laws of `firstSlot`, `slotCount` and `owns` stand here: nothing else opens these three. Assumes nothing.
-use mathlib.Core.Bool.{Bool, true, false, _&&_}
-use mathlib.Core.Path.{_≡_, refl, sym, ap, _∙_}
+-- Whose a slot is, and a tenant's own slots. The laws of `firstSlot`, `slotCount` and `owns` stand here: nothing else opens these three.
+-- Assumes nothing.
+use mathlib.Core.Bool.{true, false, _&&_, true≢false}
+use mathlib.Core.Option.{Option, none, some}
+use mathlib.Core.Path.{_≡_, refl, sym, ap, ap₂, _∙_}
 use Prim.Native.Nat.{ℕ, _+_, _<_, _≤_}
+use native.Mathlib.Nat.{add-zero}
 use native.Mathlib.Omega.{arith}
 use borrow.Author.Tests.{le-leb, leb-true, lt-ltb, ltb-true}
 use lib.Dec.{leb, ltb}
-use Rattle.label.proofs.BoolLaws.{both, three-true}
-use Rattle.segments.specs.Segments.{slot, slots, tenantId, tenants, withTenant}
-use Rattle.segments.specs.Slots.{firstSlot, owns, slotCount}
+use Rattle.label.specs.Index.{firstFrom, sumFrom}
+use Rattle.label.proofs.BoolLaws.{both, first-true, not-so, same-truth, second-true, three-true}
+use Rattle.label.proofs.SearchLaws.{first-least, hit, pass, sum-term}
+use Rattle.segments.specs.Calls.{found, slotOr0}
+use Rattle.segments.specs.Segments.{ceilingAt, pagesAt, slot, slots, tenantId, tenants, withTenant}
+use Rattle.segments.specs.Slots.{asSlot, ceilingsOf, emptyAt, firstSlot, lowestEmpty, owns, pagesOf, slotCount}
 use Rattle.segments.specs.declared.SegmentTable.{SegmentTable}
 use Rattle.segments.specs.declared.Slot.{Slot}
 use Rattle.segments.specs.declared.Tenant.{Tenant}
@@ -90,3 +96,70 @@ owns-kept s u t p e = rw (first-kept s u t e, count-kept s u t e)
 pub owns-stays : (s : SegmentTable) (t u : TenantId) (x : Tenant) (p : Slot) → owns (withTenant s t x) u p ≡ owns s u p
 unfolding owns
 owns-stays s t u x p = rw (first-stays s t u x, count-stays s t u x)
+
+-- the pages of a slot of a tenant's own are among its pages
+pub own-pages : (s : SegmentTable) (t : TenantId) (p : Slot) → owns s t p ≡ true → pagesAt s p ≤ pagesOf s t
+unfolding pagesOf
+own-pages s t p o = let k = own-parts s t p o in sum-term (λ p. pagesAt s (slot p)) (p .0) (firstSlot s t) (slotCount s t) (k .from) (k .to)
+
+-- a tenant's ceiling is among the ceilings
+pub ceiling-among : (s : SegmentTable) (t : TenantId) → t .0 < tenants → ceilingAt s t ≤ ceilingsOf s
+unfolding ceilingsOf
+ceiling-among s t h = sum-term (λ i. ceilingAt s (tenantId i)) (t .0) 0 tenants (omega arith) (omega arith)
+
+-- a slot that is found for an open is its tenant's own
+pub lowest-own : (s : SegmentTable) (t : TenantId) (p : Slot) → t .0 < tenants → lowestEmpty s t ≡ some p → owns s t p ≡ true
+unfolding lowestEmpty
+lowest-own s t p h e = go (firstFrom (emptyAt s) (firstSlot s t) (slotCount s t)) refl e
+  where
+    go : (o : Option ℕ) → firstFrom (emptyAt s) (firstSlot s t) (slotCount s t) ≡ o → asSlot o ≡ some p → owns s t p ≡ true
+    go none f e = let z : _≡_ {A = ℕ} 0 1 = cc in absurd (omega arith)
+    go (some k) f e =
+        let q : slot k ≡ p = cc in
+        let r = first-least (emptyAt s) (firstSlot s t) (slotCount s t) k f in
+        ap (owns s t) (sym q) ∙ own-of s t (slot k) h (r .0 .above) (r .1)
+
+-- so it is a slot of the state
+pub found-slot : (s : SegmentTable) (t : TenantId) → t .0 < tenants → found (lowestEmpty s t) ≡ true → slotOr0 (lowestEmpty s t) .0 < slots
+found-slot s t h e = go (lowestEmpty s t) refl e
+  where
+    go : (x : Option Slot) → lowestEmpty s t ≡ x → found x ≡ true → slotOr0 x .0 < slots
+    go none k g = absurd (true≢false (sym g))
+    go (some p) k g = own-slot s t p (lowest-own s t p h k)
+
+-- ---- a tenant's own slots, by the first and the count that the code has
+
+module _ (s : SegmentTable) (t : TenantId) (first count : ℕ) (f : first ≡ firstSlot s t) (n : count ≡ slotCount s t) where
+  pub pages-by : sumFrom (λ p. pagesAt s (slot p)) first count ≡ pagesOf s t
+  unfolding pagesOf
+  pages-by = ap₂ (sumFrom (λ p. pagesAt s (slot p))) f n
+
+  lowest-by : (x : Option ℕ) → firstFrom (emptyAt s) first count ≡ x → asSlot x ≡ lowestEmpty s t
+  unfolding lowestEmpty
+  lowest-by x e = ap asSlot (sym e ∙ ap₂ (firstFrom (emptyAt s)) f n)
+
+  -- a search that has found none empty among the first i
+  pub lowest-found : (i : ℕ) → i < count → ((j : ℕ) → j < i → emptyAt s (first + j) ≡ false) → emptyAt s (first + i) ≡ true
+      → some (slot (first + i)) ≡ lowestEmpty s t
+  lowest-found i l h e = lowest-by (some (first + i)) (hit (emptyAt s) first count i l h e)
+
+  pub lowest-none : (i : ℕ) → i ≡ count → ((j : ℕ) → j < i → emptyAt s (first + j) ≡ false) → none ≡ lowestEmpty s t
+  unfolding firstFrom
+  lowest-none i e h =
+      lowest-by none (ap (firstFrom (emptyAt s) first) (sym e ∙ sym (add-zero i)) ∙ pass (emptyAt s) first i 0 h)
+
+  pub owns-inside : (p : Slot) → t .0 < tenants → (leb first (p .0) && ltb (p .0) (first + count)) ≡ owns s t p
+  owns-inside p h =
+      same-truth (leb first (p .0) && ltb (p .0) (first + count)) (owns s t p)
+      (λ e.
+      let a = leb-true first (p .0) (first-true (leb first (p .0)) (ltb (p .0) (first + count)) e) in
+      let b = ltb-true (p .0) (first + count) (second-true (leb first (p .0)) (ltb (p .0) (first + count)) e) in
+      own-of s t p h (omega arith) (omega arith))
+      (λ e.
+      let o = own-parts s t p e in
+      let a = o .from in
+      let b = o .to in
+      both (le-leb first (p .0) (omega arith)) (lt-ltb (p .0) (first + count) (omega arith)))
+
+pub owns-outside : (s : SegmentTable) (t : TenantId) (p : Slot) → tenants ≤ t .0 → false ≡ owns s t p
+owns-outside s t p h = sym (not-so (owns s t p) (λ e. let o = own-parts s t p e .tenant in omega arith))

@@ -1,36 +1,40 @@
 -- Soundness part by part, and that every call keeps it. Assumes nothing.
-use mathlib.Core.Bool.{Bool, true, false, cond, not, _&&_, true≢false}
+use mathlib.Core.Bool.{Bool, true, false, cond, not, _&&_, _||_, true≢false}
 use mathlib.Core.Logic.{⊎-elim}
 use mathlib.Core.Option.{Option, none, some}
-use mathlib.Core.Path.{_≡_, refl, sym, ap, ap₂, _∙_}
+use mathlib.Core.Path.{_≡_, refl, sym, ap, _∙_}
 use Prim.Native.Nat.{ℕ, _+_, _-_, _<_, _≤_}
 use native.Mathlib.Omega.{arith}
-use borrow.Author.Tests.{le-leb, leb-false, leb-true, lt-leb}
-use lib.Dec.{eqb, leb}
-use Rattle.label.specs.Answer.{Answer, granted, refused}
-use Rattle.label.specs.Index.{any, every, sumFrom}
+use borrow.Author.Tests.{le-leb, leb-true, ltb-true}
+use lib.Dec.{leb, ltb}
+use Rattle.label.specs.Answer.{Answer, granted, refused, require}
+use Rattle.label.specs.Index.{any, every}
 use Rattle.label.specs.Label
 use Rattle.label.specs.declared.Label.{Label}
-use Rattle.label.proofs.BoolLaws.{both, first-true, second-true, three-true}
+use Rattle.label.proofs.AnswerLaws.{grant-told, refusal-stopped}
+use Rattle.label.proofs.BoolLaws.{both, not-so, first-true, second-true, three-true}
 use Rattle.label.proofs.IndexLaws.{every-all, every-at}
 use Rattle.label.proofs.LabelLaws.{equal-exact}
-use Rattle.label.proofs.SearchLaws.{any-of, any-then, same-or-not, sum-but, sum-same, sum-term}
+use Rattle.label.proofs.SearchLaws.{any-of, any-then, same-or-not, sum-but, sum-same}
 use Rattle.range.specs.Tuple
-use Rattle.segments.specs.Calls.{answerOf, callOf, callValid, cleared, lookedAt, numbersValid, pagesFit, permitted, slotFor, slotOr0, slotValid, stepOf, writable, written}
+use Rattle.range.specs.declared.tuple.Tuple.{Tuple}
+use Rattle.range.proofs.TupleLaws.{contained-valid}
+use Rattle.segments.specs.Parts.{tenantsSound}
+use Rattle.segments.specs.Calls.{answerOf, callOf, cleared, lookedAt, slotFor, slotOr0, slotValid, stepOf, writable, written}
 use Rattle.segments.specs.Replies.{Grant}
 use Rattle.segments.specs.Segments.{Lengths, ceilingAt, clearanceAt, maxPages, pagesAt, pagesValid, segmentAt, segmentOf, slot, slots, tenantAt, tenantId, tenants, withSegment, zeroSegment}
-use Rattle.segments.specs.Slots.{ceilingsOf, emptyAt, filled, firstSlot, owns, pagesOf, slotCount}
+use Rattle.segments.specs.Slots.{ceilingsOf, filled, firstSlot, owns, pagesOf, slotCount}
 use Rattle.segments.specs.Sound.{admitted, clearedBy, slotSound, sound, tenantSound, underCeiling, zeros}
 use Rattle.segments.specs.declared.Action.{Action}
 use Rattle.segments.specs.declared.Action.the-variants.{Open, Size, Post, Look, Close}
-use Rattle.segments.specs.declared.Call.{Call}
 use Rattle.segments.specs.declared.Segment.{Segment}
 use Rattle.segments.specs.declared.SegmentTable.{SegmentTable}
 use Rattle.segments.specs.declared.Slot.{Slot}
+use Rattle.segments.specs.declared.Tenant.{Tenant}
 use Rattle.segments.specs.declared.TenantId.{TenantId}
-use Rattle.segments.proofs.CallsLaws.{Inward, Passed, granted-passed, inward, look-next, lowest-own, next-granted, next-refused, target-own, valid-tenant, writable-own}
+use Rattle.segments.proofs.CallsLaws.{Passed, granted-passed, inward, look-next, look-or-not, next-granted, next-refused, target-own, valid-numbers, valid-tenant, writable-own}
 use Rattle.segments.proofs.SegmentsLaws.{segment-kept, segment-written}
-use Rattle.segments.proofs.SlotsLaws.{count-kept, first-kept, own-of, own-parts, own-slot, owner-unique, owns-kept, same-slot, same-tenant}
+use Rattle.segments.proofs.SlotsLaws.{lowest-own, count-kept, first-kept, own-of, own-pages, own-parts, own-slot, owner-unique, owns-kept, same-slot, same-tenant}
 
 -- ---- the parts
 
@@ -69,17 +73,61 @@ parts-sound s h =
     (le-leb _ _ (h .ceilings)))
     (every-all (λ t. underCeiling s (tenantId t)) tenants (λ t l. le-leb _ _ (h .pages (tenantId t) l)))
 
+-- ---- tenants
+
+-- an admitted tenant is one, and has a ceiling of at least 1
+pub admitted-parts : (s : SegmentTable) (t : TenantId) → admitted s t ≡ true → (t .0 < tenants) × (1 ≤ ceilingAt s t)
+unfolding admitted
+admitted-parts s t e =
+    (ltb-true _ _ (first-true (ltb (t .0) tenants) (leb 1 (ceilingAt s t)) e), leb-true _ _ (second-true (ltb (t .0) tenants) (leb 1 (ceilingAt s t)) e))
+
+-- a sound record's clearance is valid
+pub tenant-clearance : (x : Tenant) → tenantSound x ≡ true → Tuple.validOf (x .clearance) ≡ true
+unfolding tenantSound
+tenant-clearance x e = first-true (Tuple.validOf (x .clearance)) (cond (leb 1 (x .ceiling)) (not (Tuple.emptyOf (x .clearance))) (Tuple.emptyOf (x .clearance))) e
+
+pub clearance-valid : (s : SegmentTable) (t : TenantId) → tenantsSound s ≡ true → t .0 < tenants → Tuple.validOf (clearanceAt s t) ≡ true
+clearance-valid s t e h = tenant-clearance (tenantAt s t) (every-at (λ i. tenantSound (tenantAt s (tenantId i))) tenants (t .0) e h)
+
+-- what a test of a record's tuple tells
+
+one-of : (p q : Bool) → (p && not q || not p && q) ≡ cond p (not q) q
+one-of true true = refl
+one-of true false = refl
+one-of false q = refl
+
+pub tenant-told : (x : Tenant) (b : Bool) → granted b ≡ require (Tuple.validOf (x .clearance)) 22 (granted (Tuple.emptyOf (x .clearance)))
+    → (leb 1 (x .ceiling) && not b || not (leb 1 (x .ceiling)) && b) ≡ tenantSound x
+unfolding tenantSound
+tenant-told x b h =
+    let k = grant-told (Tuple.validOf (x .clearance)) 22 b (Tuple.emptyOf (x .clearance)) h in
+    rw (k .0, k .1) (one-of (leb 1 (x .ceiling)) (Tuple.emptyOf (x .clearance)))
+
+pub tenant-refused : (x : Tenant) (n : ℕ) (d : Option ℕ) → refused n d ≡ require (Tuple.validOf (x .clearance)) 22 (granted (Tuple.emptyOf (x .clearance)))
+    → false ≡ tenantSound x
+unfolding tenantSound
+tenant-refused x n d h = rw (refusal-stopped (Tuple.validOf (x .clearance)) 22 n d (Tuple.emptyOf (x .clearance)) h)
+
+-- what a test of a valid tuple tells is whether it contains the label, and its refusal a no
+pub contains-told : (t : Tuple) (l : Label) (b : Bool) → granted b ≡ require (Tuple.validOf t && Label.validOf l) 22 (granted (Tuple.containsOf t l)) → b ≡ Tuple.containsOf t l
+contains-told t l b h = grant-told (Tuple.validOf t && Label.validOf l) 22 b (Tuple.containsOf t l) h .1
+
+pub contains-refused : (t : Tuple) (l : Label) (n : ℕ) (d : Option ℕ) → Tuple.validOf t ≡ true
+    → refused n d ≡ require (Tuple.validOf t && Label.validOf l) 22 (granted (Tuple.containsOf t l)) → false ≡ Tuple.containsOf t l
+contains-refused t l n d v h =
+    sym (not-so (Tuple.containsOf t l) (λ e. true≢false (sym (both v (contained-valid t l v e)) ∙ refusal-stopped (Tuple.validOf t && Label.validOf l) 22 n d (Tuple.containsOf t l) h)))
+
 -- ---- what a slot may hold
 
 -- whether slot p may hold x
-abbrev held : SegmentTable → Slot → Segment → Bool
+abbrev pub held : SegmentTable → Slot → Segment → Bool
 held s p x = cond (leb 1 (x .pages)) (any (λ t. owns s (tenantId t) p && Tuple.containsOf (clearanceAt s (tenantId t)) (x .label)) tenants) (zeros x)
 
-slot-held : (s : SegmentTable) (p : Slot) → slotSound s p ≡ held s p (segmentAt s p)
+pub slot-held : (s : SegmentTable) (p : Slot) → slotSound s p ≡ held s p (segmentAt s p)
 unfolding slotSound filled clearedBy
 slot-held s p = refl
 
-held-filled : (s : SegmentTable) (p : Slot) (x : Segment) (u : TenantId) → 1 ≤ x .pages → u .0 < tenants → owns s u p ≡ true → Tuple.containsOf (clearanceAt s u) (x .label) ≡ true → held s p x ≡ true
+pub held-filled : (s : SegmentTable) (p : Slot) (x : Segment) (u : TenantId) → 1 ≤ x .pages → u .0 < tenants → owns s u p ≡ true → Tuple.containsOf (clearanceAt s u) (x .label) ≡ true → held s p x ≡ true
 held-filled s p x u h l o e =
     rw (le-leb 1 (x .pages) h)
     (any-of (λ t. owns s (tenantId t) p && Tuple.containsOf (clearanceAt s (tenantId t)) (x .label)) tenants (u .0) l (both o e))
@@ -94,7 +142,7 @@ held-cleared s p x t h o e =
     let b = second-true (owns s (tenantId i) p) (Tuple.containsOf (clearanceAt s (tenantId i)) (x .label)) f in
     ap (λ (u : TenantId). Tuple.containsOf (clearanceAt s u) (x .label)) (owner-unique s t (tenantId i) p o a) ∙ b)
 
-zeros-held : (s : SegmentTable) (p : Slot) → held s p zeroSegment ≡ true
+pub zeros-held : (s : SegmentTable) (p : Slot) → held s p zeroSegment ≡ true
 unfolding zeros
 zeros-held s p = rw (equal-exact Label.zeroLabel Label.zeroLabel refl .1 refl)
 
@@ -157,10 +205,6 @@ module _ (s : SegmentTable) (t : TenantId) (q : Slot) (x : Segment) (lengths : L
 
 -- ---- a tenant call
 
-valid-numbers : (s : SegmentTable) (t : TenantId) (l : Label) (a : Action) → callValid s (callOf t l a) ≡ true → numbersValid a ≡ true
-unfolding callValid
-valid-numbers s t l a e = three-true (admitted s t) (Label.validOf l) (numbersValid a) e .2
-
 cleared-label : (s : SegmentTable) (t : TenantId) (l : Label) (a : Action) → cleared s (callOf t l a) ≡ true → Tuple.containsOf (clearanceAt s t) l ≡ true
 unfolding cleared
 cleared-label s t l a e = e
@@ -174,13 +218,6 @@ module _ (s : SegmentTable) (t : TenantId) (l : Label) (h : Sound s) where
   unfolding filled
   filled-pages p e = leb-true 1 (pagesAt s p) e
 
-  empty-pages : (p : Slot) → emptyAt s (p .0) ≡ true → pagesAt s p ≡ 0
-  unfolding filled
-  empty-pages p e = none-left (pagesAt s p) e
-    where
-      none-left : (n : ℕ) → not (leb 1 n) ≡ true → n ≡ 0
-      none-left n e = ⊎-elim (λ (i : n ≡ 0). i) (λ (i : n ≡ 0 → ⊥). absurd (true≢false (sym e ∙ ap not (le-leb 1 n (omega (arith, i)))))) (same-or-not n 0)
-
   -- a slot that is its caller's own and filled holds a label in its caller's clearance
   own-cleared : (p : Slot) → writable s t l p ≡ true → Tuple.containsOf (clearanceAt s t) (segmentAt s p .label) ≡ true
   own-cleared p e =
@@ -193,7 +230,7 @@ module _ (s : SegmentTable) (t : TenantId) (l : Label) (h : Sound s) where
 
   written-held : (a : Action) (p : Slot) → Passed s t l a → lookedAt a ≡ none → slotFor s t a ≡ some p → held s p (written (segmentAt s p) l a) ≡ true
   written-held (Open x) p r n f =
-      own-held p (segmentOf l (x .pages) 0) (lowest-own s t p (valid-tenant s t l (Open x) (r .is-valid)) f .0)
+      own-held p (segmentOf l (x .pages) 0) (lowest-own s t p (valid-tenant s t l (Open x) (r .is-valid)) f)
       (valid-pages (x .pages) (valid-numbers s t l (Open x) (r .is-valid))) (cleared-label s t l (Open x) (r .is-cleared))
   written-held (Size x) p r n f =
       let q : x .slot ≡ p = cc in
@@ -208,10 +245,6 @@ module _ (s : SegmentTable) (t : TenantId) (l : Label) (h : Sound s) where
   written-held (Close x) p r n f = zeros-held s p
 
   -- and its caller's pages stay under the ceiling
-  own-pages : (p : Slot) → owns s t p ≡ true → pagesAt s p ≤ pagesOf s t
-  unfolding pagesOf
-  own-pages p o = let k = own-parts s t p o in sum-term (λ p. pagesAt s (slot p)) (p .0) (firstSlot s t) (slotCount s t) (k .from) (k .to)
-
   written-fits : (a : Action) (p : Slot) → Passed s t l a → slotFor s t a ≡ some p → owns s t p ≡ true
       → pagesOf s t + written (segmentAt s p) l a .pages ≤ ceilingAt s t + pagesAt s p
   written-fits (Open x) p r f o = let e = leb-true (pagesOf s t + x .pages) (ceilingAt s t) (r .fits) in omega arith
@@ -219,7 +252,7 @@ module _ (s : SegmentTable) (t : TenantId) (l : Label) (h : Sound s) where
       let q : x .slot ≡ p = cc in
       let e = leb-true (pagesOf s t - pagesAt s (x .slot) + x .pages) (ceilingAt s t) (r .fits) in
       let g : pagesAt s (x .slot) ≡ pagesAt s p = ap (pagesAt s) q in
-      let k = own-pages p o in
+      let k = own-pages s t p o in
       omega arith
   written-fits (Post x) p r f o = let k = h .pages t (own-parts s t p o .tenant) in omega arith
   written-fits (Look x) p r f o = let k = h .pages t (own-parts s t p o .tenant) in omega arith
@@ -227,7 +260,8 @@ module _ (s : SegmentTable) (t : TenantId) (l : Label) (h : Sound s) where
 
 -- every tenant call keeps soundness
 pub call-sound : (s : SegmentTable) (t : TenantId) (l : Label) (a : Action) → Lengths s → sound s ≡ true → sound (stepOf s (callOf t l a) .table) ≡ true
-call-sound s t l a n h = looks (lookedAt a) refl
+call-sound s t l a n h =
+    look-or-not a (λ e. other e (answerOf s (callOf t l a)) refl) (λ p e. ap sound (look-next s t l a p e) ∙ h)
   where
     other : lookedAt a ≡ none → (x : Answer Grant) → answerOf s (callOf t l a) ≡ x → sound (stepOf s (callOf t l a) .table) ≡ true
     other m (refused k detail) e = ap sound (next-refused s (callOf t l a) k detail e) ∙ h
@@ -238,6 +272,3 @@ call-sound s t l a n h = looks (lookedAt a) refl
         let z = sound-parts s h in
         ap sound (next-granted s (callOf t l a) g e ∙ ap (λ (p : Slot). withSegment s p (written (segmentAt s p) l a)) i)
         ∙ parts-sound _ (written-sound s t (r .slot) (written (segmentAt s (r .slot)) l a) n o z (written-held s t l z a (r .slot) r m (r .slot-is)) (written-fits s t l z a (r .slot) r (r .slot-is) o))
-    looks : (o : Option Slot) → lookedAt a ≡ o → sound (stepOf s (callOf t l a) .table) ≡ true
-    looks none e = other e (answerOf s (callOf t l a)) refl
-    looks (some p) e = ap sound (look-next s t l a p e) ∙ h

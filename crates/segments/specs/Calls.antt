@@ -22,6 +22,22 @@ use Rattle.segments.specs.declared.TenantId.{TenantId}
 abbrev pub callOf : TenantId → Label → Action → Call
 callOf t l a = record { tenant = t; label = l; action = a }
 
+-- each of the five by its numbers
+abbrev pub openCall : TenantId → Label → ℕ → Call
+openCall t l pages = callOf t l (Open (record { pages = pages }))
+
+abbrev pub sizeCall : TenantId → Label → Slot → ℕ → Call
+sizeCall t l p pages = callOf t l (Size (record { slot = p; pages = pages }))
+
+abbrev pub postCall : TenantId → Label → Slot → ℕ → Call
+postCall t l p version = callOf t l (Post (record { slot = p; version = version }))
+
+abbrev pub lookCall : TenantId → Label → Slot → Call
+lookCall t l p = callOf t l (Look (record { slot = p }))
+
+abbrev pub closeCall : TenantId → Label → Slot → Call
+closeCall t l p = callOf t l (Close (record { slot = p }))
+
 -- ---- the checks
 
 -- 22: pages 0 or above 1,048,576, slot above 63

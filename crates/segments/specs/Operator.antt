@@ -1,5 +1,5 @@
 -- Document 01, "The board": the operator's calls. Assumes nothing.
-use mathlib.Core.Bool.{Bool, not, _&&_}
+use mathlib.Core.Bool.{not, _&&_}
 use Prim.Native.Nat.{ℕ, _+_, _-_}
 use lib.Dec.{leb, ltb}
 use Rattle.label.specs.Answer.{Answer, granted, require}

@@ -1,6 +1,5 @@
 -- Document 01, "The board": when a state is sound. Assumes nothing.
 use mathlib.Core.Bool.{Bool, cond, not, _&&_}
-use Prim.Native.Nat.{ℕ}
 use lib.Dec.{eqb, leb, ltb}
 use Rattle.label.specs.Index.{any, every}
 use Rattle.label.specs.Label

@@ -15,9 +15,9 @@ use crate::Shown;
 use crate::SizeCall;
 use crate::Slot;
 use crate::TenantId;
-use crate::operator::unlabeled;
 use crate::slots;
 use crate::state;
+use crate::unlabeled;
 use label::Label;
 use label::answer;
 use label::components;
@@ -26,22 +26,25 @@ ghost use mathlib.Core.Path.{_≡_};
 ghost use mathlib.Core.Bool.{true};
 ghost use Prim.Native.Nat.{_<_};
 ghost use Rattle.label.specs.Answer.{outcomeOf};
+ghost use Rattle.label.specs.Label as labels;
 ghost use Rattle.segments.specs.Calls as rules;
-ghost use Rattle.segments.specs.Calls.{numbersValid, slotValid, stepOf};
-ghost use Rattle.segments.specs.Found.{Started, closeCall, fitsIn, leftOf, lookCall, openCall, postCall, sizeCall, startOf};
+ghost use Rattle.segments.specs.Calls.{closeCall, lookCall, numbersValid, openCall, postCall, sizeCall, slotValid, stepOf};
+ghost use Rattle.segments.specs.Parts.{Started, fitsIn, leftOf, startOf};
 ghost use Rattle.segments.specs.Replies.{Results, done};
 ghost use Rattle.segments.specs.Segments.{ceilingAt, slots, tenants};
 ghost use Rattle.segments.specs.Slots.{pagesOf};
 ghost use Rattle.segments.specs.Sound.{sound};
 
-// ---- the checks
+// ---- the checks that every call starts with
 
+// Whether a slot is one of the state's.
 fn slot_valid(slot: Slot) -> bool
     ensures { λ r. ⌜ r ≡ slotValid slot ⌝ }
 {
     slot.0 < SLOTS as u64
 }
 
+// Whether the numbers that an action carries are in bounds.
 fn numbers_valid(action: Action) -> bool
     ensures { λ r. ⌜ r ≡ numbersValid action ⌝ }
 {
@@ -54,6 +57,7 @@ fn numbers_valid(action: Action) -> bool
     }
 }
 
+// Whether the tenant is admitted, the label valid, and the numbers are in bounds.
 fn valid(table: SegmentTable, call: Call) -> bool
     ensures { λ r. ⌜ r ≡ rules.callValid table call ⌝ }
 {
@@ -71,7 +75,7 @@ fn cleared(table: SegmentTable, call: Call) -> bool
     state::contains(tenant.clearance, call.label)
 }
 
-// The checks that every call starts with.
+// The checks that every call starts with, in document 01's order.
 fn start(table: SegmentTable, call: Call) -> answer::Outcome
     ensures { λ o. ⌜ outcomeOf o done ≡ startOf table call ⌝ }
 {
@@ -87,18 +91,33 @@ fn start(table: SegmentTable, call: Call) -> answer::Outcome
     answer::Outcome::Granted
 }
 
+// ---- the checks that look into slots
+
+// Whether two labels that were tested are equal.
+fn equal(a: Label, b: Label) -> bool
+    ensures { λ r. ⌜ r ≡ labels.equalOf a b ⌝ }
+{
+    let x = a.categories;
+    let y = b.categories;
+    components::equal(a.hierarchy, x, b.hierarchy, y)
+}
+
+// Whether a dominates b, of labels that were tested.
+fn dominates(a: Label, b: Label) -> bool
+    ensures { λ r. ⌜ r ≡ labels.dominatesOf a b ⌝ }
+{
+    let x = a.categories;
+    let y = b.categories;
+    components::dominates(a.hierarchy, x, b.hierarchy, y)
+}
+
 // Whether the slot is the tenant's own, filled, and its label the subject's.
 fn writable(table: SegmentTable, tenant: TenantId, label: Label, slot: Slot) -> bool
     requires { ⌜ slot .0 < slots ⌝ }
     ensures { λ r. ⌜ r ≡ rules.writable table tenant label slot ⌝ }
 {
-    let x = table.segments[slot.0 as usize];
-    let held = x.label;
-    let a = label.categories;
-    let b = held.categories;
-    slots::owns(table, tenant, slot)
-        & slots::filled(table, slot)
-        & components::equal(label.hierarchy, a, held.hierarchy, b)
+    let segment = table.segments[slot.0 as usize];
+    slots::owns(table, tenant, slot) & slots::filled(table, slot) & equal(label, segment.label)
 }
 
 // Whether the slot is filled and the subject's label dominates the label there.
@@ -106,11 +125,8 @@ fn visible(table: SegmentTable, label: Label, slot: Slot) -> bool
     requires { ⌜ slot .0 < slots ⌝ }
     ensures { λ r. ⌜ r ≡ rules.visible table label slot ⌝ }
 {
-    let x = table.segments[slot.0 as usize];
-    let held = x.label;
-    let a = label.categories;
-    let b = held.categories;
-    slots::filled(table, slot) & components::dominates(label.hierarchy, a, held.hierarchy, b)
+    let segment = table.segments[slot.0 as usize];
+    slots::filled(table, slot) & dominates(label, segment.label)
 }
 
 // Whether the tenant's ceiling has room for pages, some of which take the place of others.
@@ -122,7 +138,7 @@ fn has_room(table: SegmentTable, tenant: TenantId, replaced: u64, pages: u64) ->
     slots::fits(slots::pages_left(table, tenant, ceiling), replaced, pages)
 }
 
-// ---- what each call does, once it has passed the first checks
+// ---- each call, once it has passed the checks that all have
 
 fn open_started(table: SegmentTable, tenant: TenantId, label: Label, pages: u64) -> Outcome
     requires { ⌜ Started table (openCall tenant label pages) ⌝ }
@@ -137,39 +153,54 @@ fn open_started(table: SegmentTable, tenant: TenantId, label: Label, pages: u64)
         return unlabeled(table, Reply::Refused(Errno::NoMem));
     }
     let slot = slots::slot_or_0(free);
-    let x = Segment {
-        label: label,
-        pages: pages,
+    let segment = Segment {
+        label,
+        pages,
         version: 0,
     };
-    unlabeled(state::with_segment(table, slot, x), Reply::Opened(slot))
+    let opened = state::with_segment(table, slot, segment);
+    unlabeled(opened, Reply::Opened(slot))
 }
 
-fn size_started(table: SegmentTable, tenant: TenantId, label: Label, slot: Slot, pages: u64) -> Outcome
+fn size_started(
+    table: SegmentTable,
+    tenant: TenantId,
+    label: Label,
+    slot: Slot,
+    pages: u64,
+) -> Outcome
     requires { ⌜ Started table (sizeCall tenant label slot pages) ⌝ }
     ensures { λ r. ⌜ Results r (stepOf table (sizeCall tenant label slot pages)) ⌝ }
 {
     if !writable(table, tenant, label, slot) {
         return unlabeled(table, Reply::Refused(Errno::Access));
     }
-    let mut x = table.segments[slot.0 as usize];
-    if !has_room(table, tenant, x.pages, pages) {
+    let mut segment = table.segments[slot.0 as usize];
+    if !has_room(table, tenant, segment.pages, pages) {
         return unlabeled(table, Reply::Refused(Errno::NoMem));
     }
-    x.pages = pages;
-    unlabeled(state::with_segment(table, slot, x), Reply::Done)
+    segment.pages = pages;
+    let resized = state::with_segment(table, slot, segment);
+    unlabeled(resized, Reply::Done)
 }
 
-fn post_started(table: SegmentTable, tenant: TenantId, label: Label, slot: Slot, version: u64) -> Outcome
+fn post_started(
+    table: SegmentTable,
+    tenant: TenantId,
+    label: Label,
+    slot: Slot,
+    version: u64,
+) -> Outcome
     requires { ⌜ Started table (postCall tenant label slot version) ⌝ }
     ensures { λ r. ⌜ Results r (stepOf table (postCall tenant label slot version)) ⌝ }
 {
     if !writable(table, tenant, label, slot) {
         return unlabeled(table, Reply::Refused(Errno::Access));
     }
-    let mut x = table.segments[slot.0 as usize];
-    x.version = version;
-    unlabeled(state::with_segment(table, slot, x), Reply::Done)
+    let mut segment = table.segments[slot.0 as usize];
+    segment.version = version;
+    let posted = state::with_segment(table, slot, segment);
+    unlabeled(posted, Reply::Done)
 }
 
 fn look_started(table: SegmentTable, tenant: TenantId, label: Label, slot: Slot) -> Outcome
@@ -179,14 +210,14 @@ fn look_started(table: SegmentTable, tenant: TenantId, label: Label, slot: Slot)
     if !visible(table, label, slot) {
         return unlabeled(table, Reply::Refused(Errno::Access));
     }
-    let x = table.segments[slot.0 as usize];
-    let shown = x.label;
+    let segment = table.segments[slot.0 as usize];
+    let shown = segment.label;
     Outcome {
-        table: table,
+        table,
         answer: Answer {
             reply: Reply::Shown(Shown {
-                pages: x.pages,
-                version: x.version,
+                pages: segment.pages,
+                version: segment.version,
             }),
             label: shown,
         },
@@ -200,9 +231,11 @@ fn close_started(table: SegmentTable, tenant: TenantId, label: Label, slot: Slot
     if !writable(table, tenant, label, slot) {
         return unlabeled(table, Reply::Refused(Errno::Access));
     }
-    unlabeled(state::with_segment(table, slot, state::zero_segment()), Reply::Done)
+    let closed = state::with_segment(table, slot, state::zero_segment());
+    unlabeled(closed, Reply::Done)
 }
 
+// The call's own checks, and what it does.
 fn started(table: SegmentTable, call: Call) -> Outcome
     requires { ⌜ Started table call ⌝ }
     ensures { λ r. ⌜ Results r (stepOf table call) ⌝ }
@@ -236,13 +269,13 @@ pub fn step(table: SegmentTable, call: Call) -> Outcome
 pub fn open(table: SegmentTable, tenant: TenantId, label: Label, pages: u64) -> Outcome
     ensures { λ r. ⌜ Results r (stepOf table (openCall tenant label pages)) ⌝ }
 {
-    let action = Action::Open(OpenCall { pages: pages });
+    let action = Action::Open(OpenCall { pages });
     step(
         table,
         Call {
-            tenant: tenant,
-            label: label,
-            action: action,
+            tenant,
+            label,
+            action,
         },
     )
 }
@@ -251,34 +284,34 @@ pub fn open(table: SegmentTable, tenant: TenantId, label: Label, pages: u64) -> 
 pub fn size(table: SegmentTable, tenant: TenantId, label: Label, slot: Slot, pages: u64) -> Outcome
     ensures { λ r. ⌜ Results r (stepOf table (sizeCall tenant label slot pages)) ⌝ }
 {
-    let action = Action::Size(SizeCall {
-        slot: slot,
-        pages: pages,
-    });
+    let action = Action::Size(SizeCall { slot, pages });
     step(
         table,
         Call {
-            tenant: tenant,
-            label: label,
-            action: action,
+            tenant,
+            label,
+            action,
         },
     )
 }
 
 // The slot gets another version.
-pub fn post(table: SegmentTable, tenant: TenantId, label: Label, slot: Slot, version: u64) -> Outcome
+pub fn post(
+    table: SegmentTable,
+    tenant: TenantId,
+    label: Label,
+    slot: Slot,
+    version: u64,
+) -> Outcome
     ensures { λ r. ⌜ Results r (stepOf table (postCall tenant label slot version)) ⌝ }
 {
-    let action = Action::Post(PostCall {
-        slot: slot,
-        version: version,
-    });
+    let action = Action::Post(PostCall { slot, version });
     step(
         table,
         Call {
-            tenant: tenant,
-            label: label,
-            action: action,
+            tenant,
+            label,
+            action,
         },
     )
 }
@@ -287,13 +320,13 @@ pub fn post(table: SegmentTable, tenant: TenantId, label: Label, slot: Slot, ver
 pub fn look(table: SegmentTable, tenant: TenantId, label: Label, slot: Slot) -> Outcome
     ensures { λ r. ⌜ Results r (stepOf table (lookCall tenant label slot)) ⌝ }
 {
-    let action = Action::Look(LookCall { slot: slot });
+    let action = Action::Look(LookCall { slot });
     step(
         table,
         Call {
-            tenant: tenant,
-            label: label,
-            action: action,
+            tenant,
+            label,
+            action,
         },
     )
 }
@@ -302,13 +335,13 @@ pub fn look(table: SegmentTable, tenant: TenantId, label: Label, slot: Slot) -> 
 pub fn close(table: SegmentTable, tenant: TenantId, label: Label, slot: Slot) -> Outcome
     ensures { λ r. ⌜ Results r (stepOf table (closeCall tenant label slot)) ⌝ }
 {
-    let action = Action::Close(CloseCall { slot: slot });
+    let action = Action::Close(CloseCall { slot });
     step(
         table,
         Call {
-            tenant: tenant,
-            label: label,
-            action: action,
+            tenant,
+            label,
+            action,
         },
     )
 }

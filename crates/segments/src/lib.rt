@@ -7,10 +7,13 @@ pub mod state;
 use label::Label;
 use label::errno::Errno;
 use range::tuple::Tuple;
+ghost use mathlib.Core.Path.{_≡_};
+ghost use Rattle.segments.specs.Parts as parts;
 ghost use Rattle.segments.specs.Segments.{Lengths};
 
 // How many tenants, and how many slots, a machine has.
 pub const TENANTS: usize = 8;
+
 pub const SLOTS: usize = 64;
 
 // The greatest pool, and the most pages that a call may name.
@@ -105,6 +108,19 @@ pub struct Answer {
 pub struct Outcome {
     pub table: SegmentTable,
     pub answer: Answer,
+}
+
+// A state and a reply that shows no label.
+pub(crate) fn unlabeled(table: SegmentTable, reply: Reply) -> Outcome
+    ensures { λ r. ⌜ r ≡ parts.unlabeled table reply ⌝ }
+{
+    Outcome {
+        table,
+        answer: Answer {
+            reply,
+            label: label::zero(),
+        },
+    }
 }
 
 // Every state has the lengths of its type.

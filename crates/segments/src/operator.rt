@@ -1,5 +1,4 @@
 // The operator's calls.
-use crate::Answer;
 use crate::Outcome;
 use crate::Reply;
 use crate::SLOTS;
@@ -9,6 +8,7 @@ use crate::Tenant;
 use crate::TenantId;
 use crate::slots;
 use crate::state;
+use crate::unlabeled;
 use label::answer::Test;
 use label::errno::Errno;
 use range::tuple;
@@ -16,23 +16,9 @@ use range::tuple::Tuple;
 ghost use mathlib.Core.Path.{_≡_};
 ghost use mathlib.Core.Bool.{not, _&&_};
 ghost use Rattle.range.specs.Tuple as tuples;
-ghost use Rattle.segments.specs.Found.{unlabeled};
 ghost use Rattle.segments.specs.Operator.{admitOf, makeOf, setCeilingOf};
 ghost use Rattle.segments.specs.Replies.{Results};
 ghost use Rattle.segments.specs.Segments.{emptyTable};
-
-// A state and a reply that shows no label.
-pub(crate) fn unlabeled(table: SegmentTable, reply: Reply) -> Outcome
-    ensures { λ r. ⌜ r ≡ unlabeled table reply ⌝ }
-{
-    Outcome {
-        table: table,
-        answer: Answer {
-            reply: reply,
-            label: label::zero(),
-        },
-    }
-}
 
 // The state with no tenants.
 fn empty_table(pool: u64) -> SegmentTable
@@ -44,7 +30,7 @@ fn empty_table(pool: u64) -> SegmentTable
     };
     let segment = state::zero_segment();
     SegmentTable {
-        pool: pool,
+        pool,
         tenants: [tenant; TENANTS],
         segments: [segment; SLOTS],
     }
@@ -87,11 +73,9 @@ pub fn admit(table: SegmentTable, tenant: TenantId, ceiling: u64, clearance: Tup
     if !slots::fits(slots::pool_left(table), 0, ceiling) {
         return unlabeled(table, Reply::Refused(Errno::NoMem));
     }
-    let x = Tenant {
-        ceiling: ceiling,
-        clearance: clearance,
-    };
-    unlabeled(state::with_tenant(table, tenant, x), Reply::Done)
+    let admitted = Tenant { ceiling, clearance };
+    let next = state::with_tenant(table, tenant, admitted);
+    unlabeled(next, Reply::Done)
 }
 
 // Gives an admitted tenant another ceiling.
@@ -107,14 +91,12 @@ pub fn set_ceiling(table: SegmentTable, tenant: TenantId, ceiling: u64) -> Outco
     if !slots::kept(slots::pages_left(table, tenant, ceiling)) {
         return unlabeled(table, Reply::Refused(Errno::Busy));
     }
-    let x = table.tenants[tenant.0 as usize];
-    if !slots::fits(slots::pool_left(table), x.ceiling, ceiling) {
+    let old = table.tenants[tenant.0 as usize];
+    if !slots::fits(slots::pool_left(table), old.ceiling, ceiling) {
         return unlabeled(table, Reply::Refused(Errno::NoMem));
     }
-    let clearance = x.clearance;
-    let changed = Tenant {
-        ceiling: ceiling,
-        clearance: clearance,
-    };
-    unlabeled(state::with_tenant(table, tenant, changed), Reply::Done)
+    let clearance = old.clearance;
+    let changed = Tenant { ceiling, clearance };
+    let next = state::with_tenant(table, tenant, changed);
+    unlabeled(next, Reply::Done)
 }

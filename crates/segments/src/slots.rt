@@ -6,7 +6,7 @@ use crate::TenantId;
 ghost use mathlib.Core.Path.{_≡_};
 ghost use Prim.Native.Nat.{_<_};
 ghost use Rattle.segments.specs.Calls as calls;
-ghost use Rattle.segments.specs.Found.{fitsIn, freeOf, keptIn, leftOf, remainingOf};
+ghost use Rattle.segments.specs.Parts.{fitsIn, freeOf, keptIn, leftOf, remainingOf};
 ghost use Rattle.segments.specs.Segments.{slots, tenants};
 ghost use Rattle.segments.specs.Slots as rules;
 
@@ -63,12 +63,12 @@ pub(crate) fn lowest_empty(s: SegmentTable, t: TenantId) -> Free
 {
     let first = first_slot(s, t);
     let count = slot_count(s, t);
-    let mut i: u64 = 0;
-    while i < count {
-        if !filled(s, Slot(first + i)) {
-            return Free::At(Slot(first + i));
+    let mut k: u64 = 0;
+    while k < count {
+        if !filled(s, Slot(first + k)) {
+            return Free::At(Slot(first + k));
         }
-        i += 1;
+        k += 1;
     }
     Free::Nothing
 }
@@ -145,7 +145,11 @@ pub(crate) fn fits(left: Remaining, replaced: u64, wanted: u64) -> bool
     ensures { λ r. ⌜ r ≡ fitsIn (remainingOf left) replaced wanted ⌝ }
 {
     match left {
-        Remaining::Pages(n) => if wanted <= n { true } else { wanted - n <= replaced },
+        Remaining::Pages(n) => if wanted <= n {
+            true
+        } else {
+            wanted - n <= replaced
+        },
         Remaining::Exceeded => false,
     }
 }

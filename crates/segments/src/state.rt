@@ -20,7 +20,7 @@ ghost use mathlib.Core.Bool.{true};
 ghost use Prim.Native.Nat.{_<_};
 ghost use Rattle.label.specs.Answer.{granted, numberAnswerOf, require};
 ghost use Rattle.range.specs.Tuple as tuples;
-ghost use Rattle.segments.specs.Found.{ceilingsKept, ownerClears, slotsSound, tenantsSound};
+ghost use Rattle.segments.specs.Parts.{ceilingsKept, ownerClears, slotsSound, tenantsSound};
 ghost use Rattle.segments.specs.Segments.{pagesValid, slots, tenants, withSegment, withTenant, zeroSegment};
 ghost use Rattle.segments.specs.Slots.{pagesOf};
 ghost use Rattle.segments.specs.Sound as rules;

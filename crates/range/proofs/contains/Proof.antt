@@ -1,7 +1,6 @@
 use borrow.Author.Needs.{needs}
 use Rattle.range.proofs.contains.Statement.{statement}
 use Rattle.range.proofs.contains.Tie as tie
-use Rattle.range.proofs.valid.Reads as valid-reads′
 
 valid-requires : tie.Need-valid-requires
 valid-requires c κs = search needs

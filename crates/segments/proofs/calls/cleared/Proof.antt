@@ -2,14 +2,14 @@ use Prim.Native.Nat.{_<_}
 use native.Mathlib.Omega.{arith}
 use Rattle.segments.specs.Calls.{cleared}
 use Rattle.segments.specs.Segments.{tenants}
-use Rattle.segments.proofs.CodeLaws.{clearance-valid, sound-parts}
-use Rattle.segments.proofs.CodeSteps.{valid-tenant}
+use Rattle.segments.proofs.CallsLaws.{valid-tenant}
+use Rattle.segments.proofs.SoundLaws.{sound-parts, tenant-clearance}
 use Rattle.segments.proofs.calls.cleared.Statement.{statement}
 use Rattle.segments.proofs.calls.cleared.Tie as tie
 
 -- the tenant is one of the state's
 callee : (c : tie.Start) → c .args .call .tenant .0 < tenants
-callee c = valid-tenant (c .args .t1) (c .args .call) (c .pre .1)
+callee c = valid-tenant (c .args .t1) (c .args .call .tenant) (c .args .call .label) (c .args .call .action) (c .pre .1)
 
 mul-tenant : tie.Need-mul-tenant
 mul-tenant c = let h = callee c in omega arith
@@ -20,7 +20,7 @@ element-copy-out-tenant c = let h = callee c in omega arith
 contains-requires : tie.Need-contains-requires
 contains-requires c κs =
     let s = c .before in
-    clearance-valid (s .args .t1) (s .args .call .tenant) (sound-parts _ (s .pre .0) .tenants-sound) (callee s)
+    tenant-clearance _ (sound-parts (s .args .t1) (s .pre .0) .tenant (s .args .call .tenant) (callee s))
 
 returns : tie.Need-returns
 unfolding cleared

@@ -1,16 +1,15 @@
+use borrow.Author.Needs.{needs}
 use mathlib.Core.Path.{refl, sym, ap, _∙_}
-use native.Mathlib.Omega.{arith}
+use Prim.Native.Nat.{_<_}
 use borrow.Author.Tests.{ltb-true, not-false, not-true}
 use Rattle.label.specs.declared.errno.Errno.the-variants.{Access}
 use Rattle.segments.specs.Calls.{accessOf}
-use Rattle.segments.specs.Segments.{slots, withSegment}
-use Rattle.segments.proofs.CodeSteps.{started-numbers, step-granted, step-refused}
-use Prim.Native.Nat.{_<_}
-use Rattle.segments.specs.Found.{unlabeled}
+use Rattle.segments.specs.Parts.{unlabeled}
 use Rattle.segments.specs.Replies.{done}
+use Rattle.segments.specs.Segments.{slots, withSegment}
 use Rattle.segments.specs.declared.Reply.the-variants.{Done}
 use Rattle.segments.specs.declared.SegmentTable.{SegmentTable}
-use borrow.Author.Needs.{needs}
+use Rattle.segments.proofs.ResultsLaws.{started-numbers, step-granted, step-refused}
 use Rattle.segments.proofs.calls.close_started.Statement.{statement}
 use Rattle.segments.proofs.calls.close_started.Tie as tie
 

@@ -1,12 +1,12 @@
+use borrow.Author.Needs.{needs}
 use mathlib.Core.Path.{sym, _∙_}
+use Prim.Native.Nat.{_<_}
 use native.Mathlib.Omega.{arith}
 use borrow.Author.Tests.{ltb-true, not-false, not-true}
 use Rattle.label.specs.declared.errno.Errno.the-variants.{Access}
 use Rattle.segments.specs.Calls.{accessOf}
 use Rattle.segments.specs.Segments.{slots}
-use Rattle.segments.proofs.CodeSteps.{look-granted, started-numbers, step-refused}
-use Prim.Native.Nat.{_<_}
-use borrow.Author.Needs.{needs}
+use Rattle.segments.proofs.ResultsLaws.{look-granted, started-numbers, step-refused}
 use Rattle.segments.proofs.calls.look_started.Statement.{statement}
 use Rattle.segments.proofs.calls.look_started.Tie as tie
 
@@ -26,11 +26,11 @@ returns c =
     let k = c .before .before in
     step-refused _ _ (k .before .pre) _ Access (c .unlabeled .ensures) (rw (sym (k .visible .ensures) ∙ not-true _ (c .before .if1 .taken)))
 
-mul-x : tie.Need-mul-x
-mul-x c = let h = named (c .before .before) in omega arith
+mul-segment : tie.Need-mul-segment
+mul-segment c = let h = named (c .before .before) in omega arith
 
-element-copy-out-x : tie.Need-element-copy-out-x
-element-copy-out-x c = let h = named (c .before .before) in omega arith
+element-copy-out-segment : tie.Need-element-copy-out-segment
+element-copy-out-segment c = let h = named (c .before .before) in omega arith
 
 returns-2 : tie.Need-returns-2
 unfolding accessOf
@@ -43,4 +43,4 @@ returns-2 c =
 pub look-started-spec : {M : Type 1} → statement M
 look-started-spec =
     tie.close
-    (tie.spec visible-requires unlabeled-requires returns mul-x element-copy-out-x returns-2)
+    (tie.spec visible-requires unlabeled-requires returns mul-segment element-copy-out-segment returns-2)

@@ -1,20 +1,22 @@
-use Rattle.segments.specs.Replies.{opened}
 use borrow.Author.Needs.{needs}
 use mathlib.Core.Path.{_≡_, refl, sym, ap, _∙_}
 use Prim.Native.Nat.{_+_, _<_}
-use lib.Dec.{leb}
 use borrow.Author.Tests.{not-false, not-true}
+use lib.Dec.{leb}
 use Rattle.label.specs.declared.errno.Errno.the-variants.{NoMem, NoSpace}
 use Rattle.segments.specs.Calls.{accessOf, found, slotOr0}
-use Rattle.segments.specs.Found.{unlabeled}
+use Rattle.segments.specs.Parts.{unlabeled}
+use Rattle.segments.specs.Replies.{opened}
 use Rattle.segments.specs.Segments.{ceilingAt, segmentOf, tenants, withSegment}
 use Rattle.segments.specs.Slots.{lowestEmpty, pagesOf}
 use Rattle.segments.specs.declared.Reply.the-variants.{Opened}
 use Rattle.segments.specs.declared.Segment.{Segment}
 use Rattle.segments.specs.declared.SegmentTable.{SegmentTable}
 use Rattle.segments.specs.declared.Slot.{Slot}
-use Rattle.segments.proofs.CodeLaws.{fits-more, found-slot, pages-kept}
-use Rattle.segments.proofs.CodeSteps.{started-tenant, step-granted, step-refused}
+use Rattle.segments.proofs.LimitLaws.{fits-more}
+use Rattle.segments.proofs.ResultsLaws.{started-tenant, step-granted, step-refused}
+use Rattle.segments.proofs.SlotsLaws.{found-slot}
+use Rattle.segments.proofs.SoundLaws.{sound-parts}
 use Rattle.segments.proofs.calls.open_started.Statement.{statement}
 use Rattle.segments.proofs.calls.open_started.Tie as tie
 
@@ -28,7 +30,7 @@ looked c = sym (c .found .ensures ∙ ap found (c .before .before .lowest-empty 
 room : (c : tie.After-has-room) → let a = c .before .before .args in leb (pagesOf (a .table) (a .tenant) + a .pages) (ceilingAt (a .table) (a .tenant)) ≡ c .has-room .result
 room c =
     let s = c .before .before in
-    sym (c .has-room .ensures ∙ fits-more _ _ _ (pages-kept _ _ (s .pre .sound) (caller s)))
+    sym (c .has-room .ensures ∙ fits-more _ _ _ (sound-parts _ (s .pre .sound) .pages _ (caller s)))
 
 place : (c : tie.After-slot-or-0) → let a = c .before .before .before .before .before .before .args in c .slot-or-0 .result ≡ slotOr0 (lowestEmpty (a .table) (a .tenant))
 place c = c .slot-or-0 .ensures ∙ ap slotOr0 (c .before .before .before .before .before .lowest-empty .ensures)

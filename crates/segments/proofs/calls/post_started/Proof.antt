@@ -1,16 +1,16 @@
+use borrow.Author.Needs.{needs}
 use mathlib.Core.Path.{refl, sym, ap, _∙_}
+use Prim.Native.Nat.{_<_}
 use native.Mathlib.Omega.{arith}
 use borrow.Author.Tests.{ltb-true, not-false, not-true}
 use Rattle.label.specs.declared.errno.Errno.the-variants.{Access}
 use Rattle.segments.specs.Calls.{accessOf}
-use Rattle.segments.specs.Segments.{slots}
-use Rattle.segments.proofs.CodeSteps.{started-numbers, step-granted, step-refused}
-use Prim.Native.Nat.{_<_}
-use Rattle.segments.specs.Found.{unlabeled}
+use Rattle.segments.specs.Parts.{unlabeled}
 use Rattle.segments.specs.Replies.{done}
+use Rattle.segments.specs.Segments.{slots}
 use Rattle.segments.specs.declared.Reply.the-variants.{Done}
 use Rattle.segments.specs.declared.SegmentTable.{SegmentTable}
-use borrow.Author.Needs.{needs}
+use Rattle.segments.proofs.ResultsLaws.{started-numbers, step-granted, step-refused}
 use Rattle.segments.proofs.calls.post_started.Statement.{statement}
 use Rattle.segments.proofs.calls.post_started.Tie as tie
 
@@ -30,11 +30,11 @@ returns c =
     let k = c .before .before in
     step-refused _ _ (k .before .pre) _ Access (c .unlabeled .ensures) (rw (sym (k .writable .ensures) ∙ not-true _ (c .before .if1 .taken)))
 
-mul-x : tie.Need-mul-x
-mul-x c = let h = named (c .before .before) in omega arith
+mul-segment : tie.Need-mul-segment
+mul-segment c = let h = named (c .before .before) in omega arith
 
-element-copy-out-x : tie.Need-element-copy-out-x
-element-copy-out-x c = let h = named (c .before .before) in omega arith
+element-copy-out-segment : tie.Need-element-copy-out-segment
+element-copy-out-segment c = let h = named (c .before .before) in omega arith
 
 with-segment-requires : tie.Need-with-segment-requires
 with-segment-requires c κs = named (c .before .before .before)
@@ -56,8 +56,8 @@ post-started-spec =
     writable-requires
     unlabeled-requires
     returns
-    mul-x
-    element-copy-out-x
+    mul-segment
+    element-copy-out-segment
     with-segment-requires
     unlabeled-requires-2
     returns-2)

@@ -3,19 +3,22 @@ use mathlib.Core.Bool.{true}
 use mathlib.Core.Path.{_≡_, refl, sym, ap, _∙_}
 use Prim.Native.Nat.{_+_, _-_, _<_}
 use native.Mathlib.Omega.{arith}
-use lib.Dec.{leb}
 use borrow.Author.Tests.{ltb-true, not-false, not-true}
-use Rattle.label.proofs.BoolLaws.{first-true}
+use lib.Dec.{leb}
 use Rattle.label.specs.declared.errno.Errno.the-variants.{Access, NoMem}
+use Rattle.label.proofs.BoolLaws.{first-true}
 use Rattle.segments.specs.Calls.{accessOf, slotValid, writable}
-use Rattle.segments.specs.Found.{unlabeled}
+use Rattle.segments.specs.Parts.{unlabeled}
 use Rattle.segments.specs.Replies.{done}
 use Rattle.segments.specs.Segments.{ceilingAt, pagesAt, slots}
 use Rattle.segments.specs.Slots.{pagesOf}
 use Rattle.segments.specs.declared.Reply.the-variants.{Done}
 use Rattle.segments.specs.declared.SegmentTable.{SegmentTable}
-use Rattle.segments.proofs.CodeLaws.{fits-exact, pages-among, pages-kept}
-use Rattle.segments.proofs.CodeSteps.{started-numbers, started-tenant, step-granted, step-refused, writable-owned}
+use Rattle.segments.proofs.CallsLaws.{writable-own}
+use Rattle.segments.proofs.LimitLaws.{fits-exact}
+use Rattle.segments.proofs.ResultsLaws.{started-numbers, started-tenant, step-granted, step-refused}
+use Rattle.segments.proofs.SlotsLaws.{own-pages}
+use Rattle.segments.proofs.SoundLaws.{sound-parts}
 use Rattle.segments.proofs.calls.size_started.Statement.{statement}
 use Rattle.segments.proofs.calls.size_started.Tie as tie
 
@@ -32,7 +35,7 @@ room : (c : tie.After-has-room) → let a = c .before .before .before .before .a
 room c =
     let e = c .before .before in
     let s = e .before .before in
-    sym (c .has-room .ensures ∙ fits-exact _ _ _ _ (pages-kept _ _ (s .pre .sound) (started-tenant _ _ (s .pre))) (pages-among _ _ _ (writable-owned _ _ _ _ (is-writable e))))
+    sym (c .has-room .ensures ∙ fits-exact _ _ _ _ (sound-parts _ (s .pre .sound) .pages _ (started-tenant _ _ (s .pre))) (own-pages _ _ _ (writable-own _ _ _ _ (is-writable e) .0)))
 
 writable-requires : tie.Need-writable-requires
 writable-requires c κs = named c
@@ -46,11 +49,11 @@ returns c =
     let k = c .before .before in
     step-refused _ _ (k .before .pre) _ Access (c .unlabeled .ensures) (rw (sym (k .writable .ensures) ∙ not-true _ (c .before .if1 .taken)))
 
-mul-x : tie.Need-mul-x
-mul-x c = let h = named (c .before .before) in omega arith
+mul-segment : tie.Need-mul-segment
+mul-segment c = let h = named (c .before .before) in omega arith
 
-element-copy-out-x : tie.Need-element-copy-out-x
-element-copy-out-x c = let h = named (c .before .before) in omega arith
+element-copy-out-segment : tie.Need-element-copy-out-segment
+element-copy-out-segment c = let h = named (c .before .before) in omega arith
 
 has-room-requires : tie.Need-has-room-requires
 has-room-requires c κs = started-tenant _ _ (c .before .before .before .pre)
@@ -85,8 +88,8 @@ size-started-spec =
     writable-requires
     unlabeled-requires
     returns
-    mul-x
-    element-copy-out-x
+    mul-segment
+    element-copy-out-segment
     has-room-requires
     unlabeled-requires-2
     returns-2

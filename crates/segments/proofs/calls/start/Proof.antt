@@ -3,7 +3,7 @@ use mathlib.Core.Bool.{true}
 use mathlib.Core.Path.{_≡_, sym, _∙_}
 use borrow.Author.Tests.{not-false, not-true}
 use Rattle.segments.specs.Calls.{callValid}
-use Rattle.segments.specs.Found.{startOf}
+use Rattle.segments.specs.Parts.{startOf}
 use Rattle.segments.specs.Sound.{sound}
 use Rattle.segments.proofs.calls.start.Statement.{statement}
 use Rattle.segments.proofs.calls.start.Tie as tie

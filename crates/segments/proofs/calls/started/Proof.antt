@@ -1,10 +1,10 @@
 use borrow.Author.Needs.{needs}
 use mathlib.Core.Path.{subst, subst⁻¹}
 use Rattle.segments.specs.Calls.{stepOf}
-use Rattle.segments.specs.Found.{Started}
+use Rattle.segments.specs.Parts.{Started}
 use Rattle.segments.specs.Replies.{Results}
 use Rattle.segments.specs.declared.Call.{Call}
-use Rattle.segments.proofs.CodeSteps.{same-call}
+use Rattle.segments.proofs.ResultsLaws.{same-call}
 use Rattle.segments.proofs.calls.started.Statement.{statement}
 use Rattle.segments.proofs.calls.started.Tie as tie
 

@@ -3,7 +3,7 @@ use mathlib.Core.Path.{sym, ap, _∙_}
 use Rattle.label.specs.Answer.{outcomeOf}
 use Rattle.label.specs.declared.answer.Outcome.{Outcome}
 use Rattle.segments.specs.Replies.{done}
-use Rattle.segments.proofs.CodeSteps.{start-passed, step-stopped}
+use Rattle.segments.proofs.ResultsLaws.{start-passed, step-stopped}
 use Rattle.segments.proofs.calls.step.Statement.{statement}
 use Rattle.segments.proofs.calls.step.Tie as tie
 

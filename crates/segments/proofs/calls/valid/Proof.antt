@@ -1,5 +1,5 @@
-use Rattle.segments.specs.Calls.{callValid}
 use borrow.Author.Needs.{needs}
+use Rattle.segments.specs.Calls.{callValid}
 use Rattle.segments.proofs.calls.valid.Statement.{statement}
 use Rattle.segments.proofs.calls.valid.Tie as tie
 

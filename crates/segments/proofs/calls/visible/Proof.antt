@@ -1,13 +1,13 @@
-use Rattle.segments.specs.Calls.{visible}
 use borrow.Author.Needs.{needs}
+use Rattle.segments.specs.Calls.{visible}
 use Rattle.segments.proofs.calls.visible.Statement.{statement}
 use Rattle.segments.proofs.calls.visible.Tie as tie
 
-mul-x : tie.Need-mul-x
-mul-x c = search needs
+mul-segment : tie.Need-mul-segment
+mul-segment c = search needs
 
-element-copy-out-x : tie.Need-element-copy-out-x
-element-copy-out-x c = search needs
+element-copy-out-segment : tie.Need-element-copy-out-segment
+element-copy-out-segment c = search needs
 
 filled-requires : tie.Need-filled-requires
 filled-requires c κs = search needs
@@ -21,4 +21,4 @@ returns c = rw (c .before .filled .ensures, c .dominates .ensures)
 
 pub visible-spec : {M : Type 1} → statement M
 visible-spec =
-    tie.close (tie.spec mul-x element-copy-out-x filled-requires dominates-requires returns)
+    tie.close (tie.spec mul-segment element-copy-out-segment filled-requires dominates-requires returns)

@@ -1,13 +1,13 @@
-use Rattle.segments.specs.Calls.{writable}
 use borrow.Author.Needs.{needs}
+use Rattle.segments.specs.Calls.{writable}
 use Rattle.segments.proofs.calls.writable.Statement.{statement}
 use Rattle.segments.proofs.calls.writable.Tie as tie
 
-mul-x : tie.Need-mul-x
-mul-x c = search needs
+mul-segment : tie.Need-mul-segment
+mul-segment c = search needs
 
-element-copy-out-x : tie.Need-element-copy-out-x
-element-copy-out-x c = search needs
+element-copy-out-segment : tie.Need-element-copy-out-segment
+element-copy-out-segment c = search needs
 
 owns-requires : tie.Need-owns-requires
 owns-requires c κs = search needs
@@ -25,4 +25,4 @@ returns c = rw (c .before .before .owns .ensures, c .before .filled .ensures, c 
 pub writable-spec : {M : Type 1} → statement M
 writable-spec =
     tie.close
-    (tie.spec mul-x element-copy-out-x owns-requires filled-requires equal-requires returns)
+    (tie.spec mul-segment element-copy-out-segment owns-requires filled-requires equal-requires returns)

@@ -3,12 +3,12 @@ use mathlib.Core.Bool.{Bool, true, false, not, _&&_, and-assoc}
 use mathlib.Core.Option.{Option}
 use mathlib.Core.Path.{_≡_, refl, sym, ap, _∙_}
 use Prim.Native.Nat.{ℕ, _+_, _<_}
-use lib.Dec.{leb, ltb}
 use borrow.Author.Tests.{ltb-true, not-false, not-true}
+use lib.Dec.{leb, ltb}
 use Rattle.label.specs.declared.errno.Errno.the-variants.{Busy, Invalid, NoMem}
 use Rattle.label.proofs.BoolLaws.{three-true}
 use Rattle.range.specs.Tuple
-use Rattle.segments.specs.Found.{fitsIn, unlabeled}
+use Rattle.segments.specs.Parts.{fitsIn, unlabeled}
 use Rattle.segments.specs.Operator.{admitAnswer, admitOf}
 use Rattle.segments.specs.Replies.{done}
 use Rattle.segments.specs.Segments.{tenants}
@@ -16,8 +16,9 @@ use Rattle.segments.specs.Slots.{ceilingsOf}
 use Rattle.segments.specs.Sound.{admitted, sound}
 use Rattle.segments.specs.declared.Reply.the-variants.{Done}
 use Rattle.segments.specs.declared.SegmentTable.{SegmentTable}
-use Rattle.segments.proofs.CodeLaws.{fits-more, sound-parts}
-use Rattle.segments.proofs.CodeSteps.{results-granted, results-refused}
+use Rattle.segments.proofs.LimitLaws.{fits-more}
+use Rattle.segments.proofs.ResultsLaws.{results-granted, results-refused}
+use Rattle.segments.proofs.SoundLaws.{sound-parts}
 use Rattle.segments.proofs.operator.admit.Statement.{statement}
 use Rattle.segments.proofs.operator.admit.Tie as tie
 
@@ -52,7 +53,7 @@ room : (c : tie.After-fits2) → let a = c .before .before .before .before .befo
 room c =
     let e = c .before .before .before .before .before .before .before in
     let a = e .before .before .args in
-    sym (c .fits2 .ensures ∙ ap (λ (x : Option ℕ). fitsIn x 0 (a .ceiling)) (c .before .pool-left .ensures) ∙ fits-more (a .table .pool) (ceilingsOf (a .table)) (a .ceiling) (sound-parts (a .table) (is-sound e) .pool))
+    sym (c .fits2 .ensures ∙ ap (λ (x : Option ℕ). fitsIn x 0 (a .ceiling)) (c .before .pool-left .ensures) ∙ fits-more (a .table .pool) (ceilingsOf (a .table)) (a .ceiling) (sound-parts (a .table) (is-sound e) .ceilings))
 
 sound-requires : tie.Need-sound-requires
 sound-requires c κs = search needs

@@ -1,10 +1,10 @@
-use Rattle.label.specs.Errno.{detailOf, numberOf}
-use Rattle.range.specs.Tuple
+use borrow.Author.Needs.{needs}
 use mathlib.Core.Path.{sym, ap, _∙_}
+use Rattle.label.proofs.AnswerLaws.{grant-told}
+use Rattle.label.specs.Errno.{detailOf, numberOf}
 use Rattle.label.specs.Answer.{testOf}
 use Rattle.label.proofs.AnswerLaws.{refusal-stopped}
-use Rattle.segments.proofs.CodeLaws.{told}
-use borrow.Author.Needs.{needs}
+use Rattle.range.specs.Tuple
 use Rattle.segments.proofs.operator.clearance_valid.Statement.{statement}
 use Rattle.segments.proofs.operator.clearance_valid.Tie as tie
 
@@ -21,7 +21,7 @@ returns : tie.Need-returns
 returns c =
     let k = c .before .before .before in
     let t = k .before .args .t in
-    let h = told (Tuple.validOf t) (Tuple.emptyOf t) (c .before .test .given .0 .0) (ap testOf (sym (c .before .test .given .1)) ∙ k .is-empty .ensures) in
+    let h = grant-told (Tuple.validOf t) 22 (c .before .test .given .0 .0) (Tuple.emptyOf t) (ap testOf (sym (c .before .test .given .1)) ∙ k .is-empty .ensures) in
     rw (h .0, h .1)
 
 returns-2 : tie.Need-returns-2

@@ -1,14 +1,14 @@
+use borrow.Author.Needs.{needs}
 use mathlib.Core.Path.{refl, sym, ap, _∙_}
 use Rattle.label.specs.declared.errno.Errno.the-variants.{Invalid}
 use Rattle.label.proofs.AnswerLaws.{passed, stopped}
-use Rattle.segments.specs.Found.{unlabeled}
+use Rattle.segments.specs.Parts.{unlabeled}
 use Rattle.segments.specs.Operator.{makeAnswer, makeOf}
 use Rattle.segments.specs.Replies.{done}
 use Rattle.segments.specs.Segments.{emptyTable}
 use Rattle.segments.specs.declared.Reply.the-variants.{Done, Refused}
 use Rattle.segments.specs.declared.SegmentTable.{SegmentTable}
-use Rattle.segments.proofs.CodeSteps.{results-granted, results-refused}
-use borrow.Author.Needs.{needs}
+use Rattle.segments.proofs.ResultsLaws.{results-granted, results-refused}
 use Rattle.segments.proofs.operator.make.Statement.{statement}
 use Rattle.segments.proofs.operator.make.Tie as tie
 

@@ -1,5 +1,5 @@
-use Rattle.segments.specs.Slots.{filled}
 use borrow.Author.Needs.{needs}
+use Rattle.segments.specs.Slots.{filled}
 use Rattle.segments.proofs.slots.filled.Statement.{statement}
 use Rattle.segments.proofs.slots.filled.Tie as tie
 

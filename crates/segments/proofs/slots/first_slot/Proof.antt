@@ -1,5 +1,5 @@
-use Rattle.segments.specs.Slots.{firstSlot}
 use borrow.Author.Needs.{needs}
+use Rattle.segments.specs.Slots.{firstSlot}
 use Rattle.segments.proofs.slots.first_slot.Statement.{statement}
 use Rattle.segments.proofs.slots.first_slot.Tie as tie
 

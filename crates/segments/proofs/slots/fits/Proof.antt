@@ -1,10 +1,10 @@
-use Prim.Native.Nat.{_+_, _-_}
-use lib.Dec.{leb}
-use Rattle.label.proofs.BoolLaws.{same-truth}
+use borrow.Author.Needs.{needs}
 use mathlib.Core.Path.{sym}
+use Prim.Native.Nat.{_+_, _-_}
 use native.Mathlib.Omega.{arith}
 use borrow.Author.Tests.{le-leb, leb-true}
-use borrow.Author.Needs.{needs}
+use lib.Dec.{leb}
+use Rattle.label.proofs.BoolLaws.{same-truth}
 use Rattle.segments.proofs.slots.fits.Statement.{statement}
 use Rattle.segments.proofs.slots.fits.Tie as tie
 

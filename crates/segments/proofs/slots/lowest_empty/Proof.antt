@@ -6,16 +6,16 @@ use native.Mathlib.Omega.{arith}
 use borrow.Author.Count.{below-more}
 use Rattle.segments.specs.Segments.{slots}
 use Rattle.segments.specs.Slots.{emptyAt}
-use Rattle.segments.proofs.CodeLaws.{lowest-found, lowest-none}
 use Rattle.segments.proofs.SlotsLaws.{own-bound}
+use Rattle.segments.proofs.SlotsLaws.{lowest-found, lowest-none}
 use Rattle.segments.proofs.slots.lowest_empty.Statement.{statement}
 use Rattle.segments.proofs.slots.lowest_empty.Tie as tie
 
 abbrev Inv-loop : tie.InvT-loop
-Inv-loop s first count i₀ i = (i ≤ count) × ((j : ℕ) → j < i → emptyAt s (first + j) ≡ false)
+Inv-loop s first count k₀ k = (k ≤ count) × ((j : ℕ) → j < k → emptyAt s (first + j) ≡ false)
 
 abbrev μ-loop : tie.MeasureT-loop
-μ-loop s first count i₀ i = count - i
+μ-loop s first count k₀ k = count - k
 
 -- the slots that are looked at are slots of the state
 bound : (c : tie.After-slot-count Inv-loop μ-loop) → c .before .first-slot .result + c .slot-count .result ≤ slots
@@ -47,10 +47,10 @@ returns c =
     let h = c .before .before .before in
     let n = h .before in
     let a = n .before .before .args in
-    lowest-found (a .s) (a .t) _ _ (n .before .first-slot .ensures) (n .slot-count .ensures) (h .loop .i) (c .before .before .loop-test .taken) (h .loop .inv .1) (ap not (sym (c .before .filled .ensures)) ∙ c .if1 .taken)
+    lowest-found (a .s) (a .t) _ _ (n .before .first-slot .ensures) (n .slot-count .ensures) (h .loop .k) (c .before .before .loop-test .taken) (h .loop .inv .1) (ap not (sym (c .before .filled .ensures)) ∙ c .if1 .taken)
 
-add-i : tie.Need-add-i Inv-loop μ-loop
-add-i c = search needs
+add-k : tie.Need-add-k Inv-loop μ-loop
+add-k c = search needs
 
 loop-less : tie.Need-loop-less Inv-loop μ-loop
 loop-less c = search needs
@@ -65,7 +65,7 @@ returns-2 c =
     let h = c .before in
     let n = h .before in
     let a = n .before .before .args in
-    lowest-none (a .s) (a .t) _ _ (n .before .first-slot .ensures) (n .slot-count .ensures) (h .loop .i) (omega arith) (h .loop .inv .1)
+    lowest-none (a .s) (a .t) _ _ (n .before .first-slot .ensures) (n .slot-count .ensures) (h .loop .k) (omega arith) (h .loop .inv .1)
 
 pub lowest-empty-spec : {M : Type 1} → statement M
 lowest-empty-spec =
@@ -80,7 +80,7 @@ lowest-empty-spec =
     filled-requires
     add-t10
     returns
-    add-i
+    add-k
     loop-less
     loop-again
     returns-2)

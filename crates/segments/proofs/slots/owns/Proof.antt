@@ -1,7 +1,7 @@
-use native.Mathlib.Omega.{arith}
-use Rattle.segments.proofs.CodeLaws.{owns-inside, owns-outside}
-use Rattle.segments.proofs.SlotsLaws.{own-bound}
 use borrow.Author.Needs.{needs}
+use native.Mathlib.Omega.{arith}
+use Rattle.segments.proofs.SlotsLaws.{own-bound}
+use Rattle.segments.proofs.SlotsLaws.{owns-inside, owns-outside}
 use Rattle.segments.proofs.slots.owns.Statement.{statement}
 use Rattle.segments.proofs.slots.owns.Tie as tie
 

@@ -2,10 +2,11 @@ use borrow.Author.Needs.{needs}
 use mathlib.Core.Path.{sym, ap, _∙_}
 use Prim.Native.Nat.{_+_, _-_, _≤_}
 use native.Mathlib.Omega.{arith}
-use Rattle.segments.specs.Found.{leftOf}
+use Rattle.segments.specs.Parts.{leftOf}
 use Rattle.segments.specs.Segments.{pagesAt, slot, slots}
-use Rattle.segments.proofs.CodeLaws.{Taken, pages-by, take-all, take-next, take-none, take-over}
 use Rattle.segments.proofs.SlotsLaws.{own-bound}
+use Rattle.segments.proofs.LimitLaws.{Taken, take-all, take-next, take-none, take-over}
+use Rattle.segments.proofs.SlotsLaws.{pages-by}
 use Rattle.segments.proofs.slots.pages_left.Statement.{statement}
 use Rattle.segments.proofs.slots.pages_left.Tie as tie
 

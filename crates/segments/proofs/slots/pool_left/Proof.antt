@@ -1,10 +1,10 @@
-use native.Mathlib.Nat.{zero-add}
 use borrow.Author.Needs.{needs}
 use mathlib.Core.Path.{sym}
 use Prim.Native.Nat.{_-_}
+use native.Mathlib.Nat.{zero-add}
 use Rattle.segments.specs.Segments.{ceilingAt, tenantId, tenants}
 use Rattle.segments.specs.Slots.{ceilingsOf}
-use Rattle.segments.proofs.CodeLaws.{Taken, take-all, take-next, take-none, take-over}
+use Rattle.segments.proofs.LimitLaws.{Taken, take-all, take-next, take-none, take-over}
 use Rattle.segments.proofs.slots.pool_left.Statement.{statement}
 use Rattle.segments.proofs.slots.pool_left.Tie as tie
 

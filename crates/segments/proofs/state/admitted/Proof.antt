@@ -1,6 +1,6 @@
+use borrow.Author.Needs.{needs}
 use borrow.Author.Tests.{le-ltb, lt-ltb}
 use Rattle.segments.specs.Sound.{admitted}
-use borrow.Author.Needs.{needs}
 use Rattle.segments.proofs.state.admitted.Statement.{statement}
 use Rattle.segments.proofs.state.admitted.Tie as tie
 

@@ -1,6 +1,6 @@
-use Rattle.segments.specs.Sound.{clearedBy}
-use Rattle.segments.proofs.CodeLaws.{clearance-valid}
 use borrow.Author.Needs.{needs}
+use Rattle.segments.specs.Sound.{clearedBy}
+use Rattle.segments.proofs.SoundLaws.{clearance-valid}
 use Rattle.segments.proofs.state.cleared_by.Statement.{statement}
 use Rattle.segments.proofs.state.cleared_by.Tie as tie
 

@@ -1,7 +1,7 @@
+use borrow.Author.Needs.{needs}
 use mathlib.Core.Path.{sym, ap, _∙_}
 use Rattle.label.specs.Answer.{testOf}
-use Rattle.segments.proofs.CodeLaws.{contains-refused, contains-told}
-use borrow.Author.Needs.{needs}
+use Rattle.segments.proofs.SoundLaws.{contains-refused, contains-told}
 use Rattle.segments.proofs.state.contains.Statement.{statement}
 use Rattle.segments.proofs.state.contains.Tie as tie
 

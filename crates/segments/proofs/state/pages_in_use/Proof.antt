@@ -5,11 +5,12 @@ use Prim.Native.Nat.{_≤_, _<_}
 use native.Mathlib.Omega.{arith}
 use borrow.Author.Tests.{not-false, not-true}
 use Rattle.label.specs.Answer.{granted}
-use Rattle.segments.specs.Found.{remainingOf}
+use Rattle.segments.specs.Parts.{remainingOf}
 use Rattle.segments.specs.Segments.{ceilingAt, tenants}
 use Rattle.segments.specs.Slots.{pagesOf}
 use Rattle.segments.specs.Sound.{admitted, sound}
-use Rattle.segments.proofs.CodeLaws.{admitted-tenant, left-never, left-told, pages-kept}
+use Rattle.segments.proofs.LimitLaws.{left-never, left-told}
+use Rattle.segments.proofs.SoundLaws.{admitted-parts, sound-parts}
 use Rattle.segments.proofs.state.pages_in_use.Statement.{statement}
 use Rattle.segments.proofs.state.pages_in_use.Tie as tie
 
@@ -20,10 +21,10 @@ is-admitted : (c : tie.Else2) → let a = c .before .before .before .before .arg
 is-admitted c = sym (c .before .admitted .ensures) ∙ not-false _ (c .if2 .left)
 
 inside : (c : tie.Else2) → c .before .before .before .before .args .t .0 < tenants
-inside c = admitted-tenant _ _ (is-admitted c)
+inside c = admitted-parts _ _ (is-admitted c) .0
 
 in-ceiling : (c : tie.Else2) → let a = c .before .before .before .before .args in pagesOf (a .t1) (a .t) ≤ ceilingAt (a .t1) (a .t)
-in-ceiling c = pages-kept _ _ (is-sound (c .before .before)) (inside c)
+in-ceiling c = sound-parts _ (is-sound (c .before .before)) .pages _ (inside c)
 
 sound-requires : tie.Need-sound-requires
 sound-requires c κs = search needs

@@ -1,12 +1,12 @@
-use Rattle.segments.specs.Slots.{ceilingsOf}
 use borrow.Author.Needs.{needs}
 use mathlib.Core.Bool.{_&&_}
 use mathlib.Core.Path.{sym, ap, ap₂, _∙_}
 use Rattle.label.proofs.BoolLaws.{second-true}
-use Rattle.segments.specs.Found.{keptIn}
+use Rattle.segments.specs.Parts.{keptIn}
 use Rattle.segments.specs.Segments.{pagesValid}
+use Rattle.segments.specs.Slots.{ceilingsOf}
 use Rattle.segments.specs.Sound.{sound}
-use Rattle.segments.proofs.CodeLaws.{kept-exact}
+use Rattle.segments.proofs.LimitLaws.{kept-exact}
 use Rattle.segments.proofs.state.sound.Statement.{statement}
 use Rattle.segments.proofs.state.sound.Tie as tie
 

@@ -1,7 +1,7 @@
+use borrow.Author.Needs.{needs}
 use mathlib.Core.Path.{sym, ap, _∙_}
 use Rattle.label.specs.Answer.{testOf}
-use Rattle.segments.proofs.CodeLaws.{tenant-refused, tenant-told}
-use borrow.Author.Needs.{needs}
+use Rattle.segments.proofs.SoundLaws.{tenant-refused, tenant-told}
 use Rattle.segments.proofs.state.tenant_sound.Statement.{statement}
 use Rattle.segments.proofs.state.tenant_sound.Tie as tie
 

@@ -1,10 +1,10 @@
-use Rattle.segments.specs.Segments.{ceilingAt}
-use Rattle.segments.specs.Slots.{pagesOf}
 use borrow.Author.Needs.{needs}
 use mathlib.Core.Path.{ap, _∙_}
-use Rattle.segments.specs.Found.{keptIn}
+use Rattle.segments.specs.Parts.{keptIn}
+use Rattle.segments.specs.Segments.{ceilingAt}
+use Rattle.segments.specs.Slots.{pagesOf}
 use Rattle.segments.specs.Sound.{underCeiling}
-use Rattle.segments.proofs.CodeLaws.{kept-exact}
+use Rattle.segments.proofs.LimitLaws.{kept-exact}
 use Rattle.segments.proofs.state.under_ceiling.Statement.{statement}
 use Rattle.segments.proofs.state.under_ceiling.Tie as tie
 

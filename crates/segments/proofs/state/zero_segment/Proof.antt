@@ -1,7 +1,7 @@
+use borrow.Author.Needs.{needs}
 use mathlib.Core.Path.{ap}
 use Rattle.label.specs.declared.Label.{Label}
 use Rattle.segments.specs.Segments.{segmentOf}
-use borrow.Author.Needs.{needs}
 use Rattle.segments.proofs.state.zero_segment.Statement.{statement}
 use Rattle.segments.proofs.state.zero_segment.Tie as tie
 

@@ -1,5 +1,5 @@
-use Rattle.segments.specs.Sound.{zeros}
 use borrow.Author.Needs.{needs}
+use Rattle.segments.specs.Sound.{zeros}
 use Rattle.segments.proofs.state.zeros.Statement.{statement}
 use Rattle.segments.proofs.state.zeros.Tie as tie
 

@@ -1,6 +1,6 @@
 use borrow.Author.Needs.{needs}
-use Rattle.segments.proofs.operator.unlabeled.Statement.{statement}
-use Rattle.segments.proofs.operator.unlabeled.Tie as tie
+use Rattle.segments.proofs.unlabeled.Statement.{statement}
+use Rattle.segments.proofs.unlabeled.Tie as tie
 
 zero-requires : tie.Need-zero-requires
 zero-requires c κs = search needs

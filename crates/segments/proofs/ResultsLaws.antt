@@ -1,35 +1,28 @@
 -- What the proofs of the calls' code need of their answers. Assumes nothing.
-use mathlib.Core.Bool.{Bool, true, false, _&&_, true≢false}
-use mathlib.Core.List.{List}
-use mathlib.Core.Option.{none}
+use mathlib.Core.Bool.{Bool, true, false}
 use mathlib.Core.Path.{_≡_, refl, sym, ap, _∙_}
 use Prim.Native.Nat.{ℕ, _<_}
 use native.Mathlib.Omega.{arith}
-use borrow.Author.Tests.{ltb-true}
-use lib.Dec.{ltb}
-use lib.Seq.{set-getD}
-use Rattle.label.specs.Answer.{Answer, granted, refused, refusedBy, require}
+use Rattle.label.specs.Answer.{Answer, granted, refusedBy, require}
 use Rattle.label.specs.Label
 use Rattle.label.specs.declared.Label.{Label}
 use Rattle.label.specs.declared.errno.Errno.{Errno}
 use Rattle.label.proofs.AnswerLaws.{grant-passed, passed}
-use Rattle.label.proofs.BoolLaws.{first-true, second-true, three-true}
-use Rattle.segments.specs.Calls.{accessOf, answerOf, callOf, callValid, cleared, numbersValid, slotValid, stepOf, target, visible, writable, written}
-use Rattle.segments.specs.Found.{Started, lookCall, startOf, unlabeled}
+use Rattle.segments.specs.Calls.{accessOf, answerOf, callOf, callValid, cleared, lookCall, numbersValid, stepOf, target, visible, written}
+use Rattle.segments.specs.Parts.{Started, startOf, unlabeled}
 use Rattle.segments.specs.Replies.{Grant, Results, done, leaving, replyOf, shown, shownLabel}
-use Rattle.segments.specs.Segments.{segmentAt, slots, tableOf, tenants, withSegment}
-use Rattle.segments.specs.Slots.{filled, owns}
-use Rattle.segments.specs.Sound.{admitted, sound}
+use Rattle.segments.specs.Segments.{segmentAt, tenants, withSegment}
+use Rattle.segments.specs.Sound.{sound}
 use Rattle.segments.specs.declared.Action.{Action}
 use Rattle.segments.specs.declared.Call.{Call}
 use Rattle.segments.specs.declared.Outcome.{Outcome}
 use Rattle.segments.specs.declared.Reply.{Reply}
 use Rattle.segments.specs.declared.Reply.the-variants.{Refused, Shown}
-use Rattle.segments.specs.declared.Segment.{Segment}
 use Rattle.segments.specs.declared.SegmentTable.{SegmentTable}
 use Rattle.segments.specs.declared.Slot.{Slot}
 use Rattle.segments.specs.declared.TenantId.{TenantId}
-use Rattle.segments.proofs.CodeLaws.{admitted-tenant}
+use Rattle.segments.proofs.CallsLaws.{valid-numbers, valid-tenant}
+use Rattle.segments.proofs.SegmentsLaws.{segment-same}
 
 -- ---- outcomes that show no label
 
@@ -41,21 +34,9 @@ module _ (o : Outcome) (s next : SegmentTable) (x : Answer Grant) where
       → Results o (leaving s next x)
   results-granted r g h k a l = rw (h, k) (record { table = refl; answer = a; label = l })
 
--- ---- a valid call
-
 -- a call by its action
 pub same-call : (c : Call) (a : Action) → c .action ≡ a → c ≡ callOf (c .tenant) (c .label) a
 same-call c a e = ap (callOf (c .tenant) (c .label)) e
-
-pub writable-owned : (s : SegmentTable) (t : TenantId) (l : Label) (p : Slot) → writable s t l p ≡ true → owns s t p ≡ true
-unfolding writable
-writable-owned s t l p e = three-true (owns s t p) (filled s p) (Label.equalOf l (segmentAt s p .label)) e .0
-
-pub valid-tenant : (s : SegmentTable) (c : Call) → callValid s c ≡ true → c .tenant .0 < tenants
-unfolding callValid
-valid-tenant s c e =
-    admitted-tenant s (c .tenant)
-    (first-true (admitted s (c .tenant)) (Label.validOf (c .label)) (first-true (admitted s (c .tenant) && Label.validOf (c .label)) (numbersValid (c .action)) e))
 
 -- ---- a call that has passed the first checks
 
@@ -93,11 +74,10 @@ module _ (s : SegmentTable) (c : Call) (w : Started s c) where
       ∙ passed (cleared s c) 1 (accessOf s c) (w .cleared)
 
   pub started-tenant : c .tenant .0 < tenants
-  started-tenant = valid-tenant s c (w .valid)
+  started-tenant = valid-tenant s (c .tenant) (c .label) (c .action) (w .valid)
 
   pub started-numbers : numbersValid (c .action) ≡ true
-  unfolding callValid
-  started-numbers = second-true (admitted s (c .tenant) && Label.validOf (c .label)) (numbersValid (c .action)) (w .valid)
+  started-numbers = valid-numbers s (c .tenant) (c .label) (c .action) (w .valid)
 
   pub step-refused : (o : Outcome) (e : Errno) → o ≡ unlabeled s (Refused e) → accessOf s c ≡ refusedBy e → Results o (stepOf s c)
   unfolding stepOf
@@ -116,4 +96,4 @@ pub look-granted : (s : SegmentTable) (t : TenantId) (l : Label) (p : Slot) → 
 unfolding stepOf accessOf
 look-granted s t l p w e =
     let k : answerOf s (lookCall t l p) ≡ granted (shown (segmentAt s p)) = started-answer s (lookCall t l p) w ∙ rw e in
-    rw k (record { table = ap (λ (xs : List Segment). tableOf (s .pool) (s .tenants) xs) (sym (set-getD (s .segments) (p .0) _)); answer = refl; label = refl })
+    rw k (record { table = sym (segment-same s p); answer = refl; label = refl })

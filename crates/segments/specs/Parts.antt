@@ -1,4 +1,5 @@
--- What the enums of the code say, the calls by their numbers, and the parts of the rules that the code tests by themselves. Assumes nothing.
+-- For the contracts of functions that are not public: what their enums say, and the parts of the rules that they test by themselves. No
+-- promise cites this file. Assumes nothing.
 use mathlib.Core.Bool.{Bool, true, false, cond}
 use mathlib.Core.Option.{Option, none, some}
 use mathlib.Core.Path.{_≡_}
@@ -8,17 +9,15 @@ use Rattle.label.specs.Answer.{Answer, granted, require}
 use Rattle.label.specs.Index.{any, every}
 use Rattle.label.specs.Label
 use Rattle.label.specs.declared.Label.{Label}
-use Rattle.segments.specs.Calls.{callOf, callValid, cleared}
+use Rattle.segments.specs.Calls.{callValid, cleared}
 use Rattle.segments.specs.Replies.{Grant, done}
 use Rattle.segments.specs.Segments.{slot, slots, tenantAt, tenantId, tenants}
 use Rattle.segments.specs.Sound.{clearedBy, slotSound, sound, tenantSound, underCeiling}
-use Rattle.segments.specs.declared.Action.the-variants.{Open, Size, Post, Look, Close}
 use Rattle.segments.specs.declared.Call.{Call}
 use Rattle.segments.specs.declared.Outcome.{Outcome}
 use Rattle.segments.specs.declared.Reply.{Reply}
 use Rattle.segments.specs.declared.SegmentTable.{SegmentTable}
 use Rattle.segments.specs.declared.Slot.{Slot}
-use Rattle.segments.specs.declared.TenantId.{TenantId}
 use Rattle.segments.specs.declared.slots.Free.{Free}
 use Rattle.segments.specs.declared.slots.Free.the-variants.{At, Nothing}
 use Rattle.segments.specs.declared.slots.Remaining.{Remaining}
@@ -64,23 +63,6 @@ slotsSound s = every (λ p. slotSound s (slot p)) slots
 
 abbrev pub ceilingsKept : SegmentTable → Bool
 ceilingsKept s = every (λ t. underCeiling s (tenantId t)) tenants
-
--- ---- the calls, by their numbers
-
-abbrev pub openCall : TenantId → Label → ℕ → Call
-openCall t l pages = callOf t l (Open (record { pages = pages }))
-
-abbrev pub sizeCall : TenantId → Label → Slot → ℕ → Call
-sizeCall t l p pages = callOf t l (Size (record { slot = p; pages = pages }))
-
-abbrev pub postCall : TenantId → Label → Slot → ℕ → Call
-postCall t l p version = callOf t l (Post (record { slot = p; version = version }))
-
-abbrev pub lookCall : TenantId → Label → Slot → Call
-lookCall t l p = callOf t l (Look (record { slot = p }))
-
-abbrev pub closeCall : TenantId → Label → Slot → Call
-closeCall t l p = callOf t l (Close (record { slot = p }))
 
 -- ---- the checks that every call starts with
 

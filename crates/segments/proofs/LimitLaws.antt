@@ -1,0 +1,91 @@
+-- What is left of a limit, and what fits into it. Assumes nothing.
+use mathlib.Core.Bool.{Bool, true, false, cond}
+use mathlib.Core.Option.{none, some}
+use mathlib.Core.Path.{_≡_, refl}
+use Prim.Native.Nat.{ℕ, _+_, _-_, _≤_, _<_}
+use native.Mathlib.Nat.{add-zero}
+use native.Mathlib.Omega.{arith}
+use borrow.Author.Tests.{le-leb, lt-leb, leb-true}
+use lib.Dec.{leb}
+use Rattle.label.specs.Index.{sumFrom}
+use Rattle.label.proofs.BoolLaws.{same-truth}
+use Rattle.label.proofs.SearchLaws.{sum-next, sum-none}
+use Rattle.segments.specs.Parts.{fitsIn, keptIn, leftOf}
+
+-- ---- a limit from which the terms of a sum are taken one by one
+
+over-limit : (limit n : ℕ) → limit < n → leftOf limit n ≡ none
+over-limit limit n h = rw (lt-leb n limit h)
+
+under-limit : (limit n left : ℕ) → n + left ≡ limit → leftOf limit n ≡ some left
+under-limit limit n left e =
+    let h : n ≤ limit = omega arith in
+    let d : limit - n ≡ left = omega arith in
+    rw (le-leb n limit h, d)
+
+module _ (f : ℕ → ℕ) (k n limit : ℕ) where
+  -- i terms are taken, and left is what is left
+  pub record Taken (i left : ℕ) : Type 0 where
+    pub upto : i ≤ n
+    pub below : left ≤ limit
+    pub rest : sumFrom f k n + left ≡ limit + sumFrom f (k + i) (n - i)
+
+  pub take-none : Taken 0 limit
+  take-none =
+      let z : n - 0 ≡ n = omega arith in
+      record { upto = omega arith; below = omega arith; rest = rw (add-zero, z) (omega arith) }
+
+  pub take-next : (i left : ℕ) → i < n → f (k + i) ≤ left → Taken i left → Taken (i + 1) (left - f (k + i))
+  take-next i left h l t =
+      let e = sum-next f k n i h in
+      let b = t .below in
+      let r = t .rest in
+      record { upto = omega arith; below = omega arith; rest = omega arith }
+
+  pub take-over : (i left : ℕ) → i < n → left < f (k + i) → Taken i left → leftOf limit (sumFrom f k n) ≡ none
+  take-over i left h l t =
+      let e = sum-next f k n i h in
+      let r = t .rest in
+      over-limit limit (sumFrom f k n) (omega arith)
+
+  pub take-all : (i left : ℕ) → n ≤ i → Taken i left → leftOf limit (sumFrom f k n) ≡ some left
+  take-all i left h t =
+      let z : n - i ≡ 0 = omega arith in
+      let e : sumFrom f (k + i) (n - i) ≡ 0 = rw (z, sum-none) in
+      let r = t .rest in
+      under-limit limit (sumFrom f k n) left (omega arith)
+
+-- what is left tells what is used, where that is not over the limit
+pub left-told : (limit used n : ℕ) → used ≤ limit → some n ≡ leftOf limit used → (n ≤ limit) × (limit - n ≡ used)
+left-told limit used n h e =
+    let k : leftOf limit used ≡ some (limit - used) = rw (le-leb used limit h) in
+    let q : n ≡ limit - used = cc in
+    (omega arith, omega arith)
+
+pub left-never : (limit used : ℕ) → used ≤ limit → none ≡ leftOf limit used → ⊥
+left-never limit used h e =
+    let k : leftOf limit used ≡ some (limit - used) = rw (le-leb used limit h) in
+    let z : _≡_ {A = ℕ} 0 1 = cc in
+    omega arith
+
+pub kept-exact : (limit n : ℕ) → keptIn (leftOf limit n) ≡ leb n limit
+kept-exact limit n = by (leb n limit)
+  where
+    by : (p : Bool) → keptIn (cond p (some (limit - n)) none) ≡ p
+    by true = refl
+    by false = refl
+
+-- where a limit is kept, what fits is told by what is left of it
+pub fits-exact : (limit used replaced wanted : ℕ) → used ≤ limit → replaced ≤ used → fitsIn (leftOf limit used) replaced wanted ≡ leb (used - replaced + wanted) limit
+fits-exact limit used replaced wanted h k =
+    rw (le-leb used limit h)
+    (same-truth (leb wanted (limit - used + replaced)) (leb (used - replaced + wanted) limit)
+    (λ e. let l = leb-true wanted (limit - used + replaced) e in le-leb (used - replaced + wanted) limit (omega arith))
+    (λ e. let l = leb-true (used - replaced + wanted) limit e in le-leb wanted (limit - used + replaced) (omega arith)))
+
+pub fits-more : (limit used wanted : ℕ) → used ≤ limit → fitsIn (leftOf limit used) 0 wanted ≡ leb (used + wanted) limit
+fits-more limit used wanted h =
+    rw (le-leb used limit h)
+    (same-truth (leb wanted (limit - used + 0)) (leb (used + wanted) limit)
+    (λ e. let l = leb-true wanted (limit - used + 0) e in le-leb (used + wanted) limit (omega arith))
+    (λ e. let l = leb-true (used + wanted) limit e in le-leb wanted (limit - used + 0) (omega arith)))

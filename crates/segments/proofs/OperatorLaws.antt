@@ -1,0 +1,225 @@
+-- The operator's calls keep soundness: what is sound before is sound after, and what `make` grants is sound. Assumes nothing.
+use mathlib.Core.Bool.{Bool, true, false, cond, not, _&&_, true≢false}
+use mathlib.Core.Logic.{⊎-elim}
+use mathlib.Core.Path.{_≡_, refl, sym, ap, _∙_}
+use Prim.Native.Nat.{ℕ, _+_, _-_, _<_, _≤_}
+use native.Mathlib.Omega.{arith}
+use borrow.Author.Tests.{le-leb, leb-true, lt-ltb, ltb-true}
+use lib.Dec.{leb, ltb}
+use lib.ListN.{getD-replicate}
+use Rattle.label.specs.Answer.{Answer, granted, refused}
+use Rattle.label.specs.Index.{any}
+use Rattle.label.specs.Region.{regions}
+use Rattle.label.specs.declared.Label.{Label}
+use Rattle.label.proofs.AnswerLaws.{grant-passed}
+use Rattle.label.proofs.BoolLaws.{both, first-true, second-true}
+use Rattle.label.proofs.IndexLaws.{every-all}
+use Rattle.label.proofs.SearchLaws.{any-of, any-then, same-or-not, sum-but, sum-zero}
+use Rattle.range.specs.Tuple
+use Rattle.range.specs.declared.tuple.RegionRange.{RegionRange}
+use Rattle.range.specs.declared.tuple.Tuple.{Tuple}
+use Rattle.range.proofs.TupleLaws.{absent-valid, empty-none}
+use Rattle.segments.specs.Operator.{admitAnswer, admitOf, makeAnswer, makeOf, setCeilingAnswer, setCeilingOf}
+use Rattle.segments.specs.Replies.{Grant, done, left}
+use Rattle.segments.specs.Segments.{Lengths, ceilingAt, clearanceAt, emptyTable, pagesAt, pagesValid, segmentAt, slot, slots, tenantAt, tenantId, tenantOf, tenants, withTenant, zeroSegment, zeroTenant}
+use Rattle.segments.specs.Slots.{ceilingsOf, firstSlot, owns, pagesOf, slotCount}
+use Rattle.segments.specs.Sound.{admitted, sound, tenantSound, zeros}
+use Rattle.segments.specs.declared.Segment.{Segment}
+use Rattle.segments.specs.declared.SegmentTable.{SegmentTable}
+use Rattle.segments.specs.declared.Slot.{Slot}
+use Rattle.segments.specs.declared.Tenant.{Tenant}
+use Rattle.segments.specs.declared.TenantId.{TenantId}
+use Rattle.segments.proofs.SegmentsLaws.{tenant-kept, tenant-written}
+use Rattle.segments.proofs.SlotsLaws.{count-stays, first-stays, own-bound, owns-stays, same-tenant}
+use Rattle.segments.proofs.SoundLaws.{Sound, admitted-parts, held, parts-sound, slot-held, sound-parts, zeros-held}
+
+-- ---- another record for a tenant
+
+module _ (s : SegmentTable) (t : TenantId) (x : Tenant) (lengths : Lengths s) (number : t .0 < tenants) where
+  abbrev next : SegmentTable
+  next = withTenant s t x
+
+  -- of the tenant that has it, the pages are as they were; so are all others'
+  pages-stay : (u : TenantId) → pagesOf next u ≡ pagesOf s u
+  unfolding pagesOf
+  pages-stay u = rw (first-stays s t u x, count-stays s t u x)
+
+  -- the ceilings add up with the new one in place of the old
+  ceilings-with : ceilingsOf next + ceilingAt s t ≡ ceilingsOf s + x .ceiling
+  unfolding ceilingsOf
+  ceilings-with =
+      sum-but (λ u. ceilingAt s (tenantId u)) (λ u. ceilingAt next (tenantId u)) (t .0) 0 tenants
+      (λ j h. ap (λ (y : Tenant). y .ceiling) (tenant-kept s t (tenantId j) x h)) (omega arith) (omega arith)
+      ∙ ap (λ (y : Tenant). ceilingsOf s + y .ceiling) (tenant-written s t x lengths number)
+
+  -- what a slot may hold, it still may where the new clearance has all labels of the old one
+  held-with : ((l : Label) → Tuple.containsOf (clearanceAt s t) l ≡ true → Tuple.containsOf (x .clearance) l ≡ true)
+      → (p : Slot) (y : Segment) → held s p y ≡ true → held next p y ≡ true
+  held-with h p y e = go (leb 1 (y .pages)) refl e
+    where
+      clears : (u : TenantId) → Tuple.containsOf (clearanceAt s u) (y .label) ≡ true → Tuple.containsOf (clearanceAt next u) (y .label) ≡ true
+      clears u f =
+          ⊎-elim
+          (λ (i : u .0 ≡ t .0).
+          let j = same-tenant u t i in
+          ap (λ (u : TenantId). Tuple.containsOf (clearanceAt next u) (y .label)) j
+          ∙ ap (λ (z : Tenant). Tuple.containsOf (z .clearance) (y .label)) (tenant-written s t x lengths number)
+          ∙ h (y .label) (ap (λ (u : TenantId). Tuple.containsOf (clearanceAt s u) (y .label)) (sym j) ∙ f))
+          (λ (i : u .0 ≡ t .0 → ⊥). ap (λ (z : Tenant). Tuple.containsOf (z .clearance) (y .label)) (tenant-kept s t u x i) ∙ f)
+          (same-or-not (u .0) (t .0))
+      go : (b : Bool) → leb 1 (y .pages) ≡ b
+          → cond b (any (λ u. owns s (tenantId u) p && Tuple.containsOf (clearanceAt s (tenantId u)) (y .label)) tenants) (zeros y) ≡ true
+          → cond b (any (λ u. owns next (tenantId u) p && Tuple.containsOf (clearanceAt next (tenantId u)) (y .label)) tenants) (zeros y) ≡ true
+      go false i e = e
+      go true i e =
+          any-then (λ u. owns s (tenantId u) p && Tuple.containsOf (clearanceAt s (tenantId u)) (y .label)) tenants e
+          (λ k l f.
+          any-of (λ u. owns next (tenantId u) p && Tuple.containsOf (clearanceAt next (tenantId u)) (y .label)) tenants k l
+          (both (owns-stays s t (tenantId k) x p ∙ first-true _ (Tuple.containsOf (clearanceAt s (tenantId k)) (y .label)) f)
+          (clears (tenantId k) (second-true (owns s (tenantId k) p) (Tuple.containsOf (clearanceAt s (tenantId k)) (y .label)) f))))
+
+  with-sound : Sound s → tenantSound x ≡ true → ((l : Label) → Tuple.containsOf (clearanceAt s t) l ≡ true → Tuple.containsOf (x .clearance) l ≡ true)
+      → ceilingsOf s + x .ceiling ≤ s .pool + ceilingAt s t → pagesOf s t ≤ x .ceiling → Sound next
+  with-sound h e f g k =
+      record {
+        pool = h .pool;
+        tenant = λ u l.
+            ⊎-elim
+            (λ (i : u .0 ≡ t .0). rw (same-tenant u t i) (ap tenantSound (tenant-written s t x lengths number) ∙ e))
+            (λ (i : u .0 ≡ t .0 → ⊥). ap tenantSound (tenant-kept s t u x i) ∙ h .tenant u l)
+            (same-or-not (u .0) (t .0));
+        segment = λ p l. slot-held next p ∙ held-with f p (segmentAt s p) (sym (slot-held s p) ∙ h .segment p l);
+        ceilings = let c = ceilings-with in omega arith;
+        pages = λ u l.
+            ⊎-elim
+            (λ (i : u .0 ≡ t .0).
+            let a = pages-stay t in
+            let b : ceilingAt next t ≡ x .ceiling = ap (λ (y : Tenant). y .ceiling) (tenant-written s t x lengths number) in
+            let g : pagesOf next t ≤ ceilingAt next t = omega arith in
+            rw (same-tenant u t i) g)
+            (λ (i : u .0 ≡ t .0 → ⊥).
+            let a = pages-stay u in
+            let b : ceilingAt next u ≡ ceilingAt s u = ap (λ (y : Tenant). y .ceiling) (tenant-kept s t u x i) in
+            let c = h .pages u l in
+            omega arith)
+            (same-or-not (u .0) (t .0));
+      }
+
+-- ---- the calls
+
+-- a tenant in its numbers that is not admitted has a ceiling of 0
+not-admitted : (s : SegmentTable) (t : TenantId) → t .0 < tenants → not (admitted s t) ≡ true → ceilingAt s t ≡ 0
+unfolding admitted
+not-admitted s t l e =
+    ⊎-elim (λ (i : ceilingAt s t ≡ 0). i)
+    (λ (i : ceilingAt s t ≡ 0 → ⊥). absurd (true≢false (sym e ∙ ap not (both (lt-ltb _ _ l) (le-leb 1 (ceilingAt s t) (omega (arith, i)))))))
+    (same-or-not (ceilingAt s t) 0)
+
+-- a record of at least a page
+tenant-sound-of : (n : ℕ) (c : Tuple) → 1 ≤ n → Tuple.validOf c ≡ true → not (Tuple.emptyOf c) ≡ true → tenantSound (tenantOf n c) ≡ true
+unfolding tenantSound
+tenant-sound-of n c l v e = both v (rw (le-leb 1 n l) e)
+
+tenant-sound-in : (x : Tenant) → 1 ≤ x .ceiling → tenantSound x ≡ true → (Tuple.validOf (x .clearance) ≡ true) × (not (Tuple.emptyOf (x .clearance)) ≡ true)
+unfolding tenantSound
+tenant-sound-in x l e =
+    let r : Bool = cond (leb 1 (x .ceiling)) (not (Tuple.emptyOf (x .clearance))) (Tuple.emptyOf (x .clearance)) in
+    (first-true (Tuple.validOf (x .clearance)) r e,
+    ap (λ (b : Bool). cond b (not (Tuple.emptyOf (x .clearance))) (Tuple.emptyOf (x .clearance))) (sym (le-leb 1 (x .ceiling) l)) ∙ second-true (Tuple.validOf (x .clearance)) r e)
+
+-- one that holds zeros has no label
+tenant-empty : (x : Tenant) (l : Label) → x .ceiling ≡ 0 → tenantSound x ≡ true → Tuple.containsOf (x .clearance) l ≡ true → ⊥
+unfolding tenantSound
+tenant-empty x l z e =
+    empty-none (x .clearance) l
+    (ap (λ (n : ℕ). cond (leb 1 n) (not (Tuple.emptyOf (x .clearance))) (Tuple.emptyOf (x .clearance))) (sym z) ∙ second-true (Tuple.validOf (x .clearance)) _ e)
+
+granted-admit : (s : SegmentTable) (t : TenantId) (n : ℕ) (c : Tuple) → Lengths s → sound s ≡ true → (g : Grant) → admitAnswer s t n c ≡ granted g
+    → sound (withTenant s t (tenantOf n c)) ≡ true
+unfolding admitAnswer
+granted-admit s t n c l h g e =
+    let v : Bool = ltb (t .0) tenants && Tuple.validOf c in
+    let e1 = grant-passed (sound s) 22 g _ (sym e) in
+    let e2 = grant-passed ((v && not (Tuple.emptyOf c)) && leb 1 n) 22 g _ (e1 .1) in
+    let e3 = grant-passed (not (admitted s t)) 16 g _ (e2 .1) in
+    let e4 = grant-passed (leb (ceilingsOf s + n) (s .pool)) 12 g _ (e3 .1) in
+    let a = first-true (v && not (Tuple.emptyOf c)) (leb 1 n) (e2 .0) in
+    let b = first-true v (not (Tuple.emptyOf c)) a in
+    let i : t .0 < tenants = ltb-true _ _ (first-true (ltb (t .0) tenants) (Tuple.validOf c) b) in
+    let z : ceilingAt s t ≡ 0 = not-admitted s t i (e3 .0) in
+    let q = sound-parts s h in
+    let p = q .pages t i in
+    let m = leb-true (ceilingsOf s + n) (s .pool) (e4 .0) in
+    parts-sound _
+    (with-sound s t (tenantOf n c) l i q
+    (tenant-sound-of n c (leb-true 1 n (second-true (v && not (Tuple.emptyOf c)) (leb 1 n) (e2 .0))) (second-true (ltb (t .0) tenants) (Tuple.validOf c) b) (second-true v (not (Tuple.emptyOf c)) a))
+    (λ k f. absurd (tenant-empty (tenantAt s t) k z (q .tenant t i) f))
+    (omega arith) (omega arith))
+
+granted-ceiling : (s : SegmentTable) (t : TenantId) (n : ℕ) → Lengths s → sound s ≡ true → (g : Grant) → setCeilingAnswer s t n ≡ granted g
+    → sound (withTenant s t (tenantOf n (clearanceAt s t))) ≡ true
+unfolding setCeilingAnswer
+granted-ceiling s t n l h g e =
+    let e1 = grant-passed (sound s) 22 g _ (sym e) in
+    let e2 = grant-passed (admitted s t && leb 1 n) 22 g _ (e1 .1) in
+    let e3 = grant-passed (leb (pagesOf s t) n) 16 g _ (e2 .1) in
+    let e4 = grant-passed (leb (ceilingsOf s - ceilingAt s t + n) (s .pool)) 12 g _ (e3 .1) in
+    let i = admitted-parts s t (first-true (admitted s t) (leb 1 n) (e2 .0)) in
+    let q = sound-parts s h in
+    let v = tenant-sound-in (tenantAt s t) (i .1) (q .tenant t (i .0)) in
+    let m = leb-true (ceilingsOf s - ceilingAt s t + n) (s .pool) (e4 .0) in
+    parts-sound _
+    (with-sound s t (tenantOf n (clearanceAt s t)) l (i .0) q
+    (tenant-sound-of n (clearanceAt s t) (leb-true 1 n (second-true (admitted s t) (leb 1 n) (e2 .0))) (v .0) (v .1))
+    (λ k f. f) (omega arith) (leb-true (pagesOf s t) n (e3 .0)))
+
+-- what is left is sound where what is granted is
+left-sound : (s next : SegmentTable) (x : Answer Grant) → sound s ≡ true → ((g : Grant) → x ≡ granted g → sound next ≡ true) → sound (left s next x) ≡ true
+left-sound s next (granted g) h f = f g refl
+left-sound s next (refused n detail) h f = h
+
+pub admit-sound : (s : SegmentTable) (t : TenantId) (n : ℕ) (c : Tuple) → Lengths s → sound s ≡ true → sound (admitOf s t n c .table) ≡ true
+unfolding admitOf
+admit-sound s t n c l h = left-sound s _ (admitAnswer s t n c) h (granted-admit s t n c l h)
+
+pub set-ceiling-sound : (s : SegmentTable) (t : TenantId) (n : ℕ) → Lengths s → sound s ≡ true → sound (setCeilingOf s t n .table) ≡ true
+unfolding setCeilingOf
+set-ceiling-sound s t n l h = left-sound s _ (setCeilingAnswer s t n) h (granted-ceiling s t n l h)
+
+-- ---- make
+
+zero-tenant-sound : tenantSound zeroTenant ≡ true
+unfolding tenantSound Tuple.validOf Tuple.emptyOf
+zero-tenant-sound =
+    both (every-all (λ r. Tuple.validAt r (Tuple.rangeAt Tuple.emptyTuple r)) regions (λ r l. ap (Tuple.validAt r) (getD-replicate regions r Tuple.absent _ l) ∙ absent-valid r))
+    (every-all (λ r. not (Tuple.rangeAt Tuple.emptyTuple r .present)) regions (λ r l. ap (λ (e : RegionRange). not (e .present)) (getD-replicate regions r Tuple.absent _ l)))
+
+no-ceilings : (pool : ℕ) → ceilingsOf (emptyTable pool) ≡ 0
+unfolding ceilingsOf
+no-ceilings pool = sum-zero (λ t. ceilingAt (emptyTable pool) (tenantId t)) 0 tenants (λ j a b. ap (λ (x : Tenant). x .ceiling) (getD-replicate tenants j zeroTenant _ (omega arith)))
+
+no-pages : (pool : ℕ) (t : TenantId) → t .0 < tenants → pagesOf (emptyTable pool) t ≡ 0
+unfolding pagesOf
+no-pages pool t l =
+    let k = own-bound (emptyTable pool) t l in
+    sum-zero (λ p. pagesAt (emptyTable pool) (slot p)) (firstSlot (emptyTable pool) t) (slotCount (emptyTable pool) t)
+    (λ j a b. ap (λ (x : Segment). x .pages) (getD-replicate slots j zeroSegment _ (omega arith)))
+
+-- a state with no tenants is sound
+empty-sound : (pool : ℕ) → pagesValid pool ≡ true → sound (emptyTable pool) ≡ true
+empty-sound pool e =
+    parts-sound (emptyTable pool)
+    (record {
+      pool = e;
+      tenant = λ t l. ap tenantSound (getD-replicate tenants (t .0) zeroTenant _ l) ∙ zero-tenant-sound;
+      segment = λ p l. slot-held (emptyTable pool) p ∙ ap (held (emptyTable pool) p) (getD-replicate slots (p .0) zeroSegment _ l) ∙ zeros-held (emptyTable pool) p;
+      ceilings = let z = no-ceilings pool in omega arith;
+      pages = λ t l. let z = no-pages pool t l in omega arith;
+    })
+
+-- a granted make gives a sound state
+pub make-sound : (pool : ℕ) (g : Grant) → makeOf pool .answer ≡ granted g → sound (makeOf pool .table) ≡ true
+unfolding makeOf makeAnswer
+make-sound pool g e =
+    let r = grant-passed (pagesValid pool) 22 g (granted done) (sym e) in
+    rw (r .0) (empty-sound pool (r .0))
