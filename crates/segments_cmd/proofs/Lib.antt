@@ -1,3 +1,4 @@
 pub mod FieldLaws
 pub mod PartLaws
 pub mod CategoryLaws
+pub mod CallLaws

@@ -44,7 +44,7 @@ fn put_numbers(out: &mut [u8], x: Shown) -> usize
     text::append(out, version, b"\n")
 }
 
-// Appends the hex line of a label.
+// Appends the hex line of a label. A label that has none, which no sound state holds, adds nothing.
 fn put_label(out: &mut [u8], at: usize, label: Label) -> usize
     requires { ⌜ at + hexlineBytes ≤ length (now out) ⌝ }
     ensures { λ r. ⌜ PutWithin (at + hexlineBytes) (now (out .entry)) at (lineOr (labelLineOf label)) r (now (out .exit)) ⌝ }
@@ -64,6 +64,7 @@ fn put_shown(out: &mut [u8], x: Shown, label: Label) -> usize
     put_label(out, at, label)
 }
 
+// Puts a reply at the front of the buffer. Every grant is shown to fit; a refusal's line is written whole or not at all.
 fn put_reply(out: &mut [u8], reply: Reply, label: Label) -> usize
     requires { ⌜ answerBytes ≤ length (now out) ⌝ }
     ensures { λ r. ⌜ Appended (now (out .entry)) 0 (replyText reply label) r (now (out .exit)) ⌝ }

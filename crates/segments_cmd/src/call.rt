@@ -10,9 +10,14 @@ use segments::SegmentTable;
 use segments::TenantId;
 use segments::calls;
 use segments::operator;
+ghost use Rattle.segments.specs.Operator.{makeOf};
+ghost use Rattle.segments.specs.Replies.{Results};
+ghost use Rattle.segments_cmd.specs.Session.{admitOn, callOn, invalid, madeIn};
 
 // The outcome of a request that makes no call.
-pub(crate) fn refused(table: SegmentTable) -> Outcome {
+pub(crate) fn refused(table: SegmentTable) -> Outcome
+    ensures { λ r. ⌜ Results r (invalid table) ⌝ }
+{
     Outcome {
         table,
         answer: Answer {
@@ -23,7 +28,9 @@ pub(crate) fn refused(table: SegmentTable) -> Outcome {
 }
 
 // A granted make leaves its new state in the place of the old one. A refused one leaves the old one, and not the zeros that it hands back.
-pub(crate) fn make(table: SegmentTable, pool: u64) -> Outcome {
+pub(crate) fn make(table: SegmentTable, pool: u64) -> Outcome
+    ensures { λ r. ⌜ Results r (madeIn table (makeOf pool)) ⌝ }
+{
     let made = operator::make(pool);
     let answer = made.answer;
     let reply = answer.reply;
@@ -35,7 +42,9 @@ pub(crate) fn make(table: SegmentTable, pool: u64) -> Outcome {
     }
 }
 
-pub(crate) fn admit(table: SegmentTable, tenant: TenantId, ceiling: u64, line: &[u8]) -> Outcome {
+pub(crate) fn admit(table: SegmentTable, tenant: TenantId, ceiling: u64, line: &[u8]) -> Outcome
+    ensures { λ r. ⌜ Results r (admitOn table tenant ceiling (now (line .entry))) ⌝ }
+{
     let read = hexline::read_tuple(line);
     let outcome = read.outcome;
     if granted(outcome) {
@@ -49,7 +58,9 @@ pub(crate) fn of_tenant(
     tenant: TenantId,
     action: Action,
     line: &[u8],
-) -> Outcome {
+) -> Outcome
+    ensures { λ r. ⌜ Results r (callOn table tenant action (now (line .entry))) ⌝ }
+{
     let read = hexline::read_label(line);
     let outcome = read.outcome;
     let label = read.label;

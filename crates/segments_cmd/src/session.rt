@@ -11,6 +11,9 @@ use segments::Outcome;
 use segments::SegmentTable;
 use segments::operator;
 use segments::state;
+ghost use mathlib.Core.Path.{_≡_};
+ghost use Rattle.segments.specs.Segments.{emptyTable};
+ghost use Rattle.segments_cmd.specs.Session.{afterCommand, afterLine, afterPiece, between, tableAfter};
 
 // The state, and the request whose operand line is due. Between two requests none is.
 pub(crate) struct Session {
@@ -18,7 +21,9 @@ pub(crate) struct Session {
     pub request: Request,
 }
 
-fn between(table: SegmentTable) -> Session {
+fn between(table: SegmentTable) -> Session
+    ensures { λ r. ⌜ r ≡ between table ⌝ }
+{
     Session {
         table,
         request: Request::Invalid,
@@ -26,18 +31,24 @@ fn between(table: SegmentTable) -> Session {
 }
 
 // The state of zeros, which is what a refused make hands back.
-pub(crate) fn start() -> Session {
+pub(crate) fn start() -> Session
+    ensures { λ r. ⌜ r ≡ between (emptyTable 0) ⌝ }
+{
     let refused = operator::make(0);
     between(refused.table)
 }
 
 // Prints what a call answers. The state that it leaves takes the old one's place.
-fn reply(o: Outcome) -> Session {
+fn reply(o: Outcome) -> Session
+    ensures { λ r. ⌜ r ≡ between (o .table) ⌝ }
+{
     answer::print(o.answer);
     between(o.table)
 }
 
-fn show(table: SegmentTable) -> Session {
+fn show(table: SegmentTable) -> Session
+    ensures { λ r. ⌜ r ≡ between table ⌝ }
+{
     if state::sound(table) {
         show::print(table);
         return between(table);
@@ -46,7 +57,9 @@ fn show(table: SegmentTable) -> Session {
 }
 
 // Answers a request, with its operand line if it has one.
-fn respond(table: SegmentTable, r: Request, line: &[u8]) -> Session {
+fn respond(table: SegmentTable, r: Request, line: &[u8]) -> Session
+    ensures { λ s. ⌜ s ≡ between (tableAfter table r (now (line .entry))) ⌝ }
+{
     match r {
         Request::Invalid => reply(call::refused(table)),
         Request::Make(pool) => reply(call::make(table, pool)),
@@ -62,7 +75,9 @@ fn respond(table: SegmentTable, r: Request, line: &[u8]) -> Session {
 }
 
 // A line where a command line is due. A bad line comes as no bytes at all.
-fn take_command(table: SegmentTable, line: &[u8]) -> Session {
+fn take_command(table: SegmentTable, line: &[u8]) -> Session
+    ensures { λ r. ⌜ r ≡ afterCommand table (now (line .entry)) ⌝ }
+{
     if command::is_skipped(line) {
         return between(table);
     }
@@ -73,7 +88,9 @@ fn take_command(table: SegmentTable, line: &[u8]) -> Session {
     respond(table, r, line)
 }
 
-fn take_line(s: Session, line: &[u8]) -> Session {
+fn take_line(s: Session, line: &[u8]) -> Session
+    ensures { λ r. ⌜ r ≡ afterLine s (now (line .entry)) ⌝ }
+{
     let r = s.request;
     if request::takes_operand(r) {
         return respond(s.table, r, line);
@@ -82,7 +99,9 @@ fn take_line(s: Session, line: &[u8]) -> Session {
 }
 
 // What a step of the input makes: no line yet, a line at the front of the buffer, or a bad one.
-pub(crate) fn take_piece(s: Session, l: Line, line: &[u8]) -> Session {
+pub(crate) fn take_piece(s: Session, l: Line, line: &[u8]) -> Session
+    ensures { λ r. ⌜ r ≡ afterPiece s l (now (line .entry)) ⌝ }
+{
     match l {
         Line::More => s,
         Line::Whole(n) => take_line(s, lines::front(line, n)),

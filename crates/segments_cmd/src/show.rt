@@ -1,4 +1,5 @@
-// The state as text, a line at a time: the pool, the admitted tenants, the filled slots.
+// The state as text, a line at a time: the pool, the admitted tenants, the filled slots. Every line is shown to fit in the one buffer that they
+// share, so none is cut.
 use crate::answer::put_field;
 use console::lines;
 use console::text;
@@ -22,7 +23,7 @@ ghost use Rattle.segments.specs.Segments.{tenants};
 ghost use Rattle.segments_cmd.specs.Answer.{PutWithin};
 ghost use Rattle.segments_cmd.specs.Show.{categoriesBytes, categoriesText, labelBytes, labelText, lineBytes, listText, poolText, segmentBytes, segmentText, slotText, tenantText};
 
-// How many categories there are.
+// How many categories there can be.
 const CATEGORIES: u64 = (64 * WORDS) as u64;
 
 // The longest line is a slot's: five words and four numbers, then a blank and a number for each category.
@@ -45,6 +46,7 @@ fn put_members(out: &mut [u8], at: usize, categories: [u64; WORDS]) -> usize
     end
 }
 
+// The same, with `-` where there are none.
 fn put_categories(out: &mut [u8], at: usize, categories: [u64; WORDS]) -> usize
     requires { ⌜ at + categoriesBytes ≤ length (now out) ⌝ }
     ensures { λ r. ⌜ PutWithin (at + categoriesBytes) (now (out .entry)) at (categoriesText (membersOf categories)) r (now (out .exit)) ⌝ }

@@ -21,7 +21,11 @@ returns-2 c =
     let t = c .before in
     let e1 = t .before .before .before in
     let p = e1 .before .before in
-    c .of-none .ensures ∙ rw (← p .parse .ensures, not-false (p .parse .result .valid) (e1 .if1 .left), eq-eqb (p .parse .result .count) 0 (t .if2 .taken))
+    c .of-none .ensures ∙ rw (
+      ← p .parse .ensures,
+      not-false (p .parse .result .valid) (e1 .if1 .left),
+      eq-eqb (p .parse .result .count) 0 (t .if2 .taken),
+    )
 
 array-read-of-one : tie.Need-array-read-of-one
 array-read-of-one c = search needs
@@ -36,7 +40,12 @@ returns-3 c =
     let e2 = t .before .before in
     let e1 = e2 .before .before .before in
     let p = e1 .before .before in
-    c .of-one .ensures ∙ rw (← p .parse .ensures, not-false (p .parse .result .valid) (e1 .if1 .left), ne-eqb (p .parse .result .count) 0 (e2 .if2 .left), eq-eqb (p .parse .result .count) 1 (t .if3 .taken))
+    c .of-one .ensures ∙ rw (
+      ← p .parse .ensures,
+      not-false (p .parse .result .valid) (e1 .if1 .left),
+      ne-eqb (p .parse .result .count) 0 (e2 .if2 .left),
+      eq-eqb (p .parse .result .count) 1 (t .if3 .taken),
+    )
 
 array-read-t10 : tie.Need-array-read-t10
 array-read-t10 c = search needs
@@ -55,7 +64,13 @@ returns-4 c =
     let e2 = e3 .before .before in
     let e1 = e2 .before .before .before in
     let p = e1 .before .before in
-    c .of-two .ensures ∙ rw (← p .parse .ensures, not-false (p .parse .result .valid) (e1 .if1 .left), ne-eqb (p .parse .result .count) 0 (e2 .if2 .left), ne-eqb (p .parse .result .count) 1 (e3 .if3 .left), eq-eqb (p .parse .result .count) 2 (t .if4 .taken))
+    c .of-two .ensures ∙ rw (
+      ← p .parse .ensures,
+      not-false (p .parse .result .valid) (e1 .if1 .left),
+      ne-eqb (p .parse .result .count) 0 (e2 .if2 .left),
+      ne-eqb (p .parse .result .count) 1 (e3 .if3 .left),
+      eq-eqb (p .parse .result .count) 2 (t .if4 .taken),
+    )
 
 array-read-t17 : tie.Need-array-read-t17
 array-read-t17 c = search needs
@@ -78,7 +93,14 @@ returns-5 c =
     let e2 = e3 .before .before in
     let e1 = e2 .before .before .before in
     let p = e1 .before .before in
-    c .of-three .ensures ∙ rw (← p .parse .ensures, not-false (p .parse .result .valid) (e1 .if1 .left), ne-eqb (p .parse .result .count) 0 (e2 .if2 .left), ne-eqb (p .parse .result .count) 1 (e3 .if3 .left), ne-eqb (p .parse .result .count) 2 (e4 .if4 .left), eq-eqb (p .parse .result .count) 3 (t .if5 .taken))
+    c .of-three .ensures ∙ rw (
+      ← p .parse .ensures,
+      not-false (p .parse .result .valid) (e1 .if1 .left),
+      ne-eqb (p .parse .result .count) 0 (e2 .if2 .left),
+      ne-eqb (p .parse .result .count) 1 (e3 .if3 .left),
+      ne-eqb (p .parse .result .count) 2 (e4 .if4 .left),
+      eq-eqb (p .parse .result .count) 3 (t .if5 .taken),
+    )
 
 returns-6 : tie.Need-returns-6
 unfolding requestOf
@@ -88,7 +110,14 @@ returns-6 c =
     let e2 = e3 .before .before in
     let e1 = e2 .before .before .before in
     let p = e1 .before .before in
-    rw (← p .parse .ensures, not-false (p .parse .result .valid) (e1 .if1 .left), ne-eqb (p .parse .result .count) 0 (e2 .if2 .left), ne-eqb (p .parse .result .count) 1 (e3 .if3 .left), ne-eqb (p .parse .result .count) 2 (e4 .if4 .left), ne-eqb (p .parse .result .count) 3 (c .if5 .left))
+    rw (
+      ← p .parse .ensures,
+      not-false (p .parse .result .valid) (e1 .if1 .left),
+      ne-eqb (p .parse .result .count) 0 (e2 .if2 .left),
+      ne-eqb (p .parse .result .count) 1 (e3 .if3 .left),
+      ne-eqb (p .parse .result .count) 2 (e4 .if4 .left),
+      ne-eqb (p .parse .result .count) 3 (c .if5 .left),
+    )
 
 pub of-line-spec : {M : Type 1} → statement M
 of-line-spec =

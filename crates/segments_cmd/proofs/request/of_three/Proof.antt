@@ -22,11 +22,21 @@ is-word-requires-2 c κs = search needs
 
 returns-2 : tie.Need-returns-2
 unfolding ofThree sizeWord postWord
-returns-2 c = let e1 = c .before .before .before in rw (sym (e1 .before .is-word .ensures) ∙ e1 .if1 .left, sym (c .before .is-word2 .ensures) ∙ c .if2 .taken)
+returns-2 c =
+    let e1 = c .before .before .before in
+    rw (
+      sym (e1 .before .is-word .ensures) ∙ e1 .if1 .left,
+      sym (c .before .is-word2 .ensures) ∙ c .if2 .taken,
+    )
 
 returns-3 : tie.Need-returns-3
 unfolding ofThree sizeWord postWord
-returns-3 c = let e1 = c .before .before .before in rw (sym (e1 .before .is-word .ensures) ∙ e1 .if1 .left, sym (c .before .is-word2 .ensures) ∙ c .if2 .left)
+returns-3 c =
+    let e1 = c .before .before .before in
+    rw (
+      sym (e1 .before .is-word .ensures) ∙ e1 .if1 .left,
+      sym (c .before .is-word2 .ensures) ∙ c .if2 .left,
+    )
 
 pub of-three-spec : {M : Type 1} → statement M
 of-three-spec =

@@ -22,7 +22,12 @@ is-word-requires-2 c κs = search needs
 
 returns-2 : tie.Need-returns-2
 unfolding ofTwo admitWord ceilingWord openWord lookWord closeWord
-returns-2 c = let e1 = c .before .before .before in rw (sym (e1 .before .is-word .ensures) ∙ e1 .if1 .left, sym (c .before .is-word2 .ensures) ∙ c .if2 .taken)
+returns-2 c =
+    let e1 = c .before .before .before in
+    rw (
+      sym (e1 .before .is-word .ensures) ∙ e1 .if1 .left,
+      sym (c .before .is-word2 .ensures) ∙ c .if2 .taken,
+    )
 
 slice-aggregate-is-word-3 : tie.Need-slice-aggregate-is-word-3
 slice-aggregate-is-word-3 c = search needs
@@ -32,7 +37,14 @@ is-word-requires-3 c κs = search needs
 
 returns-3 : tie.Need-returns-3
 unfolding ofTwo admitWord ceilingWord openWord lookWord closeWord
-returns-3 c = let e2 = c .before .before .before in let e1 = e2 .before .before .before in rw (sym (e1 .before .is-word .ensures) ∙ e1 .if1 .left, sym (e2 .before .is-word2 .ensures) ∙ e2 .if2 .left, sym (c .before .is-word3 .ensures) ∙ c .if3 .taken)
+returns-3 c =
+    let e2 = c .before .before .before in
+    let e1 = e2 .before .before .before in
+    rw (
+      sym (e1 .before .is-word .ensures) ∙ e1 .if1 .left,
+      sym (e2 .before .is-word2 .ensures) ∙ e2 .if2 .left,
+      sym (c .before .is-word3 .ensures) ∙ c .if3 .taken,
+    )
 
 slice-aggregate-is-word-4 : tie.Need-slice-aggregate-is-word-4
 slice-aggregate-is-word-4 c = search needs
@@ -42,7 +54,16 @@ is-word-requires-4 c κs = search needs
 
 returns-4 : tie.Need-returns-4
 unfolding ofTwo admitWord ceilingWord openWord lookWord closeWord
-returns-4 c = let e3 = c .before .before .before in let e2 = e3 .before .before .before in let e1 = e2 .before .before .before in rw (sym (e1 .before .is-word .ensures) ∙ e1 .if1 .left, sym (e2 .before .is-word2 .ensures) ∙ e2 .if2 .left, sym (e3 .before .is-word3 .ensures) ∙ e3 .if3 .left, sym (c .before .is-word4 .ensures) ∙ c .if4 .taken)
+returns-4 c =
+    let e3 = c .before .before .before in
+    let e2 = e3 .before .before .before in
+    let e1 = e2 .before .before .before in
+    rw (
+      sym (e1 .before .is-word .ensures) ∙ e1 .if1 .left,
+      sym (e2 .before .is-word2 .ensures) ∙ e2 .if2 .left,
+      sym (e3 .before .is-word3 .ensures) ∙ e3 .if3 .left,
+      sym (c .before .is-word4 .ensures) ∙ c .if4 .taken,
+    )
 
 slice-aggregate-is-word-5 : tie.Need-slice-aggregate-is-word-5
 slice-aggregate-is-word-5 c = search needs
@@ -52,11 +73,33 @@ is-word-requires-5 c κs = search needs
 
 returns-5 : tie.Need-returns-5
 unfolding ofTwo admitWord ceilingWord openWord lookWord closeWord
-returns-5 c = let e4 = c .before .before .before in let e3 = e4 .before .before .before in let e2 = e3 .before .before .before in let e1 = e2 .before .before .before in rw (sym (e1 .before .is-word .ensures) ∙ e1 .if1 .left, sym (e2 .before .is-word2 .ensures) ∙ e2 .if2 .left, sym (e3 .before .is-word3 .ensures) ∙ e3 .if3 .left, sym (e4 .before .is-word4 .ensures) ∙ e4 .if4 .left, sym (c .before .is-word5 .ensures) ∙ c .if5 .taken)
+returns-5 c =
+    let e4 = c .before .before .before in
+    let e3 = e4 .before .before .before in
+    let e2 = e3 .before .before .before in
+    let e1 = e2 .before .before .before in
+    rw (
+      sym (e1 .before .is-word .ensures) ∙ e1 .if1 .left,
+      sym (e2 .before .is-word2 .ensures) ∙ e2 .if2 .left,
+      sym (e3 .before .is-word3 .ensures) ∙ e3 .if3 .left,
+      sym (e4 .before .is-word4 .ensures) ∙ e4 .if4 .left,
+      sym (c .before .is-word5 .ensures) ∙ c .if5 .taken,
+    )
 
 returns-6 : tie.Need-returns-6
 unfolding ofTwo admitWord ceilingWord openWord lookWord closeWord
-returns-6 c = let e4 = c .before .before .before in let e3 = e4 .before .before .before in let e2 = e3 .before .before .before in let e1 = e2 .before .before .before in rw (sym (e1 .before .is-word .ensures) ∙ e1 .if1 .left, sym (e2 .before .is-word2 .ensures) ∙ e2 .if2 .left, sym (e3 .before .is-word3 .ensures) ∙ e3 .if3 .left, sym (e4 .before .is-word4 .ensures) ∙ e4 .if4 .left, sym (c .before .is-word5 .ensures) ∙ c .if5 .left)
+returns-6 c =
+    let e4 = c .before .before .before in
+    let e3 = e4 .before .before .before in
+    let e2 = e3 .before .before .before in
+    let e1 = e2 .before .before .before in
+    rw (
+      sym (e1 .before .is-word .ensures) ∙ e1 .if1 .left,
+      sym (e2 .before .is-word2 .ensures) ∙ e2 .if2 .left,
+      sym (e3 .before .is-word3 .ensures) ∙ e3 .if3 .left,
+      sym (e4 .before .is-word4 .ensures) ∙ e4 .if4 .left,
+      sym (c .before .is-word5 .ensures) ∙ c .if5 .left,
+    )
 
 pub of-two-spec : {M : Type 1} → statement M
 of-two-spec =
