@@ -146,6 +146,16 @@ pub zeros-held : (s : SegmentTable) (p : Slot) → held s p zeroSegment ≡ true
 unfolding zeros
 zeros-held s p = rw (equal-exact Label.zeroLabel Label.zeroLabel refl .1 refl)
 
+-- a filled slot of a sound state holds a valid label, so that what a look shows has a hex line
+pub filled-valid : (s : SegmentTable) (p : Slot) → Sound s → p .0 < slots → filled s p ≡ true → Label.validOf (segmentAt s p .label) ≡ true
+unfolding slotSound clearedBy
+filled-valid s p h l e =
+    any-then (λ t. clearedBy s p (tenantId t)) tenants
+    (sym (ap (λ (b : Bool). cond b (any (λ t. clearedBy s p (tenantId t)) tenants) (zeros (segmentAt s p))) e) ∙ h .segment p l)
+    (λ t i f.
+    contained-valid (clearanceAt s (tenantId t)) (segmentAt s p .label) (tenant-clearance (tenantAt s (tenantId t)) (h .tenant (tenantId t) i))
+    (second-true (owns s (tenantId t) p) (Tuple.containsOf (clearanceAt s (tenantId t)) (segmentAt s p .label)) f))
+
 -- ---- a segment put into a slot of its tenant's own
 
 module _ (s : SegmentTable) (t : TenantId) (q : Slot) (x : Segment) (lengths : Lengths s) (own : owns s t q ≡ true) where
