@@ -24,7 +24,7 @@ returns : tie.Need-returns
 unfolding accessOf
 returns c =
     let k = c .before .before in
-    step-refused _ _ (k .before .pre) _ Access (c .unlabeled .ensures) (rw (sym (k .visible .ensures) ∙ not-true _ (c .before .if1 .taken)))
+    step-refused _ _ (k .before .pre) _ Access (c .unlabeled .ensures) (rw (sym (k .visible .ensures) ∙ not-true (k .visible .result) (c .before .if1 .taken)))
 
 mul-segment : tie.Need-mul-segment
 mul-segment c = let h = named (c .before .before) in omega arith

@@ -52,7 +52,7 @@ unfolding accessOf
 returns c =
     let t = c .before in
     let k = t .before .before .before in
-    step-refused _ _ (k .before .pre) _ NoSpace (c .unlabeled .ensures) (rw (looked (t .before) ∙ not-true _ (t .if1 .taken)))
+    step-refused _ _ (k .before .pre) _ NoSpace (c .unlabeled .ensures) (rw (looked (t .before) ∙ not-true (t .before .found .result) (t .if1 .taken)))
 
 unlabeled-requires-2 : tie.Need-unlabeled-requires-2
 unlabeled-requires-2 c κs = search needs
@@ -63,7 +63,7 @@ returns-2 c =
     let t = c .before in
     let e = t .before in
     let k = e .before .before .before in
-    step-refused _ _ (k .before .pre) _ NoMem (c .unlabeled2 .ensures) (rw (looked (e .before) ∙ not-false _ (e .if1 .left), room (e .before .before) ∙ not-true _ (t .if2 .taken)))
+    step-refused _ _ (k .before .pre) _ NoMem (c .unlabeled2 .ensures) (rw (looked (e .before) ∙ not-false (e .before .found .result) (e .if1 .left), room (e .before .before) ∙ not-true (e .before .before .has-room .result) (t .if2 .taken)))
 
 slot-or-0-requires : tie.Need-slot-or-0-requires
 slot-or-0-requires c κs = search needs
@@ -72,7 +72,7 @@ with-segment-requires : tie.Need-with-segment-requires
 with-segment-requires c κs =
     let e = c .before .before in
     let k = e .before .before .before in
-    let h = found-slot _ _ (caller (k .before)) (looked (e .before) ∙ not-false _ (e .if1 .left)) in
+    let h = found-slot _ _ (caller (k .before)) (looked (e .before) ∙ not-false (e .before .found .result) (e .if1 .left)) in
     rw (place c) h
 
 unlabeled-requires-3 : tie.Need-unlabeled-requires-3
@@ -91,7 +91,7 @@ returns-3 c =
     (c .unlabeled3 .ensures
     ∙ ap (λ (s : SegmentTable). unlabeled s (Opened (f .slot-or-0 .result))) (c .before .with-segment .ensures)
     ∙ ap (λ (p : Slot). unlabeled (withSegment (a .table) p x) (Opened p)) (place f))
-    (rw (looked (e .before) ∙ not-false _ (e .if1 .left), room (e .before .before) ∙ not-false _ (f .before .if2 .left))) refl refl
+    (rw (looked (e .before) ∙ not-false (e .before .found .result) (e .if1 .left), room (e .before .before) ∙ not-false (e .before .before .has-room .result) (f .before .if2 .left))) refl refl
 
 pub open-started-spec : {M : Type 1} → statement M
 open-started-spec =

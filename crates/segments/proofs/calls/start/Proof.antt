@@ -19,7 +19,7 @@ sound-requires c κs = search needs
 
 returns : tie.Need-returns
 unfolding startOf
-returns c = rw (sym (c .before .sound .ensures) ∙ not-true _ (c .if1 .taken))
+returns c = rw (sym (c .before .sound .ensures) ∙ not-true (c .before .sound .result) (c .if1 .taken))
 
 valid-requires : tie.Need-valid-requires
 valid-requires c κs = search needs

@@ -97,7 +97,7 @@ returns-3 c =
     let t = c .before in
     let f = t .before .before .before in
     let e = f .before .before in
-    results-refused _ (e .before .before .args .t1) _ _ Busy (c .unlabeled3 .ensures) (rw (is-sound e, is-valid f, in-use (t .before) ∙ not-true _ (t .if3 .taken)))
+    results-refused _ (e .before .before .args .t1) _ _ Busy (c .unlabeled3 .ensures) (rw (is-sound e, is-valid f, in-use (t .before) ∙ not-true (t .before .kept .result) (t .if3 .taken)))
 
 mul-old : tie.Need-mul-old
 mul-old c = let h = inside (c .before .before .before) in omega arith
@@ -121,7 +121,7 @@ returns-4 c =
     let g = t .before .before .before .before in
     let f = g .before .before .before in
     let e = f .before .before in
-    results-refused _ (e .before .before .args .t1) _ _ NoMem (c .unlabeled4 .ensures) (rw (is-sound e, is-valid f, in-use (g .before) ∙ not-false _ (g .if3 .left), room (t .before) ∙ not-true _ (t .if4 .taken)))
+    results-refused _ (e .before .before .args .t1) _ _ NoMem (c .unlabeled4 .ensures) (rw (is-sound e, is-valid f, in-use (g .before) ∙ not-false (g .before .kept .result) (g .if3 .left), room (t .before) ∙ not-true _ (t .if4 .taken)))
 
 with-tenant-requires : tie.Need-with-tenant-requires
 with-tenant-requires c κs = inside (c .before .before .before .before .before .before .before .before)
@@ -137,7 +137,7 @@ returns-5 c =
     let f = g .before .before .before in
     let e = f .before .before in
     results-granted _ (e .before .before .args .t1) _ _ Done done (c .unlabeled5 .ensures ∙ ap (λ (s : SegmentTable). unlabeled s Done) (c .before .with-tenant .ensures))
-    (rw (is-sound e, is-valid f, in-use (g .before) ∙ not-false _ (g .if3 .left), room (h .before) ∙ not-false _ (h .if4 .left))) refl refl
+    (rw (is-sound e, is-valid f, in-use (g .before) ∙ not-false (g .before .kept .result) (g .if3 .left), room (h .before) ∙ not-false _ (h .if4 .left))) refl refl
 
 pub set-ceiling-spec : {M : Type 1} → statement M
 set-ceiling-spec =
