@@ -25,7 +25,7 @@ use Rattle.segments.specs.declared.SegmentTable.{SegmentTable}
 use Rattle.segments.specs.declared.Slot.{Slot}
 use Rattle.segments.specs.declared.Tenant.{Tenant}
 use Rattle.segments.specs.declared.TenantId.{TenantId}
-use Rattle.segments.proofs.CallsLaws.{Alike, Checked, alike-itself, alike-join, alike-swap, answer-same, both-passed, both-refused, checked, inward, look-access, next-lengths, own-next, pool-kept, records-kept, step-answer, untouched, visible-same}
+use Rattle.segments.proofs.CallsLaws.{Alike, Checked, alike-itself, alike-join, alike-swap, answer-same, both-passed, both-refused, checked, looks-at-own, look-access, next-lengths, own-next, pool-kept, records-kept, step-answer, untouched, visible-same}
 use Rattle.segments.proofs.SegmentsLaws.{same-table, tenant-same}
 use Rattle.segments.proofs.SlotsLaws.{own-parts, owner-unique, owns-kept, same-tenant}
 use Rattle.segments.proofs.SoundLaws.{call-sound, sound-parts}
@@ -198,7 +198,7 @@ compared s u c k = go (lookedAt (c .action)) refl
     at p e false o = look-differs s u c p k e
 
     go : (o : Option Slot) → lookedAt (c .action) ≡ o → Compared (otherSlot s (c .tenant) o) (entry s c) (entry u c)
-    go none e = same (inward s (c .tenant) (c .action) e)
+    go none e = same (looks-at-own s (c .tenant) (c .action) e)
     go (some p) e = at p e (owns s (c .tenant) p) refl
 
 -- ---- the entries of one tenant

@@ -41,11 +41,11 @@ writable-own s t l p e =
     (h .0, h .1)
 
 -- a call that looks, if at all, at a slot of its caller's own
-abbrev pub Inward : SegmentTable → TenantId → Action → Type 0
-Inward s t a = (p : Slot) → lookedAt a ≡ some p → owns s t p ≡ true
+abbrev pub LooksAtOwn : SegmentTable → TenantId → Action → Type 0
+LooksAtOwn s t a = (p : Slot) → lookedAt a ≡ some p → owns s t p ≡ true
 
 -- such a call is about a slot of its caller's own
-pub target-own : (s : SegmentTable) (t : TenantId) (l : Label) (a : Action) (p : Slot) → t .0 < tenants → Inward s t a
+pub target-own : (s : SegmentTable) (t : TenantId) (l : Label) (a : Action) (p : Slot) → t .0 < tenants → LooksAtOwn s t a
     → permitted s t l a ≡ true → slotFor s t a ≡ some p → owns s t p ≡ true
 target-own s t l (Open x) p h m e f = lowest-own s t p h f
 target-own s t l (Size x) p h m e f = let q : x .slot ≡ p = cc in ap (owns s t) (sym q) ∙ writable-own s t l (x .slot) e .0
@@ -129,7 +129,7 @@ module _ (t : TenantId) (s u : SegmentTable) (k : Alike t s u) where
           ap₂ (λ (b : Bool) (x : Segment). (b && leb 1 (x .pages)) && Label.equalOf l (x .label)) (owns-kept s u t p (k .records)) (k .own p e)
       go false e = rw (sym (owns-kept s u t p (k .records)) ∙ e, e)
 
-  permitted-same : (l : Label) (a : Action) → Inward s t a → permitted s t l a ≡ permitted u t l a
+  permitted-same : (l : Label) (a : Action) → LooksAtOwn s t a → permitted s t l a ≡ permitted u t l a
   permitted-same l (Open x) m = refl
   permitted-same l (Size x) m = writable-same l (x .slot)
   permitted-same l (Post x) m = writable-same l (x .slot)
@@ -156,7 +156,7 @@ module _ (t : TenantId) (s u : SegmentTable) (k : Alike t s u) where
   target-same : t .0 < tenants → (l : Label) (a : Action) → slotOr0 (slotFor s t a) ≡ slotOr0 (slotFor u t a)
   target-same h l a = ap slotOr0 (slot-for-same h a)
 
-  found-same : t .0 < tenants → (l : Label) (a : Action) → Inward s t a → permitted s t l a ≡ true → found (slotFor s t a) ≡ true
+  found-same : t .0 < tenants → (l : Label) (a : Action) → LooksAtOwn s t a → permitted s t l a ≡ true → found (slotFor s t a) ≡ true
       → segmentAt s (slotOr0 (slotFor s t a)) ≡ segmentAt u (slotOr0 (slotFor u t a))
   found-same h l a m e f = go (slotFor s t a) refl f ∙ ap (segmentAt u) (target-same h l a)
     where
@@ -164,7 +164,7 @@ module _ (t : TenantId) (s u : SegmentTable) (k : Alike t s u) where
       go none i f = absurd (true≢false (sym f))
       go (some p) i f = k .own p (target-own s t l a p h m e i)
 
-  access-same : t .0 < tenants → (l : Label) (a : Action) → Inward s t a → accessOf s (callOf t l a) ≡ accessOf u (callOf t l a)
+  access-same : t .0 < tenants → (l : Label) (a : Action) → LooksAtOwn s t a → accessOf s (callOf t l a) ≡ accessOf u (callOf t l a)
   unfolding accessOf
   access-same h l a m =
       require-same _ _ 13 _ _ (permitted-same l a m)
@@ -182,7 +182,7 @@ module _ (t : TenantId) (s u : SegmentTable) (k : Alike t s u) where
   cleared-same l a = ap (λ (x : Tenant). Tuple.containsOf (x .clearance) l) (tenant-same s u t (k .records))
 
   -- what a call answers depends on its caller's own slots and on what never changes
-  pub answer-same : (l : Label) (a : Action) → Inward s t a → answerOf s (callOf t l a) ≡ answerOf u (callOf t l a)
+  pub answer-same : (l : Label) (a : Action) → LooksAtOwn s t a → answerOf s (callOf t l a) ≡ answerOf u (callOf t l a)
   unfolding answerOf
   answer-same l a m =
       require-same _ _ 22 _ _ (k .sounds .0 ∙ sym (k .sounds .1))
@@ -288,16 +288,16 @@ unfolding accessOf
 look-access s t l a p e = ap (λ (a : Action). accessOf s (callOf t l a)) (looks a p e)
 
 -- a call that doesn't look
-pub inward : (s : SegmentTable) (t : TenantId) (a : Action) → lookedAt a ≡ none → Inward s t a
-inward s t a e p f = let z : none ≡ some p = sym e ∙ f in let y : _≡_ {A = ℕ} 0 1 = cc in absurd (omega arith)
+pub looks-at-own : (s : SegmentTable) (t : TenantId) (a : Action) → lookedAt a ≡ none → LooksAtOwn s t a
+looks-at-own s t a e p f = let z : none ≡ some p = sym e ∙ f in let y : _≡_ {A = ℕ} 0 1 = cc in absurd (omega arith)
 
 -- a call leaves the slots of all others as they were
 pub untouched : (s : SegmentTable) (t : TenantId) (l : Label) (a : Action) (p : Slot) → owns s t p ≡ false → segmentAt (stepOf s (callOf t l a) .table) p ≡ segmentAt s p
 untouched s t l a p h =
-    look-or-not a (λ e. other (inward s t a e) (answerOf s (callOf t l a)) refl)
+    look-or-not a (λ e. other (looks-at-own s t a e) (answerOf s (callOf t l a)) refl)
     (λ q e. ap (λ (u : SegmentTable). segmentAt u p) (look-next s t l a q e))
   where
-    other : Inward s t a → (x : Answer Grant) → answerOf s (callOf t l a) ≡ x → segmentAt (stepOf s (callOf t l a) .table) p ≡ segmentAt s p
+    other : LooksAtOwn s t a → (x : Answer Grant) → answerOf s (callOf t l a) ≡ x → segmentAt (stepOf s (callOf t l a) .table) p ≡ segmentAt s p
     other m (refused n detail) e = ap (λ (u : SegmentTable). segmentAt u p) (next-refused s (callOf t l a) n detail e)
     other m (granted g) e =
         let r = granted-passed s t l a g e in
@@ -320,14 +320,14 @@ module _ (t : TenantId) (s u : SegmentTable) (k : Alike t s u) where
 
   pub own-next : (l : Label) (a : Action) (p : Slot) → owns s t p ≡ true → segmentAt (stepOf s (callOf t l a) .table) p ≡ segmentAt (stepOf u (callOf t l a) .table) p
   own-next l a p h =
-      look-or-not a (λ e. other (inward s t a e) (answerOf s (callOf t l a)) refl)
+      look-or-not a (λ e. other (looks-at-own s t a e) (answerOf s (callOf t l a)) refl)
       (λ q e. rw (look-next s t l a q e, look-next u t l a q e) (k .own p h))
     where
       next : (v : SegmentTable) (g : Grant) → answerOf v (callOf t l a) ≡ granted g
           → segmentAt (stepOf v (callOf t l a) .table) p ≡ segmentAt (withSegment v (slotOr0 (slotFor v t a)) (written (segmentAt v (slotOr0 (slotFor v t a))) l a)) p
       next v g e = ap (λ (w : SegmentTable). segmentAt w p) (next-granted v (callOf t l a) g e)
 
-      other : Inward s t a → (x : Answer Grant) → answerOf s (callOf t l a) ≡ x
+      other : LooksAtOwn s t a → (x : Answer Grant) → answerOf s (callOf t l a) ≡ x
           → segmentAt (stepOf s (callOf t l a) .table) p ≡ segmentAt (stepOf u (callOf t l a) .table) p
       other m (refused n detail) e =
           rw (next-refused s (callOf t l a) n detail e, next-refused u (callOf t l a) n detail (sym (answer-same t s u k l a m) ∙ e)) (k .own p h)

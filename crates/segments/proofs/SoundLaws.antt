@@ -32,7 +32,7 @@ use Rattle.segments.specs.declared.SegmentTable.{SegmentTable}
 use Rattle.segments.specs.declared.Slot.{Slot}
 use Rattle.segments.specs.declared.Tenant.{Tenant}
 use Rattle.segments.specs.declared.TenantId.{TenantId}
-use Rattle.segments.proofs.CallsLaws.{Passed, granted-passed, inward, look-next, look-or-not, next-granted, next-refused, target-own, valid-numbers, valid-tenant, writable-own}
+use Rattle.segments.proofs.CallsLaws.{Passed, granted-passed, looks-at-own, look-next, look-or-not, next-granted, next-refused, target-own, valid-numbers, valid-tenant, writable-own}
 use Rattle.segments.proofs.SegmentsLaws.{segment-kept, segment-written}
 use Rattle.segments.proofs.SlotsLaws.{lowest-own, count-kept, first-kept, own-of, own-pages, own-parts, own-slot, owner-unique, owns-kept, same-slot, same-tenant}
 
@@ -278,7 +278,7 @@ call-sound s t l a n h =
     other m (granted g) e =
         let r = granted-passed s t l a g e in
         let i : slotOr0 (slotFor s t a) ≡ r .slot = ap slotOr0 (r .slot-is) in
-        let o : owns s t (r .slot) ≡ true = target-own s t l a (r .slot) (valid-tenant s t l a (r .is-valid)) (inward s t a m) (r .is-permitted) (r .slot-is) in
+        let o : owns s t (r .slot) ≡ true = target-own s t l a (r .slot) (valid-tenant s t l a (r .is-valid)) (looks-at-own s t a m) (r .is-permitted) (r .slot-is) in
         let z = sound-parts s h in
         ap sound (next-granted s (callOf t l a) g e ∙ ap (λ (p : Slot). withSegment s p (written (segmentAt s p) l a)) i)
         ∙ parts-sound _ (written-sound s t (r .slot) (written (segmentAt s (r .slot)) l a) n o z (written-held s t l z a (r .slot) r m (r .slot-is)) (written-fits s t l z a (r .slot) r (r .slot-is) o))
