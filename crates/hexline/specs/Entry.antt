@@ -2,7 +2,7 @@
 use mathlib.Core.Bool.{Bool, cond, _&&_, _||_}
 use mathlib.Core.List.{List, [], _∷_, _++_}
 use mathlib.Core.Path.{_≡_}
-use Prim.Native.Nat.{ℕ, _+_, _^_, _<_}
+use Prim.Native.Nat.{ℕ, _+_, _^_, _<_, min}
 use lib.Dec.{eqb, leb, ltb}
 use lib.ListN.{length, replicate, take}
 use Rattle.label.specs.Index.{every, tabulate}
@@ -137,6 +137,22 @@ entryFrom w bs i p =
     entryOf (valueFrom (p .class) (byteAt bs i)) (labelFrom w bs (p .class) i)
     (nameText (textFrom maxName bs (p .name .at) (p .name .length)) (p .name .length))
     (abbreviationText (textFrom maxAbbreviation bs (p .abbreviation .at) (p .abbreviation .length)) (p .abbreviation .length))
+
+-- ---- the texts of an entry, and where they stand in a body
+
+abbrev pub nameBytes : Entry → List ℕ
+nameBytes e = take (e .name .length) (e .name .bytes)
+
+abbrev pub abbreviationBytes : Entry → List ℕ
+abbreviationBytes e = take (e .abbreviation .length) (e .abbreviation .bytes)
+
+-- a span of so many bytes at most
+abbrev pub atMost : ℕ → Span → Span
+atMost most s = record { at = s .at; length = min (s .length) most }
+
+-- the bytes of a body at a span, and zeros past its end
+unfoldable pub spanBytes : List ℕ → Span → List ℕ
+spanBytes bs s = tabulate (λ k. byteAt bs (s .at + k)) (s .length)
 
 -- what every value of the code's type Entry has (`entry::typed` proves it)
 pub record TypedEntry (e : Entry) : Type 0 where

@@ -15,10 +15,11 @@ use Rattle.range.specs.declared.Range.{Range}
 use Rattle.range.specs.declared.tuple.Tuple.{Tuple}
 use Rattle.hexline.specs.Body.{byteAt, labelAt, labelBytes, labelSize, lineWords, rangeAt, rangeBytes, rangeSize}
 use Rattle.hexline.specs.Entry
-use Rattle.hexline.specs.Entry.{past, entryBytes, entryFrom, layoutOf, maxAbbreviation, maxName}
+use Rattle.hexline.specs.Entry.{atMost, past, entryBytes, entryFrom, layoutOf, maxAbbreviation, maxName}
 use Rattle.frame.specs.Frame.{bodyOf, frameOf, framedOf, readOf}
 use Rattle.hexline.specs.Regions.{presenceOf, presentBelow, regionsBytes, tupleAt}
 use Rattle.hexline.specs.declared.entry.Entry.{Entry}
+use Rattle.hexline.specs.declared.entry.Span.{Span}
 use Rattle.hexline.specs.declared.Kind.{Kind}
 use Rattle.hexline.specs.declared.Kind.the-variants.{OfLabel, OfRange, OfTuple, OfEntry, Refused}
 
@@ -111,6 +112,19 @@ entryLineOf e = lineOf (Entry.validOf e) (entryBody 4 lineWords e)
 
 abbrev pub readEntryOf : List ℕ → Answer Entry
 readEntryOf = readOf (contentsOf (entryForm 4 lineWords) (entryIn lineWords) Entry.validOf)
+
+-- ---- the parts of the alias entry that stands in a line, whether or not the line is accepted: of an accepted line it is the entry that is
+-- read (the law `entry-standing`)
+
+unfoldable pub standingIn : List ℕ → Entry
+standingIn line = entryIn lineWords (bodyOf line)
+
+-- where its name and its abbreviation stand in the line's body
+unfoldable pub nameIn : List ℕ → Span
+nameIn line = atMost maxName (layoutOf lineWords (bodyOf line) 1 .name)
+
+unfoldable pub abbreviationIn : List ℕ → Span
+abbreviationIn line = atMost maxAbbreviation (layoutOf lineWords (bodyOf line) 1 .abbreviation)
 
 -- ---- any line
 

@@ -226,8 +226,8 @@ pub(crate) fn put_entry(out: &mut [u8], at: usize, e: Entry, words: usize) -> us
     put_abbreviation(out, abbreviation_at, e.abbreviation)
 }
 
-// A length byte's text: the index of its first byte, and its length.
-pub(crate) struct Span {
+// A text in a line's body: the index of its first byte, and its length.
+pub struct Span {
     pub at: usize,
     pub length: usize,
 }
@@ -279,7 +279,7 @@ pub(crate) fn layout_at(line: &[u8], at: usize, words: usize) -> Layout
     }
 }
 
-fn value_from(class: u8, b: u8) -> Value
+pub(crate) fn value_from(class: u8, b: u8) -> Value
     ensures { λ r. ⌜ r ≡ valueFrom class b ⌝ }
 {
     if class == 1 {

@@ -2,6 +2,7 @@
 // with its LF; each refuses what document 01 refuses, and a refusal writes nothing.
 mod body;
 pub mod entry;
+pub mod parts;
 mod regions;
 
 use crate::body::LINE_WORDS;

@@ -3,7 +3,7 @@ use mathlib.Core.Bool.{Bool, true, false, _&&_, true≢false}
 use mathlib.Core.Option.{Option, none}
 use mathlib.Core.Path.{_≡_, refl, sym, ap, _∙_}
 use Prim.Native.Nat.{ℕ}
-use Rattle.label.specs.Answer.{Answer, Answered, granted, refused, refusedBy, require, testOf, valueOr}
+use Rattle.label.specs.Answer.{Answer, Answered, granted, isGranted, refused, refusedBy, require, testOf, valueOr}
 use Rattle.label.specs.declared.errno.Errno.{Errno}
 use Rattle.label.specs.declared.answer.Test.{Test}
 use Rattle.label.specs.declared.answer.Outcome.the-variants.{Granted, Refused}
@@ -36,19 +36,15 @@ value-of-test u u′ t value n e h = ap (λ (v : Test). valueOr false (testOf v)
     by true = refl
     by false = refl
 
-abbrev isGrant : {A : Type 0} → Answer A → Bool
-isGrant (granted value) = true
-isGrant (refused n detail) = false
-
 pub grant-passed : {A : Type 0} (t : Bool) (n : ℕ) (x : A) (rest : Answer A) → granted x ≡ require t n rest → (t ≡ true) × (granted x ≡ rest)
 grant-passed true n x rest e = (refl, e)
-grant-passed false n x rest e = absurd (true≢false (ap isGrant e))
+grant-passed false n x rest e = absurd (true≢false (ap isGranted e))
 
 pub grants-same : {A : Type 0} (x y : A) → granted x ≡ granted y → x ≡ y
 grants-same x y e = ap (valueOr x) e
 
 pub refusal-stopped : {A : Type 0} (t : Bool) (n m : ℕ) (detail : Option ℕ) (y : A) → refused m detail ≡ require t n (granted y) → t ≡ false
-refusal-stopped true n m detail y e = absurd (true≢false (sym (ap isGrant e)))
+refusal-stopped true n m detail y e = absurd (true≢false (sym (ap isGranted e)))
 refusal-stopped false n m detail y e = refl
 
 -- a grant tells what was to be told, and that the check before it was passed

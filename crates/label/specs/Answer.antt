@@ -17,6 +17,15 @@ pub data Answer (A : Type 0) : Type 0 where
   granted : A → Answer A
   refused : ℕ → Option ℕ → Answer A
 
+abbrev pub isGranted : {A : Type 0} → Answer A → Bool
+isGranted (granted value) = true
+isGranted (refused n detail) = false
+
+-- what follows a grant, or the refusal
+abbrev pub andThen : {A B : Type 0} → Answer A → (A → Answer B) → Answer B
+andThen (granted value) next = next value
+andThen (refused n detail) next = refused n detail
+
 -- a check: what follows where the test holds, else the refusal n
 abbrev pub require : {A : Type 0} → Bool → ℕ → Answer A → Answer A
 require true n rest = rest

@@ -27,6 +27,11 @@ unfoldable pub firstFrom : (ℕ → Bool) → ℕ → ℕ → Option ℕ
 firstFrom f k zero = none
 firstFrom f k (suc n) = firstOr (f k) k (firstFrom f (suc k) n)
 
+-- the last among the numbers below n at which f holds
+unfoldable pub lastBelow : (ℕ → Bool) → ℕ → Option ℕ
+lastBelow f zero = none
+lastBelow f (suc n) = firstOr (f n) n (lastBelow f n)
+
 -- f k + f (k + 1) + .. , n terms
 unfoldable pub sumFrom : (ℕ → ℕ) → ℕ → ℕ → ℕ
 sumFrom f k zero = 0

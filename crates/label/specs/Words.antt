@@ -6,7 +6,7 @@ use mathlib.Core.Option.{Option, none, some}
 use Prim.Native.Nat.{ℕ, zero, suc, _*_, _-_, _/_, _%_, _^_, max}
 use lib.Bits.{bitAnd, bitOr}
 use lib.Dec.{eqb}
-use lib.ListN.{getD, length}
+use lib.ListN.{getD, length, replicate, set}
 use Rattle.label.specs.Index.{every, firstFrom, tabulate}
 use Rattle.label.specs.declared.words.Found.{Found}
 use Rattle.label.specs.declared.words.Found.the-variants.{At, Nothing}
@@ -25,6 +25,10 @@ bit x k = eqb (x / 2 ^ k % 2) 1
 -- whether category c is in the set: bit c mod 64 of word c / 64
 unfoldable pub has : List ℕ → ℕ → Bool
 has ws c = bit (wordAt ws (c / 64)) (c % 64)
+
+-- the set that has the category c alone; no set has one past its last word
+unfoldable pub singleOf : ℕ → List ℕ
+singleOf c = set (replicate words 0) (c / 64) (2 ^ (c % 64))
 
 -- two sets put together word by word
 abbrev pub combinedAt : (ℕ → ℕ → ℕ) → List ℕ → List ℕ → ℕ → ℕ

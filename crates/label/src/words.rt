@@ -1,7 +1,7 @@
 // A set of categories as an array of words, by value. These functions are total: any words are a set.
 ghost use mathlib.Core.Path.{_≡_};
 ghost use lib.ListN.{length};
-ghost use Rattle.label.specs.Words.{foundOf, includesOf, intersectionOf, membersOf, nextOf, sameOf, unionOf};
+ghost use Rattle.label.specs.Words.{foundOf, includesOf, intersectionOf, membersOf, nextOf, sameOf, singleOf, unionOf};
 
 // How many words a set has. Category c is bit c % 64 of word c / 64.
 pub const WORDS: usize = 4;
@@ -10,6 +10,18 @@ pub const WORDS: usize = 4;
 pub enum Found {
     At(u64),
     Nothing,
+}
+
+// The set that has category c alone, or none where there is no such category.
+pub fn single(c: u64) -> [u64; WORDS]
+    ensures { λ r. ⌜ r ≡ singleOf c ⌝ }
+{
+    let mut r = [0u64; WORDS];
+    let i = (c / 64) as usize;
+    if i < WORDS {
+        r[i] = 1 << (c % 64);
+    }
+    r
 }
 
 // The categories that are in a or in b.

@@ -1,0 +1,61 @@
+// The parts of the alias entry that stands in a line, read where they stand: for a table of lines that were tested, which is then walked without
+// making entries. These functions are total: in any bytes something stands.
+use crate::body::LINE_WORDS;
+use crate::body::label_at;
+use crate::entry::MAX_ABBREVIATION;
+use crate::entry::MAX_NAME;
+use crate::entry::Span;
+use crate::entry::Value;
+use crate::entry::layout_at;
+use crate::entry::value_from;
+use label::Label;
+ghost use mathlib.Core.Path.{_≡_};
+ghost use Prim.Native.Nat.{_+_, _<_, min};
+ghost use Rattle.hexline.specs.Entry.{atMost};
+ghost use Rattle.hexline.specs.Line.{abbreviationIn, nameIn, standingIn};
+
+// A span of so many bytes at most.
+fn at_most(most: usize, s: Span) -> Span
+    ensures { λ r. ⌜ r ≡ atMost most s ⌝ }
+{
+    let length = if s.length < most { s.length } else { most };
+    Span {
+        at: s.at,
+        length,
+    }
+}
+
+// What the entry stands for; of a whole label, `label` has the label.
+pub fn value(line: &[u8]) -> Value
+    ensures { λ r. ⌜ r ≡ standingIn (now (line .entry)) .value ⌝ }
+{
+    value_from(frame::byte(line, 1), frame::byte(line, 2))
+}
+
+// The label of the entry, zeros where its class has none.
+pub fn label(line: &[u8]) -> Label
+    ensures { λ r. ⌜ r ≡ standingIn (now (line .entry)) .label ⌝ }
+{
+    if frame::byte(line, 1) == 3 {
+        return label_at(line, 2, LINE_WORDS);
+    }
+    label::zero()
+}
+
+// Where the name stands in the line's body. The second clause follows, and is stated for callers.
+pub fn name(line: &[u8]) -> Span
+    ensures { λ r. ⌜ r ≡ nameIn (now (line .entry)) ⌝ }
+    ensures { λ r. ⌜ r .at + r .length < 1024 ⌝ }
+{
+    let p = layout_at(line, 1, LINE_WORDS);
+    at_most(MAX_NAME, p.name)
+}
+
+// Where the abbreviation stands in the line's body.
+pub fn abbreviation(line: &[u8]) -> Span
+    ensures { λ r. ⌜ r ≡ abbreviationIn (now (line .entry)) ⌝ }
+    ensures { λ r. ⌜ r .at + r .length < 1024 ⌝ }
+{
+    let p = layout_at(line, 1, LINE_WORDS);
+    at_most(MAX_ABBREVIATION, p.abbreviation)
+}
