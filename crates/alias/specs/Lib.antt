@@ -1,0 +1,4 @@
+pub mod Lines
+pub mod Lookup
+pub mod Table
+pub mod Walk

@@ -1,0 +1,50 @@
+// Names that are repeated in a table.
+use crate::Found;
+use crate::lines::line;
+use crate::names::repeats_itself;
+use crate::names::shares;
+ghost use mathlib.Core.Path.{_≡_};
+ghost use Prim.Native.Nat.{_-_, _<_};
+ghost use lib.ListN.{length};
+ghost use Rattle.label.specs.Index.{any};
+ghost use Rattle.alias.specs.Lines.{entriesBy, entryAt};
+ghost use Rattle.alias.specs.Lookup.{foundOf};
+ghost use Rattle.alias.specs.Table.{firstRepeat, repeatsAt, sharesOf};
+
+// Whether an entry before entry k has a name in common with it.
+fn shared_before(table: &[u8], starts: &[usize], k: usize) -> bool
+    requires { ⌜ k < length (now starts) - 1 ⌝ }
+    ensures { λ r. ⌜ r ≡ any (λ j. sharesOf (entryAt (entriesBy (now (table .entry)) (now (starts .entry))) j) (entryAt (entriesBy (now (table .entry)) (now (starts .entry))) k)) k ⌝ }
+{
+    let own = line(table, starts, k);
+    let mut j = 0;
+    while j < k {
+        if shares(line(table, starts, j), own) {
+            return true;
+        }
+        j += 1;
+    }
+    false
+}
+
+// Whether entry k repeats a name, its own or that of an earlier entry.
+fn repeats(table: &[u8], starts: &[usize], k: usize) -> bool
+    requires { ⌜ k < length (now starts) - 1 ⌝ }
+    ensures { λ r. ⌜ r ≡ repeatsAt (entriesBy (now (table .entry)) (now (starts .entry))) k ⌝ }
+{
+    repeats_itself(line(table, starts, k)) | shared_before(table, starts, k)
+}
+
+// The first entry that repeats a name.
+pub(crate) fn first(table: &[u8], starts: &[usize]) -> Found
+    ensures { λ r. ⌜ foundOf r ≡ firstRepeat (entriesBy (now (table .entry)) (now (starts .entry))) ⌝ }
+{
+    let mut k = 0;
+    while k + 1 < starts.len() {
+        if repeats(table, starts, k) {
+            return Found::At(k);
+        }
+        k += 1;
+    }
+    Found::Nothing
+}
