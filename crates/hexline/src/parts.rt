@@ -19,10 +19,7 @@ fn at_most(most: usize, s: Span) -> Span
     ensures { λ r. ⌜ r ≡ atMost most s ⌝ }
 {
     let length = if s.length < most { s.length } else { most };
-    Span {
-        at: s.at,
-        length,
-    }
+    Span { at: s.at, length }
 }
 
 // What the entry stands for; of a whole label, `label` has the label.
