@@ -292,7 +292,7 @@ pub(crate) fn value_from(class: u8, b: u8) -> Value
 }
 
 // The label of an entry of a class, its value at index at.
-fn label_from(line: &[u8], class: u8, at: usize, words: usize) -> Label
+pub(crate) fn label_from(line: &[u8], class: u8, at: usize, words: usize) -> Label
     requires { ⌜ at + labelSize words < 2 ^ 64 ⌝ }
     ensures { λ r. ⌜ r ≡ labelFrom words (bodyOf (now (line .entry))) class at ⌝ }
 {
