@@ -19,8 +19,8 @@ use Rattle.label.proofs.AnswerLaws.{answers-grant, answers-refusal}
 use Rattle.label.proofs.BoolLaws.{both, first-true, not-so, second-true, three-true}
 use Rattle.frame.specs.Frame.{bodyOf, frameAnswerOf, frameOf, framedOf, maxBody, readOf}
 use Rattle.frame.proofs.FrameLaws.{Bytes, frame-length, reads-back, reads-exactly}
-use Rattle.hexline.specs.Body.{byteAt, labelSize, rangeSize}
-use Rattle.hexline.specs.Entry.{layoutOf, maxAbbreviation, maxName, past, valueSize}
+use Rattle.hexline.specs.Body.{byteAt, rangeSize}
+use Rattle.hexline.specs.Entry.{layoutOf, maxAbbreviation, maxName, past}
 use Rattle.hexline.specs.Regions.{presentBelow}
 use Rattle.hexline.specs.Line.{contentsOf, entryForm, formOf, kindOf, lineOf, tupleForm}
 
@@ -153,14 +153,6 @@ entry-form-parts kind w bs e =
       low = leb-true 1 (p .class) (u .1);
       high = leb-true (p .class) 3 (u .2);
     }
-
--- where the class is a label's, its bytes are there
-pub entry-label-room : (kind w : ℕ) (bs : List ℕ) → EntryForm kind w bs → layoutOf w bs 1 .class ≡ 3 → 2 + labelSize w ≤ length bs
-unfolding layoutOf valueSize
-entry-label-room kind w bs f e =
-    let b : eqb (byteAt bs 1) 3 ≡ true = eq-eqb (byteAt bs 1) 3 e in
-    let s = rw b at (f .size) in
-    omega arith
 
 -- ---- how a writer ends that has put a body together
 

@@ -3,7 +3,7 @@ use label::Label;
 use label::words::WORDS;
 use range::Range;
 ghost use mathlib.Core.Path.{_≡_};
-ghost use Prim.Native.Nat.{_+_, _*_, _<_, _≤_};
+ghost use Prim.Native.Nat.{_+_, _*_, _<_, _≤_, _^_};
 ghost use lib.ListN.{length};
 ghost use Rattle.label.specs.Words.{words as setWords};
 ghost use Rattle.frame.specs.Frame.{bodyOf};
@@ -48,7 +48,7 @@ pub(crate) fn put_range(out: &mut [u8], at: usize, x: Range, words: usize) -> us
 
 // The word whose eight bytes begin at index at of a line's body, the lowest first.
 fn word_at(line: &[u8], at: usize) -> u64
-    requires { ⌜ at + 8 ≤ length (now line) ⌝ }
+    requires { ⌜ at + 8 < 2 ^ 64 ⌝ }
     ensures { λ r. ⌜ r ≡ numberOf 256 (byteAt (bodyOf (now (line .entry)))) at 8 ⌝ }
 {
     let mut w: u64 = 0;
@@ -62,7 +62,7 @@ fn word_at(line: &[u8], at: usize) -> u64
 
 // Word j of the set whose bytes begin at index at.
 fn set_word(line: &[u8], at: usize, j: usize, words: usize) -> u64
-    requires { ⌜ at + 8 * words ≤ length (now line) ⌝ }
+    requires { ⌜ at + 8 * words < 2 ^ 64 ⌝ }
     ensures { λ r. ⌜ r ≡ wordFrom words (bodyOf (now (line .entry))) at j ⌝ }
 {
     if j < words {
@@ -73,7 +73,7 @@ fn set_word(line: &[u8], at: usize, j: usize, words: usize) -> u64
 
 // The label at index at of a line's body.
 pub(crate) fn label_at(line: &[u8], at: usize, words: usize) -> Label
-    requires { ⌜ at + labelSize words ≤ length (now line) ⌝ }
+    requires { ⌜ at + labelSize words < 2 ^ 64 ⌝ }
     ensures { λ r. ⌜ r ≡ labelAt words (bodyOf (now (line .entry))) at ⌝ }
 {
     let mut categories = [0u64; WORDS];

@@ -292,8 +292,8 @@ pub(crate) fn value_from(class: u8, b: u8) -> Value
 }
 
 // The label of an entry of a class, its value at index at.
-fn label_from(line: &[u8], class: u8, at: usize, words: usize) -> Label
-    requires { ⌜ (class ≡ 3 → at + labelSize words ≤ length (now line)) ⌝ }
+pub(crate) fn label_from(line: &[u8], class: u8, at: usize, words: usize) -> Label
+    requires { ⌜ at + labelSize words < 2 ^ 64 ⌝ }
     ensures { λ r. ⌜ r ≡ labelFrom words (bodyOf (now (line .entry))) class at ⌝ }
 {
     if class == 3 {
@@ -327,7 +327,7 @@ fn copy_text(line: &[u8], at: usize, n: usize, out: &mut [u8])
 
 // The entry of a layout, its value at index at.
 pub(crate) fn entry_from(line: &[u8], at: usize, p: Layout, words: usize) -> Entry
-    requires { ⌜ (p .class ≡ 3 → at + labelSize words ≤ length (now line)) × (p .name .at < 1024) × (p .abbreviation .at < 1024) ⌝ }
+    requires { ⌜ (at + labelSize words < 2 ^ 64) × (p .name .at < 1024) × (p .abbreviation .at < 1024) ⌝ }
     ensures { λ r. ⌜ r ≡ entryFrom words (bodyOf (now (line .entry))) at p ⌝ }
 {
     let name = p.name;

@@ -1,11 +1,11 @@
 // The parts of the alias entry that stands in a line, read where they stand: for a table of lines that were tested, which is then walked without
 // making entries. These functions are total: in any bytes something stands.
 use crate::body::LINE_WORDS;
-use crate::body::label_at;
 use crate::entry::MAX_ABBREVIATION;
 use crate::entry::MAX_NAME;
 use crate::entry::Span;
 use crate::entry::Value;
+use crate::entry::label_from;
 use crate::entry::layout_at;
 use crate::entry::value_from;
 use label::Label;
@@ -33,10 +33,7 @@ pub fn value(line: &[u8]) -> Value
 pub fn label(line: &[u8]) -> Label
     ensures { λ r. ⌜ r ≡ standingIn (now (line .entry)) .label ⌝ }
 {
-    if frame::byte(line, 1) == 3 {
-        return label_at(line, 2, LINE_WORDS);
-    }
-    label::zero()
+    label_from(line, frame::byte(line, 1), 2, LINE_WORDS)
 }
 
 // Where the name stands in the line's body. The second clause follows, and is stated for callers.

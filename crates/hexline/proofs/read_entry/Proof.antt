@@ -2,14 +2,13 @@ use borrow.Author.Needs.{needs}
 use mathlib.Core.Bool.{_&&_}
 use mathlib.Core.Path.{sym, ap, ap₂, _∙_}
 use native.Mathlib.Omega.{arith}
-use Rattle.label.proofs.BoolLaws.{second-true}
 use Rattle.frame.specs.Frame.{bodyOf}
-use Rattle.frame.proofs.FrameLaws.{body-length, body-small}
+use Rattle.frame.proofs.FrameLaws.{body-small}
 use Rattle.hexline.specs.Body.{lineWords}
 use Rattle.hexline.specs.Entry.{entryFrom, validOf, zeroEntry}
 use Rattle.hexline.specs.Line.{entryForm, entryIn}
 use Rattle.hexline.proofs.EntryLaws.{layout-small}
-use Rattle.hexline.proofs.LineLaws.{bad-contents, bad-form, entry-form-parts, entry-label-room, grants}
+use Rattle.hexline.proofs.LineLaws.{bad-contents, bad-form, grants}
 use Rattle.hexline.proofs.read_entry.Statement.{statement}
 use Rattle.hexline.proofs.read_entry.Tie as tie
 
@@ -24,13 +23,10 @@ has-entry-form-requires c κs = c .before .layout-at .ensures
 
 entry-from-requires : tie.Need-entry-from-requires
 entry-from-requires c κs =
-    let f = c .before in
-    let l = f .before .before in
+    let l = c .before .before .before in
     let line = l .before .before .args .line .now in
-    let form = entry-form-parts 4 lineWords (bodyOf line) (sym (f .has-entry-form .ensures) ∙ second-true (f .before .framed .result) (f .has-entry-form .result) (c .if1 .taken)) in
     let small = layout-small lineWords (bodyOf line) 1 (body-small line) (omega arith) (omega arith) in
-    let n = body-length line in
-    rw (l .layout-at .ensures) ((λ e. omega (arith, entry-label-room 4 lineWords (bodyOf line) form e)), omega (arith, small .name), omega (arith, small .abbreviation))
+    rw (l .layout-at .ensures) (omega arith, omega (arith, small .name), omega (arith, small .abbreviation))
 
 valid-requires : tie.Need-valid-requires
 valid-requires c κs = search needs

@@ -1,14 +1,10 @@
 use borrow.Author.Needs.{needs}
 use mathlib.Core.Bool.{_&&_}
 use mathlib.Core.Path.{sym, ap₂, _∙_}
-use native.Mathlib.Omega.{arith}
 use Rattle.label.specs.Label.{validOf, zeroLabel}
-use Rattle.label.proofs.BoolLaws.{second-true}
-use Rattle.frame.specs.Frame.{bodyOf}
-use Rattle.frame.proofs.FrameLaws.{body-length}
 use Rattle.hexline.specs.Body.{lineWords}
 use Rattle.hexline.specs.Line.{labelForm, labelIn}
-use Rattle.hexline.proofs.LineLaws.{bad-contents, bad-form, form-length, grants}
+use Rattle.hexline.proofs.LineLaws.{bad-contents, bad-form, grants}
 use Rattle.hexline.proofs.read_label.Statement.{statement}
 use Rattle.hexline.proofs.read_label.Tie as tie
 
@@ -19,12 +15,7 @@ has-form-requires : tie.Need-has-form-requires
 has-form-requires c κs = search needs
 
 label-at-requires : tie.Need-label-at-requires
-label-at-requires c κs =
-    let f = c .before in
-    let line = f .before .before .before .args .line .now in
-    let h = form-length (bodyOf line) 34 1 (sym (f .has-form .ensures) ∙ second-true (f .before .framed .result) (f .has-form .result) (c .if1 .taken)) in
-    let n = body-length line in
-    omega arith
+label-at-requires c κs = search needs
 
 valid-requires : tie.Need-valid-requires
 valid-requires c κs = search needs

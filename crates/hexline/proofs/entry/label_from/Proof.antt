@@ -5,7 +5,7 @@ use Rattle.hexline.proofs.entry.label_from.Statement.{statement}
 use Rattle.hexline.proofs.entry.label_from.Tie as tie
 
 label-at-requires : tie.Need-label-at-requires
-label-at-requires c κs = c .before .before .pre (c .if1 .taken)
+label-at-requires c κs = search needs
 
 returns : tie.Need-returns
 unfolding labelFrom

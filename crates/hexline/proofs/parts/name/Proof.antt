@@ -1,0 +1,30 @@
+use borrow.Author.Needs.{needs}
+use mathlib.Core.Path.{ap, _∙_}
+use native.Mathlib.Omega.{arith}
+use Rattle.frame.specs.Frame.{bodyOf}
+use Rattle.frame.proofs.FrameLaws.{body-small}
+use Rattle.hexline.specs.Body.{lineWords}
+use Rattle.hexline.specs.Entry.{atMost, maxName}
+use Rattle.hexline.specs.Line.{nameIn}
+use Rattle.hexline.specs.declared.entry.Layout.{Layout}
+use Rattle.hexline.proofs.EntryLaws.{layout-small}
+use Rattle.hexline.proofs.parts.name.Statement.{statement}
+use Rattle.hexline.proofs.parts.name.Tie as tie
+
+layout-at-requires : tie.Need-layout-at-requires
+layout-at-requires c κs = search needs
+
+at-most-requires : tie.Need-at-most-requires
+at-most-requires c κs = search needs
+
+returns : tie.Need-returns
+unfolding nameIn
+returns c =
+    let l = c .before in
+    let line = l .before .before .args .line .now in
+    let small = layout-small lineWords (bodyOf line) 1 (body-small line) (omega arith) (omega arith) in
+    let e = c .at-most .ensures ∙ ap (λ (p : Layout). atMost maxName (p .name)) (l .layout-at .ensures) in
+    (e, rw e (omega (arith, small .name)))
+
+pub name-spec : {M : Type 1} → statement M
+name-spec = tie.close (tie.spec layout-at-requires at-most-requires returns)
