@@ -29,9 +29,14 @@ calledOf e text = sameBytes (nameBytes e) text || (leb 1 (length (abbreviationBy
 -- whether two values, each with the label beside it, are the same
 unfoldable pub sameValue : Value → Label → Value → Label → Bool
 sameValue (Hierarchy h) l (Hierarchy g) m = eqb h g
+sameValue (Hierarchy h) l (Category d) m = false
+sameValue (Hierarchy h) l WholeLabel m = false
+sameValue (Category c) l (Hierarchy g) m = false
 sameValue (Category c) l (Category d) m = eqb c d
+sameValue (Category c) l WholeLabel m = false
+sameValue WholeLabel l (Hierarchy g) m = false
+sameValue WholeLabel l (Category d) m = false
 sameValue WholeLabel l WholeLabel m = Label.equalOf l m
-sameValue _ l _ m = false
 
 -- whether an entry stands for a value
 unfoldable pub standsFor : Value → Label → Entry → Bool

@@ -12,7 +12,7 @@ use Rattle.hexline.specs.Line.{readEntryOf}
 use Rattle.alias.specs.Lines.{indexedOf, lineAt, linesOf, maxLines}
 use Rattle.alias.specs.Table.{judgedOf}
 use Rattle.alias.specs.declared.LineStarts.{LineStarts}
-use Rattle.alias.specs.declared.lines.Walk.{Walk}
+use Rattle.alias.specs.declared.lines.Walked.{Walked}
 
 -- past the LF of the line that begins at an index, or the end where there is none
 unfoldable pub lineEnd : List ℕ → ℕ → ℕ
@@ -23,9 +23,9 @@ unfoldable pub faultyAt : List (List ℕ) → ℕ → Bool
 faultyAt ls k = leb maxLines k || not (isGranted (readEntryOf (lineAt ls k)))
 
 -- the lines before the first that is bad by itself, and that there is one; or all lines
-abbrev pub stoppedAt : Option ℕ → List (List ℕ) → Walk
+abbrev pub stoppedAt : Option ℕ → List (List ℕ) → Walked
 stoppedAt none ls = record { lines = indexedOf ls; stopped = false }
 stoppedAt (some k) ls = record { lines = indexedOf (take k ls); stopped = true }
 
-unfoldable pub walkOf : Bool → List ℕ → Walk
+unfoldable pub walkOf : Bool → List ℕ → Walked
 walkOf more bytes = stoppedAt (firstFrom (faultyAt (judgedOf more bytes)) 0 (length (judgedOf more bytes))) (linesOf bytes)

@@ -1,49 +1,20 @@
-// The lines of a table: where they begin, and each by its number.
+// The lines of a table: where they begin, and which of them are faulty by themselves.
 use crate::LineStarts;
 use crate::MAX_LINES;
 use crate::MAX_STARTS;
 use label::answer::granted;
 use octets::LF;
 ghost use mathlib.Core.Path.{_≡_};
-ghost use Prim.Native.Nat.{_+_, _-_, _<_};
-ghost use lib.ListN.{drop, getD, length, take};
+ghost use Prim.Native.Nat.{_<_};
+ghost use lib.ListN.{length};
 ghost use Rattle.label.specs.Answer.{isGranted};
 ghost use Rattle.hexline.specs.Line.{readEntryOf};
-ghost use Rattle.alias.specs.Lines.{lineAt, linesBy, partAt};
 ghost use Rattle.alias.specs.Walk.{lineEnd, walkOf};
 
 // The lines of a table before its first line that is faulty, if there is one.
-pub(crate) struct Walk {
+pub(crate) struct Walked {
     pub lines: LineStarts,
     pub stopped: bool,
-}
-
-// The bytes from one index up to another: none where that is before it, and no more than there are.
-fn part(table: &[u8], from: usize, to: usize) -> &[u8]
-    ensures { λ r. ⌜ now r ≡ take (to - from) (drop from (now (table .entry))) ⌝ }
-{
-    let rest = octets::rest(table, from);
-    if to <= from {
-        return &rest[..0];
-    }
-    let n = to - from;
-    if n <= rest.len() {
-        return &rest[..n];
-    }
-    rest
-}
-
-// Line k of a table with these starts, and no bytes where there is no such line.
-pub fn line<'a>(table: &'a [u8], starts: &[usize], k: usize) -> &'a [u8]
-    ensures { λ r. ⌜ now r ≡ lineAt (linesBy (now (table .entry)) (now (starts .entry))) k ⌝ }
-{
-    if starts.len() == 0 {
-        return &table[..0];
-    }
-    if starts.len() - 1 <= k {
-        return &table[..0];
-    }
-    part(table, starts[k], starts[k + 1])
 }
 
 // Past the LF of the line that begins at an index, or the end of the table where it does not end.
@@ -69,7 +40,7 @@ fn accepted(line: &[u8]) -> bool
 }
 
 // Walks the lines up to the first that is faulty by itself: the 513th, one that is no entry, or, where the table is cut off, the one after the last.
-pub(crate) fn walk(table: &[u8], more: bool) -> Walk
+pub(crate) fn walk(table: &[u8], more: bool) -> Walked
     ensures { λ r. ⌜ r ≡ walkOf more (now (table .entry)) ⌝ }
 {
     let mut starts = [0usize; MAX_STARTS];
@@ -91,7 +62,7 @@ pub(crate) fn walk(table: &[u8], more: bool) -> Walk
         }
     }
     let lines = LineStarts { count, starts };
-    Walk {
+    Walked {
         lines,
         stopped: stopped | more,
     }

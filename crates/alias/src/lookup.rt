@@ -1,29 +1,60 @@
 // Look-ups in a table, by its bytes and the starts of its lines, of which there is one more than lines. They are total: of a table that was tested,
 // with the starts that the test gives, they find its entries.
 use crate::Found;
-use crate::lines;
 use crate::names::called;
 use crate::names::stands_for;
 use hexline::entry::Value;
 use label::Label;
 ghost use mathlib.Core.Path.{_≡_};
+ghost use Prim.Native.Nat.{_-_};
+ghost use lib.ListN.{drop, length, take};
 ghost use Rattle.alias.specs.Lines.{entriesBy, lineAt, linesBy};
 ghost use Rattle.alias.specs.Lookup.{findOf, foundOf, lastOf, nextOf};
+
+// How many lines there are.
+pub(crate) fn count(starts: &[usize]) -> usize
+    ensures { λ r. ⌜ r ≡ length (now (starts .entry)) - 1 ⌝ }
+{
+    if starts.len() == 0 {
+        0
+    } else {
+        starts.len() - 1
+    }
+}
+
+// The bytes from one index up to another: none where that is before it, and no more than there are.
+fn part(table: &[u8], from: usize, to: usize) -> &[u8]
+    ensures { λ r. ⌜ now r ≡ take (to - from) (drop from (now (table .entry))) ⌝ }
+{
+    let rest = octets::rest(table, from);
+    if to <= from {
+        return &rest[..0];
+    }
+    let n = to - from;
+    if n <= rest.len() {
+        return &rest[..n];
+    }
+    rest
+}
 
 // The line of entry k, and no bytes where there is no such entry.
 pub fn line<'a>(table: &'a [u8], starts: &[usize], k: usize) -> &'a [u8]
     ensures { λ r. ⌜ now r ≡ lineAt (linesBy (now (table .entry)) (now (starts .entry))) k ⌝ }
 {
-    lines::line(table, starts, k)
+    if count(starts) <= k {
+        return &table[..0];
+    }
+    part(table, starts[k], starts[k + 1])
 }
 
 // The entry that a text names.
 pub fn find(table: &[u8], starts: &[usize], text: &[u8]) -> Found
     ensures { λ r. ⌜ foundOf r ≡ findOf (entriesBy (now (table .entry)) (now (starts .entry))) (now (text .entry)) ⌝ }
 {
+    let n = count(starts);
     let mut k = 0;
-    while k + 1 < starts.len() {
-        if called(lines::line(table, starts, k), text) {
+    while k < n {
+        if called(line(table, starts, k), text) {
             return Found::At(k);
         }
         k += 1;
@@ -35,12 +66,11 @@ pub fn find(table: &[u8], starts: &[usize], text: &[u8]) -> Found
 pub fn next(table: &[u8], starts: &[usize], v: Value, l: Label, from: usize) -> Found
     ensures { λ r. ⌜ foundOf r ≡ nextOf (entriesBy (now (table .entry)) (now (starts .entry))) v l from ⌝ }
 {
+    let n = count(starts);
     let mut k = from;
-    while k < starts.len() {
-        if k + 1 < starts.len() {
-            if stands_for(lines::line(table, starts, k), v, l) {
-                return Found::At(k);
-            }
+    while k < n {
+        if stands_for(line(table, starts, k), v, l) {
+            return Found::At(k);
         }
         k += 1;
     }
@@ -51,17 +81,18 @@ pub fn next(table: &[u8], starts: &[usize], v: Value, l: Label, from: usize) -> 
 pub fn last(table: &[u8], starts: &[usize], v: Value, l: Label) -> Found
     ensures { λ r. ⌜ foundOf r ≡ lastOf (entriesBy (now (table .entry)) (now (starts .entry))) v l ⌝ }
 {
+    let n = count(starts);
     let mut found = Found::Nothing;
     let mut from = 0;
-    while from < starts.len() {
-        let n = next(table, starts, v, l, from);
-        match n {
+    while from < n {
+        let r = next(table, starts, v, l, from);
+        match r {
             Found::At(k) => {
-                found = n;
+                found = r;
                 from = k + 1;
             }
             Found::Nothing => {
-                from = starts.len();
+                from = n;
             }
         }
     }

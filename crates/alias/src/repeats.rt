@@ -1,6 +1,7 @@
 // Names that are repeated in a table.
 use crate::Found;
-use crate::lines::line;
+use crate::lookup::count;
+use crate::lookup::line;
 use crate::names::repeats_itself;
 use crate::names::shares;
 ghost use mathlib.Core.Path.{_≡_};
@@ -39,8 +40,9 @@ fn repeats(table: &[u8], starts: &[usize], k: usize) -> bool
 pub(crate) fn first(table: &[u8], starts: &[usize]) -> Found
     ensures { λ r. ⌜ foundOf r ≡ firstRepeat (entriesBy (now (table .entry)) (now (starts .entry))) ⌝ }
 {
+    let n = count(starts);
     let mut k = 0;
-    while k + 1 < starts.len() {
+    while k < n {
         if repeats(table, starts, k) {
             return Found::At(k);
         }
