@@ -1,0 +1,5 @@
+pub mod Subject
+pub mod Write
+pub mod Read
+pub mod Measure
+pub mod Named

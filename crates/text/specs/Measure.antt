@@ -1,0 +1,44 @@
+-- How long a text is, for functions that are not public: a writer measures a text before it writes it. Assumes nothing.
+use mathlib.Core.Bool.{Bool, true, false, cond}
+use mathlib.Core.List.{List}
+use mathlib.Core.Option.{Option, none, some}
+use mathlib.Core.Path.{_≡_}
+use Prim.Native.Nat.{ℕ, _+_, _*_, _≤_}
+use lib.Dec.{leb}
+use lib.ListN.{length}
+use Rattle.label.specs.Answer.{Answer, granted, refused}
+use Rattle.label.specs.Words.{words}
+use Rattle.hexline.specs.Entry.{maxName}
+use Rattle.hexline.specs.Line.{abbreviationIn, nameIn}
+use Rattle.hexline.specs.declared.entry.Span.{Span}
+use Rattle.text.specs.declared.Variant.{Variant}
+use Rattle.text.specs.declared.Variant.the-variants.{Names, Abbreviations}
+use Rattle.text.specs.declared.name.Measure.{Measure}
+use Rattle.text.specs.declared.name.Measure.the-variants.{Bytes, Missing}
+
+-- what the enum Measure says
+abbrev pub measureOf : Measure → Option ℕ
+measureOf (Bytes n) = some n
+measureOf Missing = none
+
+-- what is answered of a text of a measure where a buffer has room for so many bytes
+abbrev pub roomOf : Option ℕ → ℕ → Answer ℕ
+roomOf none room = refused 2 none
+roomOf (some n) room = cond (leb n room) (granted n) (refused 7 (some n))
+
+-- where the name that is written stands in the line of an entry
+unfoldable pub writtenIn : Variant → List ℕ → Span
+writtenIn Names line = nameIn line
+writtenIn Abbreviations line = cond (leb 1 (abbreviationIn line .length)) (abbreviationIn line) (nameIn line)
+
+-- the most bytes of the names of categories with their marks, and of a label
+abbrev pub maxCategories : ℕ
+maxCategories = words * 64 * (1 + maxName)
+
+abbrev pub maxLabel : ℕ
+maxLabel = maxName + maxCategories
+
+-- r is the length of a text where all its names are there. The second follows, and is stated for callers
+pub record Counted (isNamed : Bool) (text : List ℕ) (most : ℕ) (r : Measure) : Type 0 where
+  pub measure : measureOf r ≡ cond isNamed (some (length text)) none
+  pub at-most : (n : ℕ) → r ≡ Bytes n → n ≤ most

@@ -1,0 +1,24 @@
+-- Document 01, "Names and text": who asks, and the table that is asked. Assumes nothing.
+use mathlib.Core.Bool.{Bool, _||_}
+use mathlib.Core.List.{List}
+use Prim.Native.Nat.{ℕ}
+use Rattle.label.specs.Answer.{Answer, andThen}
+use Rattle.label.specs.Label
+use Rattle.label.specs.declared.Label.{Label}
+use Rattle.hexline.specs.declared.entry.Entry.{Entry}
+use Rattle.alias.specs.Lines.{entriesOf, linesOf}
+use Rattle.alias.specs.Table.{checkOf}
+use Rattle.alias.specs.declared.LineStarts.{LineStarts}
+use Rattle.text.specs.declared.Subject.{Subject}
+
+-- a subject is bad when its label is invalid
+abbrev pub subjectValid : Subject → Bool
+subjectValid s = Label.validOf (s .label)
+
+-- whether a subject may see a label: its own label dominates that, or it has the read override
+unfoldable pub seesOf : Subject → Label → Bool
+seesOf s l = s .«read_override» || Label.dominatesOf (s .label) l
+
+-- what is answered of the entries of a table; a bad table is refused before all else
+abbrev pub withTable : {A : Type 0} → Bool → List ℕ → (List Entry → Answer A) → Answer A
+withTable more table answer = andThen (checkOf more table) (λ (x : LineStarts). answer (entriesOf (linesOf table)))

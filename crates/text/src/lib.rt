@@ -1,0 +1,50 @@
+// Labels and ranges as text, by the names of an alias table. Each function tests the table that it is lent, then the rest of what it is handed; a
+// refusal writes nothing. `more` says that the table is cut off, and more follows.
+mod name;
+pub mod read;
+pub mod write;
+
+use label::Label;
+use label::answer::Written;
+use label::components;
+ghost use mathlib.Core.Path.{_≡_};
+ghost use Rattle.text.specs.Subject.{seesOf};
+
+// Whether hierarchy and categories are named, or a whole label where it has a name.
+pub enum Form {
+    Definition,
+    Alias,
+}
+
+// Which name of an entry is written: the abbreviation only where it is not empty.
+pub enum Variant {
+    Names,
+    Abbreviations,
+}
+
+pub struct Style {
+    pub form: Form,
+    pub variant: Variant,
+}
+
+// Who asks.
+pub struct Subject {
+    pub label: Label,
+    pub read_override: bool,
+}
+
+// The status of a range that was written, 0 or 1, stands beside its length; beside a refusal it is 0.
+pub struct RangeWritten {
+    pub status: u8,
+    pub written: Written,
+}
+
+// Whether a subject may see a label.
+pub(crate) fn sees(s: Subject, l: Label) -> bool
+    ensures { λ r. ⌜ r ≡ seesOf s l ⌝ }
+{
+    let own = s.label;
+    let x = own.categories;
+    let y = l.categories;
+    s.read_override | components::dominates(own.hierarchy, x, l.hierarchy, y)
+}

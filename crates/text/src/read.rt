@@ -1,0 +1,316 @@
+// Labels and ranges read from text. Whatever is wrong with a text is the same plain 22.
+use crate::Subject;
+use crate::sees;
+use alias::Found;
+use alias::lookup;
+use hexline::entry::Value;
+use hexline::parts;
+use label::Label;
+use label::LabelAnswer;
+use label::answer::Outcome;
+use label::components;
+use label::errno::Errno;
+use label::words;
+use label::words::WORDS;
+use octets::BLANK;
+use range::Range;
+use range::RangeAnswer;
+ghost use mathlib.Core.Path.{_≡_};
+ghost use Rattle.label.specs.Answer.{Answered};
+ghost use Rattle.label.specs.Label.{zeroLabel};
+ghost use Rattle.range.specs.Range.{zeroRange};
+ghost use Rattle.octets.specs.Bytes.{split};
+ghost use Rattle.alias.specs.Lines.{entriesBy};
+ghost use Rattle.text.specs.Named.{addedTo, valueNamed, valueNamedOf};
+ghost use Rattle.text.specs.Read.{beginsWith, categoriesRead, composedOf, endsOf, labelIn, labelNamed, labelSeen, noCategories, plain, rangeFrom, readLabelOf, readRangeOf};
+ghost use Rattle.text.specs.Subject.{withTable};
+ghost use Rattle.text.specs.Write.{comma};
+
+// What a name stands for.
+enum Named {
+    As(Value),
+    Nothing,
+}
+
+// A set of categories stands beside its outcome; beside a refusal it is empty.
+struct SetAnswer {
+    outcome: Outcome,
+    categories: [u64; WORDS],
+}
+
+fn no_label() -> LabelAnswer
+    ensures { λ r. ⌜ Answered (r .outcome) (r .label) zeroLabel plain ⌝ }
+{
+    LabelAnswer {
+        outcome: Outcome::Refused(Errno::Invalid),
+        label: label::zero(),
+    }
+}
+
+fn no_range() -> RangeAnswer
+    ensures { λ r. ⌜ Answered (r .outcome) (r .range) zeroRange plain ⌝ }
+{
+    RangeAnswer {
+        outcome: Outcome::Refused(Errno::Invalid),
+        range: range::zero(),
+    }
+}
+
+fn no_set() -> SetAnswer
+    ensures { λ r. ⌜ Answered (r .outcome) (r .categories) noCategories plain ⌝ }
+{
+    let categories = [0u64; WORDS];
+    SetAnswer {
+        outcome: Outcome::Refused(Errno::Invalid),
+        categories,
+    }
+}
+
+// The value that a text names.
+fn value_named(table: &[u8], starts: &[usize], text: &[u8]) -> Named
+    ensures { λ r. ⌜ valueNamedOf r ≡ valueNamed (entriesBy (now (table .entry)) (now (starts .entry))) (now (text .entry)) ⌝ }
+{
+    let found = lookup::find(table, starts, text);
+    match found {
+        Found::At(k) => Named::As(parts::value(lookup::line(table, starts, k))),
+        Found::Nothing => Named::Nothing,
+    }
+}
+
+// The label that one name says.
+fn label_named(table: &[u8], starts: &[usize], text: &[u8]) -> LabelAnswer
+    ensures { λ r. ⌜ Answered (r .outcome) (r .label) zeroLabel (labelNamed (entriesBy (now (table .entry)) (now (starts .entry))) (now (text .entry))) ⌝ }
+{
+    let found = lookup::find(table, starts, text);
+    let Found::At(k) = found else {
+        return no_label();
+    };
+    let line = lookup::line(table, starts, k);
+    let v = parts::value(line);
+    match v {
+        Value::Hierarchy(h) => {
+            let categories = [0u64; WORDS];
+            let l = Label {
+                hierarchy: h,
+                categories,
+            };
+            LabelAnswer {
+                outcome: Outcome::Granted,
+                label: l,
+            }
+        }
+        Value::Category(_) => no_label(),
+        Value::WholeLabel => LabelAnswer {
+            outcome: Outcome::Granted,
+            label: parts::label(line),
+        },
+    }
+}
+
+// The set with the category that a text names, which it must not have yet.
+fn add_category(table: &[u8], starts: &[usize], set: [u64; WORDS], name: &[u8]) -> SetAnswer
+    ensures { λ r. ⌜ Answered (r .outcome) (r .categories) noCategories (addedTo (entriesBy (now (table .entry)) (now (starts .entry))) set (now (name .entry))) ⌝ }
+{
+    let named = value_named(table, starts, name);
+    let Named::As(v) = named else {
+        return no_set();
+    };
+    let Value::Category(c) = v else {
+        return no_set();
+    };
+    let one = words::single(c);
+    if words::includes(set, one) {
+        return no_set();
+    }
+    SetAnswer {
+        outcome: Outcome::Granted,
+        categories: words::union(set, one),
+    }
+}
+
+// The set of the categories that names joined by `,` stand for.
+fn read_categories(table: &[u8], starts: &[usize], names: &[u8]) -> SetAnswer
+    ensures { λ r. ⌜ Answered (r .outcome) (r .categories) noCategories (categoriesRead (entriesBy (now (table .entry)) (now (starts .entry))) noCategories (split comma (now (names .entry)))) ⌝ }
+{
+    let mut set = [0u64; WORDS];
+    let mut at = 0;
+    while at <= names.len() {
+        let rest = octets::rest(names, at);
+        let n = octets::index_of(b',', rest);
+        let added = add_category(table, starts, set, &rest[..n]);
+        let outcome = added.outcome;
+        let Outcome::Granted = outcome else {
+            return no_set();
+        };
+        set = added.categories;
+        at = at + n + 1;
+    }
+    SetAnswer {
+        outcome: Outcome::Granted,
+        categories: set,
+    }
+}
+
+// The label of a hierarchy's name and the names of categories.
+fn composed(table: &[u8], starts: &[usize], name: &[u8], names: &[u8]) -> LabelAnswer
+    ensures { λ r. ⌜ Answered (r .outcome) (r .label) zeroLabel (composedOf (entriesBy (now (table .entry)) (now (starts .entry))) (now (name .entry)) (now (names .entry))) ⌝ }
+{
+    let named = value_named(table, starts, name);
+    let Named::As(v) = named else {
+        return no_label();
+    };
+    let Value::Hierarchy(h) = v else {
+        return no_label();
+    };
+    let read = read_categories(table, starts, names);
+    let outcome = read.outcome;
+    let Outcome::Granted = outcome else {
+        return no_label();
+    };
+    let categories = read.categories;
+    let l = Label {
+        hierarchy: h,
+        categories,
+    };
+    LabelAnswer {
+        outcome: Outcome::Granted,
+        label: l,
+    }
+}
+
+// The label that a text says.
+fn label_in(table: &[u8], starts: &[usize], text: &[u8]) -> LabelAnswer
+    ensures { λ r. ⌜ Answered (r .outcome) (r .label) zeroLabel (labelIn (entriesBy (now (table .entry)) (now (starts .entry))) (now (text .entry))) ⌝ }
+{
+    let i = octets::index_of(b':', text);
+    if i < text.len() {
+        return composed(table, starts, &text[..i], &text[i + 1..]);
+    }
+    label_named(table, starts, text)
+}
+
+// The label that a text says, where the subject may see it.
+fn label_seen(table: &[u8], starts: &[usize], s: Subject, text: &[u8]) -> LabelAnswer
+    ensures { λ r. ⌜ Answered (r .outcome) (r .label) zeroLabel (labelSeen (entriesBy (now (table .entry)) (now (starts .entry))) s (now (text .entry))) ⌝ }
+{
+    let l = label_in(table, starts, text);
+    let outcome = l.outcome;
+    let Outcome::Granted = outcome else {
+        return no_label();
+    };
+    if sees(s, l.label) {
+        return l;
+    }
+    no_label()
+}
+
+// Reads a label by a table that was tested.
+fn read_checked(table: &[u8], starts: &[usize], s: Subject, text: &[u8]) -> LabelAnswer
+    ensures { λ r. ⌜ Answered (r .outcome) (r .label) zeroLabel (readLabelOf (entriesBy (now (table .entry)) (now (starts .entry))) s (now (text .entry))) ⌝ }
+{
+    if label::valid(s.label) {
+        return label_seen(table, starts, s, text);
+    }
+    no_label()
+}
+
+// Reads a label from a text.
+pub fn read_label(table: &[u8], more: bool, s: Subject, text: &[u8]) -> LabelAnswer
+    ensures { λ r. ⌜ Answered (r .outcome) (r .label) zeroLabel (withTable more (now (table .entry)) (λ es. readLabelOf es s (now (text .entry)))) ⌝ }
+{
+    let t = alias::check(table, more);
+    let outcome = t.outcome;
+    match outcome {
+        Outcome::Refused(_) => LabelAnswer {
+            outcome,
+            label: label::zero(),
+        },
+        Outcome::Granted => {
+            let lines = t.lines;
+            let starts = lines.starts;
+            let n = lines.count + 1;
+            read_checked(table, &starts[..n], s, text)
+        }
+    }
+}
+
+fn begins_with(marker: &[u8], text: &[u8]) -> bool
+    ensures { λ r. ⌜ r ≡ beginsWith (now (marker .entry)) (now (text .entry)) ⌝ }
+{
+    let n = marker.len();
+    if text.len() < n {
+        return false;
+    }
+    octets::same(&text[..n], marker)
+}
+
+// The range of a low end and the text of a high end.
+fn range_from(table: &[u8], starts: &[usize], s: Subject, low: Label, text: &[u8]) -> RangeAnswer
+    ensures { λ r. ⌜ Answered (r .outcome) (r .range) zeroRange (rangeFrom (entriesBy (now (table .entry)) (now (starts .entry))) s low (now (text .entry))) ⌝ }
+{
+    let end = label_seen(table, starts, s, text);
+    let outcome = end.outcome;
+    let Outcome::Granted = outcome else {
+        return no_range();
+    };
+    let high = end.label;
+    let x = high.categories;
+    let y = low.categories;
+    if components::dominates(high.hierarchy, x, low.hierarchy, y) {
+        return RangeAnswer {
+            outcome: Outcome::Granted,
+            range: Range { low, high },
+        };
+    }
+    no_range()
+}
+
+// The range of a text behind its first marker: the low end first, and its refusal where it gives no label.
+fn ends(table: &[u8], starts: &[usize], s: Subject, text: &[u8]) -> RangeAnswer
+    ensures { λ r. ⌜ Answered (r .outcome) (r .range) zeroRange (endsOf (entriesBy (now (table .entry)) (now (starts .entry))) s (now (text .entry))) ⌝ }
+{
+    let n = octets::index_of(BLANK, text);
+    let low = label_seen(table, starts, s, &text[..n]);
+    let outcome = low.outcome;
+    let Outcome::Granted = outcome else {
+        return RangeAnswer {
+            outcome,
+            range: range::zero(),
+        };
+    };
+    let rest = &text[n..];
+    if !begins_with(b" -H ", rest) {
+        return no_range();
+    }
+    range_from(table, starts, s, low.label, octets::rest(rest, 4))
+}
+
+// Reads a range by a table that was tested.
+fn read_range_checked(table: &[u8], starts: &[usize], s: Subject, text: &[u8]) -> RangeAnswer
+    ensures { λ r. ⌜ Answered (r .outcome) (r .range) zeroRange (readRangeOf (entriesBy (now (table .entry)) (now (starts .entry))) s (now (text .entry))) ⌝ }
+{
+    if label::valid(s.label) & begins_with(b"-L ", text) {
+        return ends(table, starts, s, octets::rest(text, 3));
+    }
+    no_range()
+}
+
+// Reads a range from a text.
+pub fn read_range(table: &[u8], more: bool, s: Subject, text: &[u8]) -> RangeAnswer
+    ensures { λ r. ⌜ Answered (r .outcome) (r .range) zeroRange (withTable more (now (table .entry)) (λ es. readRangeOf es s (now (text .entry)))) ⌝ }
+{
+    let t = alias::check(table, more);
+    let outcome = t.outcome;
+    match outcome {
+        Outcome::Refused(_) => RangeAnswer {
+            outcome,
+            range: range::zero(),
+        },
+        Outcome::Granted => {
+            let lines = t.lines;
+            let starts = lines.starts;
+            let n = lines.count + 1;
+            read_range_checked(table, &starts[..n], s, text)
+        }
+    }
+}
