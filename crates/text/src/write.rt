@@ -48,7 +48,7 @@ fn measure_categories(
 {
     let mut total = 0;
     let mut c: u64 = 0;
-    while c < CATEGORI(entriesBy(now(table.entry))(now(starts.entry))) {
+    while c < CATEGORIES {
         let next = words::next(categories, c);
         match next {
             Found::At(k) => {
@@ -111,7 +111,7 @@ fn put_categories(
     let mut past = at;
     let mut mark = b':';
     let mut c: u64 = 0;
-    while c < CATEGORI(entriesBy(now(table.entry))(now(starts.entry))) {
+    while c < CATEGORIES {
         let next = words::next(categories, c);
         match next {
             Found::At(k) => {
@@ -141,7 +141,8 @@ fn measure_definition(table: &[u8], starts: &[usize], v: Variant, l: Label) -> M
     let Measure::Bytes(m) = hierarchy else {
         return Measure::Missing;
     };
-    let categories = measure_categories(table, starts, v, l.categories);
+    let set = l.categories;
+    let categories = measure_categories(table, starts, v, set);
     let Measure::Bytes(n) = categories else {
         return Measure::Missing;
     };
@@ -168,7 +169,8 @@ fn put_definition(
         out,
         at,
     );
-    put_categories(table, starts, v, l.categories, out, past)
+    let set = l.categories;
+    put_categories(table, starts, v, set, out, past)
 }
 
 // How long the text of a label is.
