@@ -1,34 +1,19 @@
 -- Fields and the numbers in them, as a loop over a line's body meets them. Assumes nothing.
-use mathlib.Core.Bool.{Bool, true, false, cond}
+use mathlib.Core.Bool.{true, false}
 use mathlib.Core.List.{List, [], _∷_, _++_, append-assoc, append-nil}
 use mathlib.Core.Option.{Option, none, some}
 use mathlib.Core.Path.{_≡_, refl, sym, ap, _∙_}
-use Prim.Native.Nat.{ℕ, zero, suc, _+_, _-_, _≤_, _<_}
+use Prim.Native.Nat.{ℕ, suc, _+_, _-_, _≤_, _<_}
 use native.Mathlib.Numerals.{add-one}
 use native.Mathlib.Omega.{arith}
-use lib.Dec.{eqb, leb}
+use lib.Dec.{leb}
 use lib.ListN.{drop, length, replicate, set, take, drop-of-length-le, length-append, take-append-drop}
 use lib.Seq.{drop-cons, drop-drop, drop-set-lt, length-take-le, take-suc-set}
 use borrow.Author.Tests.{eq-eqb, le-leb, lt-leb, ne-eqb}
-use Rattle.console.specs.Bytes.{blank, indexOf, lf}
-use Rattle.console.specs.Command.{bodyCommandOf, bodyOf, commandOf, consOf, endedOf, invalid, most, numberOf, numbersOf, ofNumbers, onFirst, split, wordOf}
+use Rattle.octets.specs.Bytes.{blank, indexOf, lf}
+use Rattle.octets.proofs.ByteLaws.{fieldsFrom, split-first}
+use Rattle.console.specs.Command.{bodyCommandOf, bodyOf, commandOf, consOf, endedOf, invalid, most, numberOf, numbersOf, ofNumbers, wordOf}
 use Rattle.console.specs.declared.command.Command.{Command}
-
--- the fields behind the first, from the b that ends it
-abbrev pub fieldsFrom : ℕ → List ℕ → List (List ℕ)
-fieldsFrom b [] = []
-fieldsFrom b (x ∷ xs) = split b xs
-
--- the first field ends at the first b
-pub split-first : (b : ℕ) (xs : List ℕ) → split b xs ≡ take (indexOf b xs) xs ∷ fieldsFrom b (drop (indexOf b xs) xs)
-unfolding split indexOf
-split-first b [] = refl
-split-first b (x ∷ xs) = pick (eqb x b) (split-first b xs)
-  where
-    pick : (t : Bool) → split b xs ≡ take (indexOf b xs) xs ∷ fieldsFrom b (drop (indexOf b xs) xs)
-        → cond t ([] ∷ split b xs) (onFirst x (split b xs)) ≡ take (cond t zero (suc (indexOf b xs))) (x ∷ xs) ∷ fieldsFrom b (drop (cond t zero (suc (indexOf b xs))) (x ∷ xs))
-    pick true ih = refl
-    pick false ih = ap (onFirst x) ih
 
 -- the word, from the two indexes that end it
 pub word-from : (line : List ℕ) (end n : ℕ) → end ≡ indexOf lf line → n ≡ indexOf blank (take end line) → take n (take end line) ≡ wordOf line

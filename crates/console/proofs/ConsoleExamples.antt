@@ -6,20 +6,14 @@ use mathlib.Core.Path.{_≡_, refl}
 use Prim.Native.Nat.{ℕ, _-_, _^_}
 use lib.ListN.{replicate}
 use Rattle.label.specs.declared.errno.Errno.the-variants.{TooBig, Invalid}
-use Rattle.console.specs.Bytes.{blank, indexOf, lf, putAt, sameBytes}
-use Rattle.console.specs.Command.{bodyCommandOf, bodyOf, commandOf, digits, endedOf, invalid, numberOf, numbersOf, skippedOf, split, valueFrom, withNumbers, wordOf}
+use Rattle.octets.specs.Bytes.{blank, indexOf, lf, putAt, split}
+use Rattle.octets.proofs.OctetsExamples.{abc, zeros}
+use Rattle.console.specs.Command.{bodyCommandOf, bodyOf, commandOf, digits, endedOf, invalid, numberOf, numbersOf, skippedOf, valueFrom, withNumbers, wordOf}
 use Rattle.console.specs.Lines.{bufferOf, fitsOf, held, lastOf, piece, pieceOf, skipped}
-use Rattle.console.specs.Text.{appendedOf, carriedText, decimalIn, decimalOf, errorText, errorWord, pastOf, refusalText}
+use Rattle.console.specs.Text.{carriedText, decimalIn, decimalOf, errorText, errorWord, refusalText}
 use Rattle.console.specs.declared.lines.Line.the-variants.{More, Whole, Bad}
 
--- a, b, c
-abbrev abc : List ℕ
-abc = 97 ∷ 98 ∷ 99 ∷ []
-
 -- ---- lines, in a buffer of 5 bytes
-
-abbrev zeros : List ℕ
-zeros = replicate 5 0
 
 -- `abc` and its LF, and a byte of the next line
 whole-piece : pieceOf (abc ++ (lf ∷ 97 ∷ [])) 7 5 (held 0) ≡ piece 11 (held 0) (Whole 4)
@@ -129,10 +123,6 @@ words : (wordOf (abc ++ (blank ∷ 49 ∷ lf ∷ [])) ≡ abc) × (wordOf (abc +
 unfolding wordOf bodyOf indexOf split
 words = (refl, refl, refl)
 
-same-word : (sameBytes abc abc ≡ true) × (sameBytes abc (97 ∷ 98 ∷ []) ≡ false)
-unfolding sameBytes
-same-word = (refl, refl)
-
 -- an empty line and a comment are skipped; a word, and no bytes at all, are not
 skips : (skippedOf (lf ∷ []) ≡ true) × (skippedOf (35 ∷ abc) ≡ true) × (skippedOf abc ≡ false) × (skippedOf [] ≡ false)
 unfolding skippedOf
@@ -153,12 +143,3 @@ error-22 = refl
 error-7 : errorText (TooBig 40) ≡ 101 ∷ 114 ∷ 114 ∷ 111 ∷ 114 ∷ 32 ∷ 55 ∷ 32 ∷ 52 ∷ 48 ∷ 10 ∷ []
 unfolding errorText refusalText errorWord carriedText decimalOf decimalIn
 error-7 = refl
-
--- three bytes at index 2 of five fit, at index 3 they do not
-fits : (appendedOf zeros 2 abc ≡ 0 ∷ 0 ∷ abc) × (pastOf 5 2 abc ≡ 5)
-unfolding appendedOf pastOf putAt
-fits = (refl, refl)
-
-left-out : (appendedOf zeros 3 abc ≡ zeros) × (pastOf 5 3 abc ≡ 3)
-unfolding appendedOf pastOf
-left-out = (refl, refl)

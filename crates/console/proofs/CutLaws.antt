@@ -10,11 +10,11 @@ use lib.ListN.{length, take, length-append}
 use lib.Seq.{take-all, take-append-add}
 use borrow.Author.Tests.{le-leb, le-ltb, lt-ltb, ltb-true}
 use Rattle.label.proofs.BoolLaws.{both, first-true, not-so, same-truth}
-use Rattle.console.specs.Bytes.{indexOf, lf, putAt}
+use Rattle.octets.specs.Bytes.{indexOf, lf, putAt}
+use Rattle.octets.proofs.ByteLaws.{index-append, put-length, put-put}
 use Rattle.console.specs.Lines.{bufferOf, fitsOf, held, pieceBy, pieceOf, skipped}
 use Rattle.console.specs.declared.lines.Partial.{Partial}
 use Rattle.console.specs.declared.lines.Piece.{Piece}
-use Rattle.console.proofs.ByteLaws.{index-append, put-length, put-put}
 use Rattle.console.proofs.LineLaws.{fits-within}
 
 -- fewer bytes fit too

@@ -1,4 +1,3 @@
-pub mod ByteLaws
 pub mod LineLaws
 pub mod CutLaws
 pub mod NumberLaws

@@ -9,13 +9,13 @@ use lib.ListN.{drop, length, take, length-drop, length-take}
 use lib.Seq.{length-take-le, take-all}
 use borrow.Author.Tests.{le-ltb, leb-true, lt-ltb, ltb-false, ltb-true}
 use Rattle.label.proofs.BoolLaws.{second-true}
-use Rattle.console.specs.Bytes.{Put, indexOf, lf, putAt}
+use Rattle.octets.specs.Bytes.{Appended, indexOf, lf, putAt}
+use Rattle.octets.proofs.ByteLaws.{appended-put, index-le, put-length}
 use Rattle.console.specs.Lines.{Taken, bufferOf, fitsOf, held, piece, pieceBy, pieceOf, skipped}
 use Rattle.console.specs.declared.lines.Line.{Line}
 use Rattle.console.specs.declared.lines.Line.the-variants.{More, Whole, Bad}
 use Rattle.console.specs.declared.lines.Partial.{Partial}
 use Rattle.console.specs.declared.lines.Piece.{Piece}
-use Rattle.console.proofs.ByteLaws.{index-le, put-length}
 
 -- what fits is within the buffer
 pub fits-within : (p : Partial) (n size : ℕ) → fitsOf p n size ≡ true → p .length + (n + 1) ≤ size
@@ -104,7 +104,7 @@ pub record Tested (chunk : List ℕ) (from : ℕ) (buffer : List ℕ) (p : Parti
   pub room : b ≡ leb (p .length + (n + 1)) (length buffer)
 
 module _ {chunk : List ℕ} {from : ℕ} {buffer : List ℕ} {p : Partial} {xs : List ℕ} {n : ℕ} {b : Bool} (s : Tested chunk from buffer p xs n b) where
-  pub room-for : (not (p .long) && b) ≡ true → p .length + (n + 1) ≤ length buffer
+  room-for : (not (p .long) && b) ≡ true → p .length + (n + 1) ≤ length buffer
   room-for e = leb-true (p .length + (n + 1)) (length buffer) (sym (s .room) ∙ second-true (not (p .long)) b e)
 
   pub bytes-length : length xs ≡ length chunk - from
@@ -117,23 +117,27 @@ module _ {chunk : List ℕ} {from : ℕ} {buffer : List ℕ} {p : Partial} {xs :
       taken chunk from buffer p r after (rw (← s .bytes, ← s .index, d, ← s .room, e) g) (rw (← s .bytes, ← s .index, ← s .room, e) h)
 
   pub taken-whole : {r : Piece} {q : Partial} {size : ℕ} {after : List ℕ} → n < length xs → (not (p .long) && b) ≡ true → r ≡ piece (from + (n + 1)) q (Whole size) → q ≡ held 0
-      → Put buffer (p .length) (take (n + 1) xs) size after → Taken chunk from buffer p r after
+      → Appended buffer (p .length) (take (n + 1) xs) size after → Taken chunk from buffer p r after
   taken-whole {r} {q} {size} {after} l e a z h =
       let k = length-take-le (n + 1) xs (omega arith) in
-      let w : size ≡ p .length + n + 1 = h .past ∙ omega arith in
-      by-tests true true r after (lt-ltb n (length xs) l) e (a ∙ pieces (omega arith) z (ap Whole w)) (h .written)
+      let m = room-for e in
+      let put = appended-put (omega arith) h in
+      let w : size ≡ p .length + n + 1 = put .past ∙ omega arith in
+      by-tests true true r after (lt-ltb n (length xs) l) e (a ∙ pieces (omega arith) z (ap Whole w)) (put .written)
 
   pub taken-bad : {r : Piece} {q : Partial} → n < length xs → (not (p .long) && b) ≡ false → r ≡ piece (from + (n + 1)) q Bad → q ≡ held 0 → Taken chunk from buffer p r buffer
   taken-bad {r} l e a z = by-tests true false r buffer (lt-ltb n (length xs) l) e (a ∙ pieces (omega arith) z refl) refl
 
   pub taken-more : {r : Piece} {q : Partial} {size : ℕ} {after : List ℕ} → length xs ≤ n → (not (p .long) && b) ≡ true → r ≡ piece (from + n) q More → q ≡ held size
-      → Put buffer (p .length) xs size after → Taken chunk from buffer p r after
+      → Appended buffer (p .length) xs size after → Taken chunk from buffer p r after
   taken-more {r} {q} {size} {after} l e a z h =
       let i = index-le lf xs in
       let k : take (n + 1) xs ≡ xs = take-all (n + 1) xs (omega arith) in
       let j = s .index in
-      let w : size ≡ p .length + n = h .past ∙ omega arith in
-      by-tests false true r after (le-ltb n (length xs) l) e (a ∙ pieces refl (z ∙ ap held w) refl) (rw k (h .written))
+      let m = room-for e in
+      let put = appended-put (omega arith) h in
+      let w : size ≡ p .length + n = put .past ∙ omega arith in
+      by-tests false true r after (le-ltb n (length xs) l) e (a ∙ pieces refl (z ∙ ap held w) refl) (rw k (put .written))
 
   pub taken-long : {r : Piece} → length xs ≤ n → (not (p .long) && b) ≡ false → r ≡ piece (from + n) skipped More → Taken chunk from buffer p r buffer
   taken-long {r} l e a = by-tests false false r buffer (le-ltb n (length xs) l) e a refl

@@ -5,7 +5,7 @@ use mathlib.Core.Option.{Option, none, some}
 use Prim.Native.Nat.{ℕ, _+_, _-_, _*_, _^_}
 use lib.Dec.{eqb, leb, ltb}
 use lib.ListN.{length, replicate, take}
-use Rattle.console.specs.Bytes.{blank, indexOf, lf}
+use Rattle.octets.specs.Bytes.{blank, firstOf, indexOf, lf, othersOf, split}
 use Rattle.console.specs.declared.command.Command.{Command}
 use Rattle.console.specs.declared.command.Number.{Number}
 use Rattle.console.specs.declared.command.Number.the-variants.{Value, Bad}
@@ -46,24 +46,6 @@ consOf (some n) (some ns) = some (n ∷ ns)
 unfoldable pub numbersOf : List (List ℕ) → Option (List ℕ)
 numbersOf [] = some []
 numbersOf (f ∷ fs) = consOf (numberOf f) (numbersOf fs)
-
--- x in front of the first field
-abbrev pub onFirst : ℕ → List (List ℕ) → List (List ℕ)
-onFirst x [] = []
-onFirst x (f ∷ fs) = (x ∷ f) ∷ fs
-
--- xs cut into fields at each b: one field more than there are b's
-unfoldable pub split : ℕ → List ℕ → List (List ℕ)
-split b [] = [] ∷ []
-split b (x ∷ xs) = cond (eqb x b) ([] ∷ split b xs) (onFirst x (split b xs))
-
-abbrev pub firstOf : List (List ℕ) → List ℕ
-firstOf [] = []
-firstOf (f ∷ fs) = f
-
-abbrev pub othersOf : List (List ℕ) → List (List ℕ)
-othersOf [] = []
-othersOf (f ∷ fs) = fs
 
 -- the line's bytes before its first LF, or all of them where there is none
 unfoldable pub bodyOf : List ℕ → List ℕ

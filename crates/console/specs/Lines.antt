@@ -5,7 +5,7 @@ use mathlib.Core.Path.{_≡_}
 use Prim.Native.Nat.{ℕ, _+_, _≤_, max, min}
 use lib.Dec.{leb, ltb}
 use lib.ListN.{drop, length, take}
-use Rattle.console.specs.Bytes.{indexOf, lf, putAt}
+use Rattle.octets.specs.Bytes.{indexOf, lf, putAt}
 use Rattle.console.specs.declared.lines.Line.{Line}
 use Rattle.console.specs.declared.lines.Line.the-variants.{More, Whole, Bad}
 use Rattle.console.specs.declared.lines.Partial.{Partial}

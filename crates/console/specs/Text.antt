@@ -3,12 +3,12 @@ use mathlib.Core.Bool.{cond}
 use mathlib.Core.List.{List, [], _∷_, _++_}
 use mathlib.Core.Option.{Option, none, some}
 use mathlib.Core.Path.{_≡_}
-use Prim.Native.Nat.{ℕ, zero, suc, _+_, _/_, _%_, _≤_, max, min}
-use lib.Dec.{leb, ltb}
-use lib.ListN.{length, take}
+use Prim.Native.Nat.{ℕ, zero, suc, _+_, _/_, _%_, _≤_}
+use lib.Dec.{ltb}
+use lib.ListN.{length}
 use Rattle.label.specs.Errno.{detailOf, numberOf}
 use Rattle.label.specs.declared.errno.Errno.{Errno}
-use Rattle.console.specs.Bytes.{blank, lf, putAt}
+use Rattle.octets.specs.Bytes.{blank, lf}
 
 -- the byte of a decimal digit
 abbrev pub digit : ℕ → ℕ
@@ -39,23 +39,6 @@ refusalText n carried = errorWord ++ decimalOf n ++ carriedText carried ++ (lf �
 -- the line that answers a refusal
 unfoldable pub errorText : Errno → List ℕ
 errorText e = refusalText (numberOf e) (detailOf e)
-
--- the index past the bytes bs at index at of a buffer of size bytes, or at where they do not fit
-unfoldable pub pastOf : ℕ → ℕ → List ℕ → ℕ
-pastOf size at bs = cond (leb (at + length bs) size) (at + length bs) at
-
--- out with the bytes bs from index at on, or as it was where they do not fit
-unfoldable pub appendedOf : List ℕ → ℕ → List ℕ → List ℕ
-appendedOf out at bs = cond (leb (at + length bs) (length out)) (putAt out at bs) out
-
--- r and the buffer `after` are what appending the bytes bs makes. The last three follow, and are stated for callers: r is an index of the
--- buffer, if at is one
-pub record Appended (out : List ℕ) (at : ℕ) (bs : List ℕ) (r : ℕ) (after : List ℕ) : Type 0 where
-  pub past : r ≡ pastOf (length out) at bs
-  pub written : after ≡ appendedOf out at bs
-  pub same-length : length after ≡ length out
-  pub within : r ≤ max at (length after)
-  pub counted : length (take r after) ≡ min r (length after)
 
 -- r is how many bytes bs has, and that is at most n
 pub record Counted (n : ℕ) (bs : List ℕ) (r : ℕ) : Type 0 where

@@ -1,9 +1,8 @@
 // Command lines: a word and numbers, one blank between, and LF.
-use crate::bytes;
-use crate::bytes::BLANK;
-use crate::bytes::LF;
+use octets::BLANK;
+use octets::LF;
 ghost use mathlib.Core.Path.{_≡_};
-ghost use Rattle.console.specs.Bytes.{sameBytes};
+ghost use Rattle.octets.specs.Bytes.{sameBytes};
 ghost use Rattle.console.specs.Command.{bodyCommandOf, commandOf, invalid, numberAnswerOf, numberOf, skippedOf, wordOf};
 
 // How many numbers a command has at most.
@@ -67,15 +66,15 @@ fn read_number(text: &[u8]) -> Number
 fn parse_body(body: &[u8]) -> Command
     ensures { λ r. ⌜ r ≡ bodyCommandOf (now (body .entry)) ⌝ }
 {
-    let mut at = bytes::index_of(BLANK, body);
+    let mut at = octets::index_of(BLANK, body);
     let mut count = 0;
     let mut numbers = [0u64; MAX_NUMBERS];
     while at < body.len() {
         if count == MAX_NUMBERS {
             return invalid();
         }
-        let rest = bytes::rest(body, at + 1);
-        let n = bytes::index_of(BLANK, rest);
+        let rest = octets::rest(body, at + 1);
+        let n = octets::index_of(BLANK, rest);
         let Number::Value(value) = read_number(&rest[..n]) else {
             return invalid();
         };
@@ -94,7 +93,7 @@ fn parse_body(body: &[u8]) -> Command
 pub fn parse(line: &[u8]) -> Command
     ensures { λ r. ⌜ r ≡ commandOf (now (line .entry)) ⌝ }
 {
-    let end = bytes::index_of(LF, line);
+    let end = octets::index_of(LF, line);
     if end + 1 == line.len() {
         return parse_body(&line[..end]);
     }
@@ -105,10 +104,10 @@ pub fn parse(line: &[u8]) -> Command
 pub fn is_word(line: &[u8], word: &[u8]) -> bool
     ensures { λ r. ⌜ r ≡ sameBytes (wordOf (now (line .entry))) (now (word .entry)) ⌝ }
 {
-    let end = bytes::index_of(LF, line);
+    let end = octets::index_of(LF, line);
     let body = &line[..end];
-    let n = bytes::index_of(BLANK, body);
-    bytes::same(&body[..n], word)
+    let n = octets::index_of(BLANK, body);
+    octets::same(&body[..n], word)
 }
 
 // Whether a line between requests gets no answer: an empty line or a comment. A bad line, which comes as no bytes at all, gets one.

@@ -1,7 +1,6 @@
 // Lines out of chunks: a line is kept in a lent buffer until its LF comes. A line that does not fit with its LF is skipped to its LF, and is
 // answered as one bad line.
-use crate::bytes;
-use crate::bytes::LF;
+use octets::LF;
 ghost use mathlib.Core.Path.{_≡_};
 ghost use lib.ListN.{take};
 ghost use Rattle.console.specs.Lines.{Taken, held, lastOf, piece};
@@ -64,19 +63,19 @@ pub fn take(chunk: &[u8], from: usize, buffer: &mut [u8], partial: Partial) -> P
 {
     let length = partial.length;
     let long = partial.long;
-    let rest = bytes::rest(chunk, from);
-    let n = bytes::index_of(LF, rest);
-    let fits = !long & bytes::fits(buffer.len(), length, n + 1);
+    let rest = octets::rest(chunk, from);
+    let n = octets::index_of(LF, rest);
+    let fits = !long & octets::fits(buffer.len(), length, n + 1);
     if n < rest.len() {
         let end = n + 1;
         if fits {
-            let size = bytes::put(buffer, length, &rest[..end]);
+            let size = octets::append(buffer, length, &rest[..end]);
             return answer(from + end, start(), Line::Whole(size));
         }
         return answer(from + end, start(), Line::Bad);
     }
     if fits {
-        let size = bytes::put(buffer, length, rest);
+        let size = octets::append(buffer, length, rest);
         return answer(from + n, held(size), Line::More);
     }
     let skipped = Partial {

@@ -1,23 +1,12 @@
 // What is printed, appended to a lent buffer at an index. What does not fit whole is not written.
-use crate::bytes;
 use label::errno;
 use label::errno::Carried;
 use label::errno::Errno;
 ghost use Prim.Native.Nat.{_+_, _≤_};
 ghost use lib.ListN.{length};
 ghost use Rattle.label.specs.Errno.{carriedOf};
-ghost use Rattle.console.specs.Bytes.{Put};
-ghost use Rattle.console.specs.Text.{Appended, Counted, carriedText, decimalOf, errorText, refusalText};
-
-// Appends the bytes of a text.
-pub fn append(out: &mut [u8], at: usize, text: &[u8]) -> usize
-    ensures { λ r. ⌜ Appended (now (out .entry)) at (now (text .entry)) r (now (out .exit)) ⌝ }
-{
-    if bytes::fits(out.len(), at, text.len()) {
-        return bytes::put(out, at, text);
-    }
-    at
-}
+ghost use Rattle.octets.specs.Bytes.{Appended, Put};
+ghost use Rattle.console.specs.Text.{Counted, carriedText, decimalOf, errorText, refusalText};
 
 // How many decimal digits n has.
 fn decimal_length(n: u64) -> usize
@@ -53,7 +42,7 @@ fn put_decimal(out: &mut [u8], at: usize, n: u64) -> usize
 pub fn append_decimal(out: &mut [u8], at: usize, n: u64) -> usize
     ensures { λ r. ⌜ Appended (now (out .entry)) at (decimalOf n) r (now (out .exit)) ⌝ }
 {
-    if bytes::fits(out.len(), at, decimal_length(n)) {
+    if octets::fits(out.len(), at, decimal_length(n)) {
         return put_decimal(out, at, n);
     }
     at
@@ -76,7 +65,7 @@ fn put_carried(out: &mut [u8], at: usize, carried: Carried) -> usize
 {
     match carried {
         Carried::Number(n) => {
-            let next = bytes::put(out, at, b" ");
+            let next = octets::append(out, at, b" ");
             put_decimal(out, next, n as u64)
         }
         Carried::Nothing => at,
@@ -88,10 +77,10 @@ fn put_refusal(out: &mut [u8], at: usize, number: u64, carried: Carried) -> usiz
     requires { ⌜ at + length (refusalText number (carriedOf carried)) ≤ length (now out) ⌝ }
     ensures { λ r. ⌜ Put (now (out .entry)) at (refusalText number (carriedOf carried)) r (now (out .exit)) ⌝ }
 {
-    let word = bytes::put(out, at, b"error ");
+    let word = octets::append(out, at, b"error ");
     let digits = put_decimal(out, word, number);
     let end = put_carried(out, digits, carried);
-    bytes::put(out, end, b"\n")
+    octets::append(out, end, b"\n")
 }
 
 // Appends a refusal's line: `error N`, or `error N M` where it carries one more number, and LF.
@@ -101,7 +90,7 @@ pub fn append_error(out: &mut [u8], at: usize, e: Errno) -> usize
     let number = errno::number(e) as u64;
     let carried = errno::detail(e);
     let size = 6 + decimal_length(number) + carried_length(carried) + 1;
-    if bytes::fits(out.len(), at, size) {
+    if octets::fits(out.len(), at, size) {
         return put_refusal(out, at, number, carried);
     }
     at

@@ -23,9 +23,9 @@ pub(crate) fn invalid(out: &mut [u8]) -> usize {
 
 fn put_bool(b: bool, out: &mut [u8]) -> usize {
     if b {
-        return text::append(out, 0, b"yes\n");
+        return octets::append(out, 0, b"yes\n");
     }
-    text::append(out, 0, b"no\n")
+    octets::append(out, 0, b"no\n")
 }
 
 fn put_test(t: Test, out: &mut [u8]) -> usize {
@@ -37,7 +37,7 @@ fn put_test(t: Test, out: &mut [u8]) -> usize {
 
 fn put_number(n: u64, out: &mut [u8]) -> usize {
     let at = text::append_decimal(out, 0, n);
-    text::append(out, at, b"\n")
+    octets::append(out, at, b"\n")
 }
 
 fn put_written(w: Written, out: &mut [u8]) -> usize {
@@ -104,7 +104,7 @@ fn two_labels(r: Request, a: &[u8], b: &[u8], out: &mut [u8]) -> usize {
 fn put_next(n: Next, out: &mut [u8]) -> usize {
     match n {
         Next::Category(c) => put_number(c, out),
-        Next::Nothing => text::append(out, 0, b"none\n"),
+        Next::Nothing => octets::append(out, 0, b"none\n"),
         Next::Refused(e) => text::append_error(out, 0, e),
     }
 }
@@ -120,12 +120,12 @@ fn put_region(n: Number, out: &mut [u8]) -> usize {
     match n {
         Number::Value(r) => {
             if r == region::VIRUS_PREVENTION as u64 {
-                return text::append(out, 0, b"virus\n");
+                return octets::append(out, 0, b"virus\n");
             }
             if r == region::USER as u64 {
-                return text::append(out, 0, b"user\n");
+                return octets::append(out, 0, b"user\n");
             }
-            text::append(out, 0, b"admin\n")
+            octets::append(out, 0, b"admin\n")
         }
         Number::Refused(e) => text::append_error(out, 0, e),
     }

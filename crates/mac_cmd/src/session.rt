@@ -63,7 +63,7 @@ fn take_command(line: &[u8]) -> Session {
 fn take_operand(s: Session, line: &[u8], operand: &mut [u8]) -> Session {
     let r = s.request;
     if s.due > 1 {
-        let kept = console::text::append(operand, 0, line);
+        let kept = octets::append(operand, 0, line);
         return Session {
             request: r,
             number: s.number,

@@ -28,8 +28,8 @@ pub(crate) fn between() -> Session {
 
 fn put(d: Decision, out: &mut [u8]) -> usize {
     match d {
-        Decision::Granted => text::append(out, 0, b"0\n"),
-        Decision::Privileged => text::append(out, 0, b"1\n"),
+        Decision::Granted => octets::append(out, 0, b"0\n"),
+        Decision::Privileged => octets::append(out, 0, b"1\n"),
         Decision::Refused(e) => text::append_error(out, 0, e),
     }
 }

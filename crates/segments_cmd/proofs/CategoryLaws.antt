@@ -8,7 +8,7 @@ use native.Mathlib.Nat.{add-suc, add-zero}
 use native.Mathlib.Numerals.{add-one}
 use native.Mathlib.Omega.{arith}
 use lib.ListN.{length, length-append}
-use Rattle.console.specs.Bytes.{blank}
+use Rattle.octets.specs.Bytes.{blank}
 use Rattle.label.specs.Words.{has, listedIf, membersBelow, membersOf, nextOf}
 use Rattle.label.proofs.ListingLaws.{has-within, next-exact, next-none}
 use Rattle.segments_cmd.specs.Answer.{field}

@@ -10,8 +10,8 @@ use lib.ListN.{drop, length, length-drop}
 use lib.Seq.{drop-drop, take-all, drop-length}
 use borrow.Author.Tests.{le-leb}
 use borrow.Rule.Slice.PartMut.{midOf, putMid, put-same}
-use Rattle.console.specs.Bytes.{Put, putAt}
-use Rattle.console.proofs.ByteLaws.{put-nil}
+use Rattle.octets.specs.Bytes.{Put, putAt}
+use Rattle.octets.proofs.ByteLaws.{put-nil}
 use Rattle.hexline.specs.Line.{labelLineOf}
 use Rattle.hexline.proofs.KindLaws.{label-line-length}
 use Rattle.label.specs.declared.Label.{Label}

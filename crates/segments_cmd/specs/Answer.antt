@@ -1,7 +1,7 @@
 -- The answers of calls as text. Assumes nothing.
 use mathlib.Core.List.{List, [], _∷_, _++_}
 use Prim.Native.Nat.{ℕ, _≤_}
-use Rattle.console.specs.Bytes.{Put, blank, lf}
+use Rattle.octets.specs.Bytes.{Put, blank, lf}
 use Rattle.console.specs.Text.{decimalOf, errorText}
 use Rattle.hexline.specs.Line.{labelLineOf}
 use Rattle.label.specs.Answer.{Answer, granted, refused}

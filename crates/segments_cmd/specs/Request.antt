@@ -4,7 +4,7 @@ use mathlib.Core.List.{List, [], _∷_}
 use Prim.Native.Nat.{ℕ}
 use lib.Dec.{eqb}
 use lib.ListN.{getD}
-use Rattle.console.specs.Bytes.{sameBytes}
+use Rattle.octets.specs.Bytes.{sameBytes}
 use Rattle.console.specs.Command.{commandOf, wordOf}
 use Rattle.console.specs.declared.command.Command.{Command}
 use Rattle.segments.specs.Segments.{slot, tenantId}

@@ -1,7 +1,7 @@
 -- The state as text, a line at a time. Assumes nothing.
 use mathlib.Core.List.{List, [], _∷_, _++_}
 use Prim.Native.Nat.{ℕ, _+_, _*_}
-use Rattle.console.specs.Bytes.{blank, lf}
+use Rattle.octets.specs.Bytes.{blank, lf}
 use Rattle.label.specs.Words.{membersOf, words}
 use Rattle.label.specs.declared.Label.{Label}
 use Rattle.segments.specs.declared.Segment.{Segment}

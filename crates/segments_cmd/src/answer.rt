@@ -10,7 +10,7 @@ use segments::Shown;
 use segments::Slot;
 ghost use Prim.Native.Nat.{_+_, _≤_};
 ghost use lib.ListN.{length};
-ghost use Rattle.console.specs.Text.{Appended};
+ghost use Rattle.octets.specs.Bytes.{Appended};
 ghost use Rattle.hexline.specs.Line.{labelLineOf};
 ghost use Rattle.segments_cmd.specs.Answer.{PutWithin, answerBytes, field, hexlineBytes, lineOr, numberBytes, numbersBytes, placeText, replyText, shownNumbers, shownText};
 
@@ -22,7 +22,7 @@ pub(crate) fn put_field(out: &mut [u8], at: usize, word: &[u8], n: u64) -> usize
     requires { ⌜ at + length (now word) + numberBytes ≤ length (now out) ⌝ }
     ensures { λ r. ⌜ PutWithin (at + length (now (word .entry)) + numberBytes) (now (out .entry)) at (field (now (word .entry)) n) r (now (out .exit)) ⌝ }
 {
-    let next = text::append(out, at, word);
+    let next = octets::append(out, at, word);
     text::append_decimal(out, next, n)
 }
 
@@ -31,7 +31,7 @@ fn put_place(out: &mut [u8], slot: Slot) -> usize
     ensures { λ r. ⌜ PutWithin answerBytes (now (out .entry)) 0 (placeText slot) r (now (out .exit)) ⌝ }
 {
     let at = put_field(out, 0, b"place ", slot.0);
-    text::append(out, at, b"\n")
+    octets::append(out, at, b"\n")
 }
 
 // The numbers that a look shows.
@@ -41,7 +41,7 @@ fn put_numbers(out: &mut [u8], x: Shown) -> usize
 {
     let pages = put_field(out, 0, b"shown ", x.pages);
     let version = put_field(out, pages, b" ", x.version);
-    text::append(out, version, b"\n")
+    octets::append(out, version, b"\n")
 }
 
 // Appends the hex line of a label. A label that has none, which no sound state holds, adds nothing.
@@ -70,7 +70,7 @@ fn put_reply(out: &mut [u8], reply: Reply, label: Label) -> usize
     ensures { λ r. ⌜ Appended (now (out .entry)) 0 (replyText reply label) r (now (out .exit)) ⌝ }
 {
     match reply {
-        Reply::Done => text::append(out, 0, b"ok\n"),
+        Reply::Done => octets::append(out, 0, b"ok\n"),
         Reply::Opened(slot) => put_place(out, slot),
         Reply::Shown(x) => put_shown(out, x, label),
         Reply::Refused(e) => text::append_error(out, 0, e),

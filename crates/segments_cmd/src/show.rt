@@ -2,7 +2,6 @@
 // share, so none is cut.
 use crate::answer::put_field;
 use console::lines;
-use console::text;
 use label::Label;
 use label::answer::Number;
 use label::words;
@@ -17,7 +16,7 @@ use segments::TenantId;
 use segments::state;
 ghost use Prim.Native.Nat.{_+_, _<_, _≤_};
 ghost use lib.ListN.{length};
-ghost use Rattle.console.specs.Bytes.{Put};
+ghost use Rattle.octets.specs.Bytes.{Put};
 ghost use Rattle.label.specs.Words.{membersOf};
 ghost use Rattle.segments.specs.Segments.{tenants};
 ghost use Rattle.segments_cmd.specs.Answer.{PutWithin};
@@ -53,7 +52,7 @@ fn put_categories(out: &mut [u8], at: usize, categories: [u64; WORDS]) -> usize
 {
     let end = put_members(out, at, categories);
     if end == at {
-        return text::append(out, at, b" -");
+        return octets::append(out, at, b" -");
     }
     end
 }
@@ -74,7 +73,7 @@ fn put_label(out: &mut [u8], at: usize, label: Label) -> usize
 {
     let categories = label.categories;
     let hierarchy = put_field(out, at, b" hierarchy ", label.hierarchy as u64);
-    let word = text::append(out, hierarchy, b" categories");
+    let word = octets::append(out, hierarchy, b" categories");
     put_categories(out, word, categories)
 }
 
@@ -84,7 +83,7 @@ fn put_slot(out: &mut [u8], slot: u64, x: Segment) -> usize
 {
     let at = put_segment(out, slot, x);
     let end = put_label(out, at, x.label);
-    text::append(out, end, b"\n")
+    octets::append(out, end, b"\n")
 }
 
 fn put_tenant(out: &mut [u8], tenant: u64, ceiling: u64, pages: u64) -> usize
@@ -94,7 +93,7 @@ fn put_tenant(out: &mut [u8], tenant: u64, ceiling: u64, pages: u64) -> usize
     let number = put_field(out, 0, b"tenant ", tenant);
     let limit = put_field(out, number, b" ceiling ", ceiling);
     let used = put_field(out, limit, b" pages ", pages);
-    text::append(out, used, b"\n")
+    octets::append(out, used, b"\n")
 }
 
 fn put_pool(out: &mut [u8], pool: u64) -> usize
@@ -102,7 +101,7 @@ fn put_pool(out: &mut [u8], pool: u64) -> usize
     ensures { λ r. ⌜ Put (now (out .entry)) 0 (poolText pool) r (now (out .exit)) ⌝ }
 {
     let at = put_field(out, 0, b"pool ", pool);
-    text::append(out, at, b"\n")
+    octets::append(out, at, b"\n")
 }
 
 // Prints a slot that is filled.

@@ -6,7 +6,7 @@ use Prim.Native.Nat.{ℕ}
 use native.Mathlib.Omega.{arith}
 use lib.Dec.{eqb}
 use lib.ListN.{getD, length}
-use Rattle.console.specs.Bytes.{lf}
+use Rattle.octets.specs.Bytes.{lf}
 use Rattle.console.specs.Command.{skippedOf}
 use Rattle.console.proofs.command.is_skipped.Statement.{statement}
 use Rattle.console.proofs.command.is_skipped.Tie as tie

@@ -4,7 +4,7 @@ use mathlib.Core.List.{List}
 use Prim.Native.Nat.{ℕ}
 use lib.ListN.{take}
 use lib.Seq.{length-take-le}
-use Rattle.console.specs.Bytes.{sameBytes}
+use Rattle.octets.specs.Bytes.{sameBytes}
 use Rattle.console.proofs.CommandLaws.{word-from}
 use Rattle.console.proofs.command.is_word.Statement.{statement}
 use Rattle.console.proofs.command.is_word.Tie as tie

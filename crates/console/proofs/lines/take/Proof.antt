@@ -4,7 +4,7 @@ use mathlib.Core.Path.{sym}
 use Prim.Native.Nat.{ℕ, _+_}
 use native.Mathlib.Omega.{arith}
 use lib.Seq.{length-take-le}
-use Rattle.console.proofs.LineLaws.{Tested, bytes-length, room-for, taken-bad, taken-long, taken-more, taken-whole}
+use Rattle.console.proofs.LineLaws.{Tested, bytes-length, taken-bad, taken-long, taken-more, taken-whole}
 use Rattle.console.proofs.lines.take.Statement.{statement}
 use Rattle.console.proofs.lines.take.Tie as tie
 
@@ -35,14 +35,11 @@ fits-requires c κs = search needs
 add-end : tie.Need-add-end
 add-end c = search needs
 
-slice-aggregate-put : tie.Need-slice-aggregate-put
-slice-aggregate-put c = let s = c .before .before .before .before in sym (length-take-le (N s + 1) (Rest s) (omega arith))
+slice-aggregate-append : tie.Need-slice-aggregate-append
+slice-aggregate-append c = let s = c .before .before .before .before in sym (length-take-le (N s + 1) (Rest s) (omega arith))
 
-put-requires : tie.Need-put-requires
-put-requires c κs =
-    let s = c .before .before .before .before in
-    let l = length-take-le (N s + 1) (Rest s) (omega arith) in
-    let r = room-for (tested s) (c .before .before .if2 .taken) in omega arith
+append-requires : tie.Need-append-requires
+append-requires c κs = search needs
 
 add-answer : tie.Need-add-answer
 add-answer c = omega (arith, bytes-length (tested (c .before .before .before .before .before .before .before)))
@@ -60,7 +57,7 @@ returns : tie.Need-returns
 returns c =
     let p = c .before .before .before .before in
     let t = p .before .before .before in
-    taken-whole (tested (t .before .before)) (t .before .if1 .taken) (t .if2 .taken) (c .answer .ensures) (c .before .start .ensures) (p .put .ensures)
+    taken-whole (tested (t .before .before)) (t .before .if1 .taken) (t .if2 .taken) (c .answer .ensures) (c .before .start .ensures) (p .append .ensures)
 
 add-answer-2 : tie.Need-add-answer-2
 add-answer-2 c = omega (arith, bytes-length (tested (c .before .before)))
@@ -76,8 +73,8 @@ returns-2 c =
     let t = c .before .before in
     taken-bad (tested (t .before .before)) (t .before .if1 .taken) (t .if2 .left) (c .answer2 .ensures) (c .before .start2 .ensures)
 
-put-requires-2 : tie.Need-put-requires-2
-put-requires-2 c κs = let r = room-for (tested (c .before .before .before)) (c .before .if3 .taken) in omega arith
+append-requires-2 : tie.Need-append-requires-2
+append-requires-2 c κs = search needs
 
 add-answer-3 : tie.Need-add-answer-3
 add-answer-3 c = omega (arith, bytes-length (tested (c .before .before .before .before .before .before)))
@@ -95,7 +92,7 @@ returns-3 : tie.Need-returns-3
 returns-3 c =
     let p = c .before .before .before .before in
     let t = p .before .before in
-    taken-more (tested (t .before .before)) (t .before .if1 .left) (t .if3 .taken) (c .answer3 .ensures) (c .before .held .ensures) (p .put2 .ensures)
+    taken-more (tested (t .before .before)) (t .before .if1 .left) (t .if3 .taken) (c .answer3 .ensures) (c .before .held .ensures) (p .append2 .ensures)
 
 add-answer-4 : tie.Need-add-answer-4
 add-answer-4 c = omega (arith, bytes-length (tested (c .before .before)))
@@ -115,8 +112,8 @@ take-spec =
     add-fits
     fits-requires
     add-end
-    slice-aggregate-put
-    put-requires
+    slice-aggregate-append
+    append-requires
     add-answer
     start-requires
     answer-requires
@@ -126,7 +123,7 @@ take-spec =
     start-requires-2
     answer-requires-2
     returns-2
-    put-requires-2
+    append-requires-2
     add-answer-3
     held-requires
     answer-requires-3

@@ -1,6 +1,6 @@
 use borrow.Author.Needs.{needs}
+use Rattle.octets.proofs.ByteLaws.{Tested, appended, left-out, room-for}
 use Rattle.console.specs.Text.{decimalOf}
-use Rattle.console.proofs.TextLaws.{Tested, appended, left-out, room-for}
 use Rattle.console.proofs.text.append_decimal.Statement.{statement}
 use Rattle.console.proofs.text.append_decimal.Tie as tie
 

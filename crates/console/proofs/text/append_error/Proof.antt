@@ -4,8 +4,9 @@ use mathlib.Core.Path.{_≡_}
 use Prim.Native.Nat.{ℕ, _+_}
 use native.Mathlib.Omega.{arith}
 use Rattle.label.specs.Errno.{carriedOf}
+use Rattle.octets.proofs.ByteLaws.{Tested, appended, left-out, room-for}
 use Rattle.console.specs.Text.{errorText, refusalText}
-use Rattle.console.proofs.TextLaws.{Tested, appended, left-out, refusal-length, room-for}
+use Rattle.console.proofs.TextLaws.{refusal-length}
 use Rattle.console.proofs.text.append_error.Statement.{statement}
 use Rattle.console.proofs.text.append_error.Tie as tie
 

@@ -5,8 +5,8 @@ use native.Mathlib.Nat.{add-zero}
 use native.Mathlib.Omega.{arith}
 use lib.ListN.{length}
 use Rattle.label.specs.Errno.{carriedOf}
+use Rattle.octets.proofs.ByteLaws.{appended-put, put-nil, then-put}
 use Rattle.console.specs.Text.{carriedText, decimalOf}
-use Rattle.console.proofs.ByteLaws.{put-nil, puts}
 use Rattle.console.proofs.text.put_carried.Statement.{statement}
 use Rattle.console.proofs.text.put_carried.Tie as tie
 
@@ -18,14 +18,18 @@ text-length s = rw (s .carried .given .1)
 enum-known-carried : tie.Need-enum-known-carried
 enum-known-carried c = search needs
 
-slice-aggregate-put : tie.Need-slice-aggregate-put
-slice-aggregate-put c = search needs
+slice-aggregate-append : tie.Need-slice-aggregate-append
+slice-aggregate-append c = search needs
 
-put-requires : tie.Need-put-requires
-put-requires c κs = omega (arith, text-length (c .before .before .before))
+append-requires : tie.Need-append-requires
+append-requires c κs = search needs
 
 put-decimal-requires : tie.Need-put-decimal-requires
-put-decimal-requires c κs = omega (arith, text-length (c .before .before .before .before .before .before .before))
+put-decimal-requires c κs =
+    let w = c .before .before .before in
+    let l = text-length (w .before .before .before .before) in
+    let p = appended-put (omega arith) (w .append .ensures) in
+    let e = p .past in omega arith
 
 enum-told : tie.Need-enum-told
 enum-told c = search needs
@@ -39,8 +43,9 @@ returns c =
     let p = c .before .before in
     let w = p .before .before .before .before in
     let s = w .before .before .before .before in
-    let a = s .before .before .before .args in
-    rw (s .carried .given .1) (puts (a .out .now) (a .at) (omega (arith, text-length s)) (w .put .ensures) (p .put-decimal .ensures))
+    let l = text-length s in
+    let b = appended-put (omega arith) (w .append .ensures) in
+    let e = b .past in rw (s .carried .given .1) (then-put (omega arith) b (p .put-decimal .ensures))
 
 returns-2 : tie.Need-returns-2
 unfolding carriedText
@@ -53,8 +58,8 @@ put-carried-spec =
     tie.close
     (tie.spec
     enum-known-carried
-    slice-aggregate-put
-    put-requires
+    slice-aggregate-append
+    append-requires
     put-decimal-requires
     enum-told
     same-length

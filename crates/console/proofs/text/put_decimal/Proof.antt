@@ -3,9 +3,9 @@ use mathlib.Core.Path.{_≡_, refl, sym, ap, _∙_}
 use Prim.Native.Nat.{_+_, _-_, _/_, _%_, _≤_}
 use native.Mathlib.Omega.{arith}
 use lib.ListN.{length, length-set}
-use Rattle.console.specs.Bytes.{putAt}
+use Rattle.octets.specs.Bytes.{putAt}
+use Rattle.octets.proofs.ByteLaws.{put-last, put-one}
 use Rattle.console.specs.Text.{decimalOf, digit}
-use Rattle.console.proofs.ByteLaws.{put-last, put-one}
 use Rattle.console.proofs.DecimalLaws.{decimal-more, decimal-one, decimal-some, length-more}
 use Rattle.console.proofs.text.put_decimal.Statement.{statement}
 use Rattle.console.proofs.text.put_decimal.Tie as tie

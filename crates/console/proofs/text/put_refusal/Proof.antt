@@ -1,35 +1,42 @@
 use borrow.Author.Needs.{needs}
+use mathlib.Core.Path.{_≡_}
+use Prim.Native.Nat.{_+_}
 use native.Mathlib.Omega.{arith}
-use lib.ListN.{length-append}
 use Rattle.label.specs.Errno.{carriedOf}
+use Rattle.octets.proofs.ByteLaws.{appended-put, then-appended, then-put}
 use Rattle.console.specs.Text.{errorWord, refusalText}
-use Rattle.console.proofs.ByteLaws.{puts}
 use Rattle.console.proofs.TextLaws.{refusal-length}
 use Rattle.console.proofs.text.put_refusal.Statement.{statement}
 use Rattle.console.proofs.text.put_refusal.Tie as tie
 
-slice-aggregate-put : tie.Need-slice-aggregate-put
-slice-aggregate-put c = search needs
+-- where the word stands
+word-past : (w : tie.After-append) → w .append .result ≡ w .before .before .before .before .args .at + 6
+word-past w =
+    let a = w .before .before .before .before .args in
+    let l = refusal-length (a .number) (carriedOf (a .carried)) in
+    let p = appended-put (omega arith) (w .append .ensures) in p .past
 
-put-requires : tie.Need-put-requires
-put-requires c κs = let a = c .before .before .before .args in omega (arith, refusal-length (a .number) (carriedOf (a .carried)))
+slice-aggregate-append : tie.Need-slice-aggregate-append
+slice-aggregate-append c = search needs
+
+append-requires : tie.Need-append-requires
+append-requires c κs = search needs
 
 put-decimal-requires : tie.Need-put-decimal-requires
-put-decimal-requires c κs = let a = c .before .before .before .before .before .before .before .args in omega (arith, refusal-length (a .number) (carriedOf (a .carried)))
+put-decimal-requires c κs =
+    let w = c .before .before .before in
+    let a = w .before .before .before .before .args in omega (arith, word-past w, refusal-length (a .number) (carriedOf (a .carried)))
 
 put-carried-requires : tie.Need-put-carried-requires
 put-carried-requires c κs =
-    let a = c .before .before .before .before .before .before .before .before .before .before .before .args in
-    omega (arith, refusal-length (a .number) (carriedOf (a .carried)))
+    let w = c .before .before .before .before .before .before .before in
+    let a = w .before .before .before .before .args in omega (arith, word-past w, refusal-length (a .number) (carriedOf (a .carried)))
 
-slice-aggregate-put-2 : tie.Need-slice-aggregate-put-2
-slice-aggregate-put-2 c = search needs
+slice-aggregate-append-2 : tie.Need-slice-aggregate-append-2
+slice-aggregate-append-2 c = search needs
 
-put-requires-2 : tie.Need-put-requires-2
-put-requires-2 c κs =
-    let s = c .before .before .before .before .before .before .before .before .before .before .before .before .before .before .before .before in
-    let a = s .args in
-    omega (arith, refusal-length (a .number) (carriedOf (a .carried)), s .pre)
+append-requires-2 : tie.Need-append-requires-2
+append-requires-2 c κs = search needs
 
 same-length : tie.Need-same-length
 same-length c = search needs
@@ -45,18 +52,20 @@ returns c =
     let a = s .args in
     let l = refusal-length (a .number) (carriedOf (a .carried)) in
     let h = s .pre in
-    puts (a .out .now) (a .at) (simp length-append (omega arith))
-    (puts (a .out .now) (a .at) (simp length-append (omega arith)) (puts (a .out .now) (a .at) (omega arith) (w .put .ensures) (d .put-decimal .ensures)) (k .put-carried .ensures)) (e .put2 .ensures)
+    let i = word-past w in
+    let word = appended-put (omega arith) (w .append .ensures) in
+    let digits = then-put (omega arith) word (d .put-decimal .ensures) in
+    let carried = then-put (omega arith) digits (k .put-carried .ensures) in then-appended (omega arith) carried (e .append2 .ensures)
 
 pub put-refusal-spec : {M : Type 1} → statement M
 put-refusal-spec =
     tie.close
     (tie.spec
-    slice-aggregate-put
-    put-requires
+    slice-aggregate-append
+    append-requires
     put-decimal-requires
     put-carried-requires
-    slice-aggregate-put-2
-    put-requires-2
+    slice-aggregate-append-2
+    append-requires-2
     same-length
     returns)

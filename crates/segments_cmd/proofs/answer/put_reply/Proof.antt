@@ -1,6 +1,6 @@
 use borrow.Author.Needs.{needs}
+use Rattle.octets.proofs.ByteLaws.{put-appended}
 use Rattle.segments_cmd.specs.Answer.{okLine}
-use Rattle.segments_cmd.proofs.FieldLaws.{put-appended}
 use Rattle.segments_cmd.proofs.answer.put_reply.Statement.{statement}
 use Rattle.segments_cmd.proofs.answer.put_reply.Tie as tie
 

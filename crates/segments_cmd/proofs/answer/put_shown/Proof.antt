@@ -1,6 +1,6 @@
 use borrow.Author.Needs.{needs}
+use Rattle.octets.proofs.ByteLaws.{then-put}
 use Rattle.segments_cmd.specs.Answer.{shownText}
-use Rattle.segments_cmd.proofs.FieldLaws.{then-put}
 use Rattle.segments_cmd.proofs.answer.put_shown.Statement.{statement}
 use Rattle.segments_cmd.proofs.answer.put_shown.Tie as tie
 

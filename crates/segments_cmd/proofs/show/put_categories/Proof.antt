@@ -3,11 +3,11 @@ use mathlib.Core.List.{[]}
 use mathlib.Core.Path.{_≡_}
 use native.Mathlib.Omega.{arith}
 use lib.ListN.{length}
-use Rattle.console.specs.Bytes.{Put}
+use Rattle.octets.specs.Bytes.{Put}
 use Rattle.label.specs.Words.{membersOf}
+use Rattle.octets.proofs.ByteLaws.{appended-put, then-put}
 use Rattle.segments_cmd.specs.Show.{listText, noneWord}
 use Rattle.segments_cmd.proofs.CategoryLaws.{none-listed, some-listed}
-use Rattle.segments_cmd.proofs.FieldLaws.{appended-put, then-put}
 use Rattle.segments_cmd.proofs.show.put_categories.Statement.{statement}
 use Rattle.segments_cmd.proofs.show.put_categories.Tie as tie
 

@@ -1,7 +1,7 @@
 use borrow.Author.Needs.{needs}
 use native.Mathlib.Omega.{arith}
+use Rattle.octets.proofs.ByteLaws.{appended-put, then-put}
 use Rattle.segments_cmd.specs.Show.{categoriesWord, hierarchyWord, labelText}
-use Rattle.segments_cmd.proofs.FieldLaws.{appended-put, then-put}
 use Rattle.segments_cmd.proofs.show.put_label.Statement.{statement}
 use Rattle.segments_cmd.proofs.show.put_label.Tie as tie
 

@@ -4,12 +4,11 @@ use mathlib.Core.Path.{_≡_, refl, sym, ap, _∙_}
 use Prim.Native.Nat.{_+_, _-_, _*_, _≤_, _<_}
 use native.Mathlib.Omega.{arith}
 use lib.ListN.{length}
-use Rattle.console.specs.Bytes.{Put}
-use Rattle.console.proofs.ByteLaws.{put-nil}
+use Rattle.octets.specs.Bytes.{Put}
+use Rattle.octets.proofs.ByteLaws.{put-nil, then-put}
 use Rattle.label.specs.Words.{foundOf, membersBelow, nextOf, words}
 use Rattle.segments_cmd.specs.Show.{listText}
 use Rattle.segments_cmd.proofs.CategoryLaws.{list-end, list-last, list-next, next-above, next-below}
-use Rattle.segments_cmd.proofs.FieldLaws.{then-put}
 use Rattle.segments_cmd.proofs.show.put_members.Statement.{statement}
 use Rattle.segments_cmd.proofs.show.put_members.Tie as tie
 

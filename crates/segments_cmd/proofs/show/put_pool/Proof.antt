@@ -1,6 +1,6 @@
 use borrow.Author.Needs.{needs}
+use Rattle.octets.proofs.ByteLaws.{then-appended}
 use Rattle.segments_cmd.specs.Show.{poolText, poolWord}
-use Rattle.segments_cmd.proofs.FieldLaws.{then-appended}
 use Rattle.segments_cmd.proofs.show.put_pool.Statement.{statement}
 use Rattle.segments_cmd.proofs.show.put_pool.Tie as tie
 

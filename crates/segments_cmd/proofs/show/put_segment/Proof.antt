@@ -1,7 +1,7 @@
 use borrow.Author.Needs.{needs}
+use Rattle.octets.proofs.ByteLaws.{then-put}
 use Rattle.segments_cmd.specs.Answer.{placeWord}
 use Rattle.segments_cmd.specs.Show.{editionWord, pagesWord, segmentText}
-use Rattle.segments_cmd.proofs.FieldLaws.{then-put}
 use Rattle.segments_cmd.proofs.show.put_segment.Statement.{statement}
 use Rattle.segments_cmd.proofs.show.put_segment.Tie as tie
 

@@ -1,6 +1,6 @@
 use borrow.Author.Needs.{needs}
+use Rattle.octets.proofs.ByteLaws.{then-appended, then-put}
 use Rattle.segments_cmd.specs.Show.{ceilingWord, pagesWord, tenantText, tenantWord}
-use Rattle.segments_cmd.proofs.FieldLaws.{then-appended, then-put}
 use Rattle.segments_cmd.proofs.show.put_tenant.Statement.{statement}
 use Rattle.segments_cmd.proofs.show.put_tenant.Tie as tie
 
