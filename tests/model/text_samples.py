@@ -6,7 +6,7 @@ from rules import (CATEGORIES, LONGEST_ABBREVIATION, LONGEST_NAME, OF_CATEGORY, 
                    Range, Refusal, is_name, write)
 from samples import (LABEL, NAME_BYTES, any_label, any_name, at_times, damaged, label, label_above, label_below,
                      some_of)
-from text import FORMS, VARIANTS, Subject, Table, names_of, write_label, write_range
+from text import DEFINITION_FORM, FORMS, VARIANTS, WHOLE_NAMES, Subject, Table, names_of, write_label, write_range
 
 SOME_HIERARCHIES = (0, 20, 30, 40, 199)
 SOME_CATEGORIES = (0, 1, 2, 7, 63, 64, 255)
@@ -46,7 +46,8 @@ def near_name(rng, name):
 def new_name(rng, taken, longest):
     """A name that is not among those taken, often near one of them."""
     while True:
-        name = near_name(rng, rng.choice(taken)) if taken and at_times(rng, 0.5) else any_name(rng, rng.choice((3, 8, longest)))
+        near = taken and at_times(rng, 0.5)
+        name = near_name(rng, rng.choice(taken)) if near else any_name(rng, rng.choice((3, 8, longest)))
         if is_name(name, longest) and name not in taken:
             return name
 
@@ -84,8 +85,8 @@ def spoiled(rng, entries):
     lines = list(map(write, entries))
     for _ in range(rng.choice((1, 1, 2))):
         at = rng.randrange(len(lines))
-        bad = rng.choice((damaged(rng, write(rng.choice(entries))), write(LABEL), b"# low\n", write(repeating(rng, entries))))
-        lines[at:at + rng.choice((0, 1))] = [bad]
+        faulty = damaged(rng, write(rng.choice(entries)))
+        lines[at:at + rng.choice((0, 1))] = [rng.choice((faulty, write(LABEL), b"# low\n", write(repeating(rng, entries))))]
     return lines
 
 
@@ -118,16 +119,20 @@ def subject_near(rng, seen):
     return Subject(at, at_times(rng, 0.2))
 
 
-# Random texts
+# Texts
 
-def written(rng, table, contents):
-    """The text of a label or range in some form and variant for a subject that sees everything; None where it has none."""
-    write_text = write_range if isinstance(contents, Range) else write_label
+def text_in(table, contents, form=DEFINITION_FORM, variant=WHOLE_NAMES):
+    """The text of a label or range for a subject that sees every label; None where names are missing."""
     try:
-        text = write_text(table, contents, Subject(TOP), rng.choice(FORMS), rng.choice(VARIANTS))
+        if isinstance(contents, Range):
+            return write_range(table, contents, Subject(TOP), form, variant)[1]
+        return write_label(table, contents, Subject(TOP), form, variant)
     except Refusal:
         return None
-    return text[1] if isinstance(contents, Range) else text
+
+
+def any_text_in(rng, table, contents):
+    return text_in(table, contents, rng.choice(FORMS), rng.choice(VARIANTS))
 
 
 def names_in(table, *classes):
@@ -146,20 +151,20 @@ def composed(rng, table):
 
 def label_text_in(rng, table):
     """The text of a label, written or composed, which may be no good one."""
-    given = written(rng, table, label_in(rng, table))
+    given = any_text_in(rng, table, label_in(rng, table))
     return composed(rng, table) if given is None or at_times(rng, 0.5) else given
 
 
 def range_text_in(rng, table):
     """The text of a range, written or composed, which may be no good one."""
-    given = written(rng, table, range_in(rng, table))
+    given = any_text_in(rng, table, range_in(rng, table))
     if given is None or at_times(rng, 0.5):
         return b"-L %s -H %s" % (label_text_in(rng, table), b"?" if at_times(rng, 0.1) else label_text_in(rng, table))
     return given
 
 
 def damaged_text(rng, text):
-    """A text with a byte dropped, doubled, added or changed, a letter in another case, or two parts in each other's place."""
+    """A text with a byte dropped, doubled, added or changed, a letter in another case, or its parts turned round."""
     at = rng.randrange(len(text))
     byte = bytes([rng.choice(b" :,-?.HLeE\0\xff")])
     start, rest = text[:at], text[at:]
