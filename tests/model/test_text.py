@@ -7,16 +7,16 @@ import itertools
 import random
 import unittest
 
-import protocol
 import text_cmd
 import text_cmd_cases
+from protocol import LINE_BUFFER
 from rules import CATEGORIES, Label, Range, Refusal, write
-from samples import LABEL, RANGE, label
+from samples import LABEL, RANGE, WORD_BORDERS, label
 from text import (ABBREVIATED, ALIAS_FORM, DEFINITION_FORM, FORMS, VARIANTS, WHOLE_NAMES, Subject, Table, read_label,
                   read_range, write_label, write_range)
-from text_cmd import TABLE_BUFFER, TEXT_BUFFER
+from text_cmd import MOST_CAPACITY, TABLE_BUFFER, TEXT_BUFFER
 from text_samples import (BAD_RANGES, BAD_TEXTS, EAST, ENTRIES, FULL, GOOD_RANGES, GOOD_TEXTS, LONGEST_RANGE,
-                          LONGEST_TEXTS, LOW, REPEATS, SEVERAL, TOP, any_entries, composed, damaged_text, label_in,
+                          LONGEST_TEXTS, LOW, REPEATS, SEVERAL, TOP, WEST, any_entries, composed, damaged_text, label_in,
                           label_text_in, labels_table, of_category, of_hierarchy, of_label, range_in, range_text_in,
                           short_table, spoiled, subject_near, table_of)
 
@@ -66,8 +66,8 @@ class Example(unittest.TestCase):
 
     def test_range(self):
         bounds = Range(label(20), self.EAST)
-        self.assertEqual(write_range(self.TABLE, bounds, Subject(label(20)), DEFINITION_FORM, WHOLE_NAMES), (1, b"-L low -H ?"))
-        self.assertEqual(write_range(self.TABLE, bounds, Subject(self.EAST), DEFINITION_FORM, ABBREVIATED), (0, b"-L low -H low:e"))
+        for at, expected in ((label(20), (1, b"-L low -H ?")), (self.EAST, (0, b"-L low -H low:east"))):
+            self.assertEqual(write_range(self.TABLE, bounds, Subject(at), DEFINITION_FORM, WHOLE_NAMES), expected)
 
 
 class Tables(unittest.TestCase):
@@ -109,6 +109,7 @@ class Tables(unittest.TestCase):
         self.assertEqual(bad_line(*lines[:512], b"x\n"), 512)
         self.assertEqual(bad_line(*lines[:511], LOW, lines[512]), 511)
         self.assertEqual(bad_line(*lines[:512], more=True), 512)
+        self.assertEqual(bad_line(*lines[:400], lines[300], *lines[400:]), 400)
 
     def test_cut_off(self):
         """The first line that does not end in what is there is bad, an earlier bad line comes first."""
@@ -157,10 +158,17 @@ class Writing(unittest.TestCase):
     def test_alias_needs_no_other_name(self):
         self.assertEqual(in_every_form(table_of(of_label(label(20, 7), b"box")), label(20, 7)), ["E2", "E2", b"box", b"box"])
 
+    def test_alias_is_of_the_whole_label(self):
+        table = table_of(of_label(label(20, *WORD_BORDERS), b"all"))
+        self.assertEqual(in_every_form(table, label(21, *WORD_BORDERS)), ["E2"] * 4)
+        for category in WORD_BORDERS:
+            self.assertEqual(in_every_form(table, Label(20, frozenset(WORD_BORDERS) - {category})), ["E2"] * 4)
+
     def test_numbers_of_classes(self):
         """A hierarchy and a category of one number have names of their own."""
         table = table_of(of_hierarchy(7, b"seven"), EAST, of_category(20, b"twenty"), of_category(30, b"thirty"))
-        for at, expected in ((label(7, 7), b"seven:east"), (label(7, 20), b"seven:twenty"), (label(30), "E2"), (label(20), "E2")):
+        for at, expected in ((label(7, 7), b"seven:east"), (label(7, 20), b"seven:twenty"), (label(30), "E2"),
+                             (label(20), "E2")):
             self.assertEqual(in_every_form(table, at)[0], expected)
 
     def test_rising_order(self):
@@ -182,14 +190,19 @@ class Writing(unittest.TestCase):
                 (SMALL, unnamed, SEES_NONE, 0, "E13"), (SMALL, label(20), SEES_NONE, 9, "E13"),
                 (SMALL, unnamed, SEES_ALL, 0, "E2"), (SMALL, unnamed, Subject(label(0), True), 0, "E2"),
                 (SMALL, label(20, 7), SEES_ALL, 7, "E7 8"), (SMALL, label(20, 7), Subject(label(0), True), 0, "E7 8"),
-                (SMALL, label(20, 7), SEES_ALL, 8, b"low:east"), (SMALL, label(20, 7), Subject(label(0), True), 8, b"low:east")):
+                (SMALL, label(20, 7), SEES_ALL, 8, b"low:east"),
+                (SMALL, label(20, 7), Subject(label(0), True), 8, b"low:east")):
             self.assertEqual(outcome(write_label, table, at, subject, DEFINITION_FORM, WHOLE_NAMES, capacity), expected)
 
     def test_sight(self):
-        for at, expected in ((label(20, 7), b"low:east"), (label(21, 7, 8), b"low:east"), (label(20), "E13"), (label(19, 7), "E13"),
-                             (label(199, 8), "E13")):
+        for at, expected in ((label(20, 7), b"low:east"), (label(21, 7, 8), b"low:east"), (label(20), "E13"),
+                             (label(19, 7), "E13"), (label(199, 8), "E13")):
             self.assertEqual(in_every_form(SMALL, label(20, 7), Subject(at))[0], expected)
             self.assertEqual(in_every_form(SMALL, label(20, 7), Subject(at, True))[0], b"low:east")
+        for category in WORD_BORDERS:
+            table, at = table_of(LOW, of_category(category, b"border")), label(20, category)
+            self.assertEqual(in_every_form(table, at, Subject(at))[0], b"low:border")
+            self.assertEqual(in_every_form(table, at, Subject(Label(199, CATEGORIES - {category})))[0], "E13")
 
 
 class WritingRanges(unittest.TestCase):
@@ -199,10 +212,16 @@ class WritingRanges(unittest.TestCase):
 
     def test_three_ways(self):
         both, low = (0, b"-L low:east -H high:north,east"), (1, b"-L low:east -H ?")
-        for at, expected in ((label(40, 1, 7), both), (TOP, both), (label(40, 7), low), (label(39, 1, 7), low), (label(20, 7), low),
-                             (label(20), "E13"), (label(19, 1, 7), "E13"), (label(199, 1), "E13"), (label(0), "E13")):
+        for at, expected in ((label(40, 1, 7), both), (TOP, both), (label(40, 7), low), (label(39, 1, 7), low),
+                             (label(20, 7), low), (label(20), "E13"), (label(19, 1, 7), "E13"), (label(199, 1), "E13"),
+                             (label(0), "E13")):
             self.assertEqual(in_every_form(SMALL, self.BOUNDS, Subject(at))[0], expected)
             self.assertEqual(in_every_form(SMALL, self.BOUNDS, Subject(at, True))[0], both)
+
+    def test_one_label(self):
+        """A range of one label is in sight or not as the label is."""
+        for at, expected in ((label(30), (0, b"-L middle -H middle")), (label(29, 1), "E13")):
+            self.assertEqual(in_every_form(SMALL, Range(label(30), label(30)), Subject(at))[0], expected)
 
     def test_forms(self):
         """Of each end by itself."""
@@ -224,10 +243,11 @@ class WritingRanges(unittest.TestCase):
         for table, given, subject, capacity, expected in (
                 (BAD_TABLE, upside_down, BAD_SUBJECT, 0, "E22 2"), (BAD_TABLE, unnamed, SEES_NONE, 0, "E22 2"),
                 (SMALL, upside_down, SEES_NONE, 0, "E22"), (SMALL, Range(label(20), label(200)), SEES_NONE, 0, "E22"),
-                (SMALL, unnamed, BAD_SUBJECT, 0, "E22"), (SMALL, unnamed, SEES_NONE, 0, "E13"), (SMALL, bounds, SEES_NONE, 99, "E13"),
-                (SMALL, unnamed, SEES_ALL, 0, "E2"), (SMALL, unnamed, Subject(label(30)), 0, "E2"),
-                (SMALL, bounds, SEES_ALL, 13, "E7 14"), (SMALL, bounds, SEES_ALL, 14, (0, b"-L low -H high")),
-                (SMALL, bounds, Subject(label(20)), 10, "E7 11"), (SMALL, bounds, Subject(label(20)), 11, (1, b"-L low -H ?"))):
+                (SMALL, unnamed, BAD_SUBJECT, 0, "E22"), (SMALL, unnamed, SEES_NONE, 0, "E13"),
+                (SMALL, bounds, SEES_NONE, 99, "E13"), (SMALL, unnamed, SEES_ALL, 0, "E2"),
+                (SMALL, unnamed, Subject(label(30)), 0, "E2"), (SMALL, bounds, SEES_ALL, 13, "E7 14"),
+                (SMALL, bounds, SEES_ALL, 14, (0, b"-L low -H high")), (SMALL, bounds, Subject(label(20)), 10, "E7 11"),
+                (SMALL, bounds, Subject(label(20)), 11, (1, b"-L low -H ?"))):
             self.assertEqual(outcome(write_range, table, given, subject, DEFINITION_FORM, WHOLE_NAMES, capacity), expected)
 
 
@@ -241,9 +261,8 @@ class Reading(unittest.TestCase):
     """Document 01, "Reading"."""
 
     def test_good(self):
-        low, middle, pair = label(20), label(30), LABEL
-        expected = [low, middle, middle, label(40), label(20, 7), label(20, 7), label(20, 1, 7), label(20, 1, 7), label(30, 1, 2, 7),
-                    pair, pair, pair]
+        expected = [label(20), label(30), label(30), label(40), label(20, 7), label(20, 7), label(20, 1, 7), label(20, 1, 7),
+                    label(30, 1, 2, 7), LABEL, LABEL, LABEL]
         self.assertEqual(readings(SMALL, GOOD_TEXTS), dict(zip(GOOD_TEXTS, expected)))
 
     def test_bad(self):
@@ -253,7 +272,8 @@ class Reading(unittest.TestCase):
 
     def test_every_text(self):
         """All texts of up to five bytes from the names of a table, the separators and a blank."""
-        table = table_of(of_hierarchy(20, b"a"), of_category(1, b"b", b"c"), of_category(2, b"d"), of_label(label(30, 2), b"f"))
+        table = table_of(of_hierarchy(20, b"a"), of_category(1, b"b", b"c"), of_category(2, b"d"),
+                         of_label(label(30, 2), b"f"))
         texts = (bytes(text) for size in range(6) for text in itertools.product(b"abcdf:, ", repeat=size))
         one, two, both = label(20, 1), label(20, 2), label(20, 1, 2)
         self.assertEqual(readings(table, texts), {
@@ -290,8 +310,8 @@ class ReadingRanges(unittest.TestCase):
 
     def test_good(self):
         low, high, pair = label(20), label(40), LABEL
-        expected = [(low, low), (low, high), (label(20, 7), label(40, 1, 7)), (low, pair), (pair, pair), (pair, label(40, 1, 2, 7)),
-                    (pair, pair)]
+        expected = [(low, low), (low, high), (label(20, 7), label(40, 1, 7)), (low, pair), (pair, pair),
+                    (pair, label(40, 1, 2, 7)), (pair, pair)]
         self.assertEqual([read_range(SMALL, text, SEES_ALL) for text in GOOD_RANGES], [Range(*ends) for ends in expected])
 
     def test_bad(self):
@@ -309,7 +329,8 @@ class ReadingRanges(unittest.TestCase):
 
     def test_sight(self):
         bounds = Range(label(20), label(40, 7))
-        for at, expected in ((label(40, 7), bounds), (TOP, bounds), (label(39, 7), "E22"), (label(40), "E22"), (label(0), "E22")):
+        for at, expected in ((label(40, 7), bounds), (TOP, bounds), (label(39, 7), "E22"), (label(40), "E22"),
+                             (label(0), "E22")):
             self.assertEqual(outcome(read_range, SMALL, b"-L low -H high:e", Subject(at)), expected)
             self.assertEqual(outcome(read_range, SMALL, b"-L low -H high:e", Subject(at, True)), bounds)
 
@@ -393,6 +414,7 @@ class Lines(unittest.TestCase):
 
     TABLE = b"table\n" + write(LOW) + write(EAST)
     SMALL = TABLE + b"\nsubject 0\n" + write(TOP)
+    FULL = b"table\n" + b"".join(map(write, FULL)) + b"\nsubject 1\n" + write(label(0))
     GOOD = b"label 0 0\n" + write(label(20, 7))
 
     def answers(self, *lines):
@@ -407,14 +429,15 @@ class Lines(unittest.TestCase):
         """An empty table, hierarchy 0 with no categories and no override, and a capacity of 20,000."""
         self.assertEqual(self.answers(b"label 0 0\n", write(label(0)), b"label 0 0\n", write(label(1)), b"read-label\nlow\n"),
                          ["error 2", "error 13", "error 22"])
-        answers = self.answers(b"table\n", *map(write, FULL), b"\nsubject 1\n", write(label(0)), b"range 0 0\n", write(LONGEST_RANGE))
-        self.assertEqual(answers, ["table 512", "ok", "0 " + LONGEST_TEXTS[1].decode()])
+        self.assertEqual(self.answers(self.FULL, b"range 0 0\n", write(LONGEST_RANGE)),
+                         ["table 512", "ok", "0 " + LONGEST_TEXTS[1].decode()])
 
     def test_answers(self):
-        self.assertEqual(self.after_small(self.GOOD, b"label 0 1\n", write(label(20, 7)), b"range 1 1\n",
-                                          write(Range(label(20), label(20, 7))), b"read-label\nlow:e\n", b"read-range\n-L low -H low:e\n"),
-                         ["low:east", "low:e", "0 -L low -H low:e", write(label(20, 7)).decode()[:-1],
-                          write(Range(label(20), label(20, 7))).decode()[:-1]])
+        at, bounds = write(label(20, 7)), write(Range(label(20), label(20, 7)))
+        self.assertEqual(self.after_small(b"label 0 0\n", at, b"label 0 1\n", at, b"range 1 1\n", bounds),
+                         ["low:east", "low:e", "0 -L low -H low:e"])
+        self.assertEqual(self.after_small(b"read-label\nlow:e\n", b"read-range\n-L low -H low:e\n"),
+                         [at.decode().rstrip(), bounds.decode().rstrip()])
 
     def test_end_of_a_table(self):
         """An empty line or the end of the input; a comment is a line of the table."""
@@ -433,6 +456,12 @@ class Lines(unittest.TestCase):
             for end in (b"\n", b"\n\n", b""):
                 self.assertEqual(self.answers(self.TABLE, b"0" * size, end), ["error 22 2"])
                 self.assertEqual(self.answers(self.TABLE, write(LOW), b"0" * size, end), ["error 22 2"])
+            self.assertEqual(self.answers(self.TABLE, b"0" * size, b"\n", write(LOW), b"\n", b"capacity 1\n"),
+                             ["error 22 2", "ok"])
+
+    def test_many_lines_of_a_table(self):
+        lines = b"".join(map(write, short_table(600)))
+        self.assertEqual(self.answers(b"table\n", lines, b"\n", b"capacity 1\n"), ["error 22 512", "ok"])
 
     def test_table_buffer(self):
         exact = b"".join(labels_table(TABLE_BUFFER))
@@ -451,15 +480,21 @@ class Lines(unittest.TestCase):
 
     def test_bad_table_stays(self):
         bad = b"table\n" + write(LOW) + b"x\n\n"
-        self.assertEqual(self.after_small(bad, self.GOOD, b"range 0 0\n", write(RANGE), b"read-label\nx\n", b"read-range\n\n"),
-                         ["error 22 1"] * 5)
+        self.assertEqual(self.after_small(bad, self.GOOD, b"range 0 0\n", write(RANGE), b"read-label\nx\n",
+                                          b"read-range\n\n"), ["error 22 1"] * 5)
         self.assertEqual(self.after_small(bad, b"label 2 0\n", write(LABEL), b"range 0 0\n", write(LABEL), b"read-label\n",
                                           b"x" * TEXT_BUFFER, b"\n", b"read-label\nlow"), ["error 22 1", *["error 22"] * 4])
-        self.assertEqual(self.after_small(bad, b"table 1\n", b"capacity 9\n", b"subject 1\n", write(LABEL), self.GOOD, self.TABLE,
-                                          b"\n", self.GOOD), ["error 22 1", "error 22", "ok", "ok", "error 22 1", "table 2", "low:east"])
+        self.assertEqual(self.after_small(bad, b"table 1\n", b"capacity 9\n", b"subject 1\n", write(LABEL), self.GOOD,
+                                          self.TABLE, b"\n", self.GOOD),
+                         ["error 22 1", "error 22", "ok", "ok", "error 22 1", "table 2", "low:east"])
+
+    def test_bounds(self):
+        self.assertEqual((TABLE_BUFFER, TEXT_BUFFER, MOST_CAPACITY), (65536, 16453 + 1, 20000))
 
     def test_refused_numbers_change_nothing(self):
-        self.assertEqual(self.after_small(b"subject 2\n", write(label(0)), self.GOOD), ["error 22", "low:east"])
+        for number in (2, 256, 2 ** 32, 2 ** 32 + 1, 2 ** 64 - 1):
+            self.assertEqual(self.after_small(b"subject %d\n" % number, write(label(0)), self.GOOD),
+                             ["error 22", "low:east"])
         self.assertEqual(self.after_small(b"capacity 7\n", b"capacity 20001\n", self.GOOD), ["ok", "error 22", "error 7 8"])
         self.assertEqual(self.after_small(b"capacity 0\n", b"capacity 20000\n", self.GOOD), ["ok", "ok", "low:east"])
 
@@ -482,10 +517,12 @@ class Lines(unittest.TestCase):
         self.assertEqual(self.after_small(b"read-label\nlabel 0 0\n", self.GOOD), ["error 22", "low:east"])
         self.assertEqual(self.after_small(b"read-label\n"), ["error 22"])
         self.assertEqual(self.after_small(b"read-label\nlow"), ["error 22"])
-        full, text = b"table\n" + b"".join(map(write, FULL)) + b"\nsubject 1\n" + write(label(0)), LONGEST_TEXTS[1]
-        for given, expected in ((text, write(LONGEST_RANGE).decode()[:-1]), (text + b"0", "error 22"), (text[:-1], "error 22")):
-            self.assertEqual(self.answers(full, b"read-range\n", given, b"\n", b"capacity 1\n"), ["table 512", "ok", expected, "ok"])
-        self.assertEqual(TEXT_BUFFER, len(text) + 1)
+
+    def test_longest_text(self):
+        text, line = LONGEST_TEXTS[1], write(LONGEST_RANGE).decode().rstrip()
+        for given, expected in ((text, line), (text + b"0", "error 22"), (text[:-1], "error 22")):
+            self.assertEqual(self.answers(self.FULL, b"read-range\n", given, b"\n", b"capacity 1\n"),
+                             ["table 512", "ok", expected, "ok"])
 
     def test_bytes_of_text(self):
         """A text is the line without its LF, whatever bytes it holds."""
@@ -501,25 +538,27 @@ class StoredCases(unittest.TestCase):
         for choice in choices:
             *state, answer = text_cmd.answers(choice.state + choice.request).splitlines(keepends=True)
             self.assertEqual(len(state), 3)
-            self.assertTrue(answer.startswith(choice.refusal) if choice.refusal else not answer.startswith(b"error"), choice.what)
+            if choice.refusal is None:
+                self.assertFalse(answer.startswith(b"error"), choice.what)
+            else:
+                self.assertTrue(answer.startswith(choice.refusal), choice.what)
         self.assertEqual({choice.refusal for choice in choices}, {None, *text_cmd_cases.CHECKS.values()})
 
     def test_bad_lines(self):
         for what, line in text_cmd_cases.BAD_LINES:
-            self.assertEqual(text_cmd.answers(text_cmd_cases.table(LOW, line)), b"error 22 1\n", what)
-            self.assertEqual(text_cmd.answers(text_cmd_cases.table(LOW)), b"table 1\n")
+            self.assertEqual(text_cmd.answers(text_cmd_cases.table(LOW, line, WEST)), b"error 22 1\n", what)
+        self.assertEqual(text_cmd.answers(text_cmd_cases.table(LOW, WEST)), b"table 2\n")
 
     def test_sections(self):
-        """Every section but those of the protocol can stand alone, and ends between two requests."""
-        show = b"capacity 123\n"
+        """Each ends between two requests."""
         for what, requests in text_cmd_cases.SECTIONS:
-            self.assertTrue(text_cmd.answers(b"".join(requests()) + show).endswith(b"\nok\n"), what)
+            self.assertTrue(text_cmd.answers(b"".join(requests()) + b"capacity 1\n").endswith(b"\nok\n"), what)
 
     def test_text_sizes(self):
         """The texts about as long as the line buffer are good."""
-        sizes = [len(line) for line in b"".join(text_cmd_cases.text_sizes()).splitlines(keepends=True)]
-        self.assertTrue({protocol.LINE_BUFFER - 1, protocol.LINE_BUFFER, protocol.LINE_BUFFER + 1, TEXT_BUFFER} <= set(sizes))
-        for size in range(protocol.LINE_BUFFER - 4, protocol.LINE_BUFFER + 4):
+        sizes = {len(line) for line in b"".join(text_cmd_cases.text_sizes()).splitlines(keepends=True)}
+        self.assertTrue({LINE_BUFFER - 1, LINE_BUFFER, LINE_BUFFER + 1, TEXT_BUFFER, TEXT_BUFFER + 1} <= sizes)
+        for size in range(LINE_BUFFER - 4, LINE_BUFFER + 4):
             text = b"h" * (size - len(text_cmd_cases.LENGTHS_TAIL)) + text_cmd_cases.LENGTHS_TAIL
             self.assertEqual(len(read_label(table_of(*text_cmd_cases.LENGTHS), text, SEES_ALL).categories), 16)
 

@@ -199,6 +199,18 @@ def borders():
                read_range(b"-L h0 -H h199:c255,k0"))
 
 
+def near_aliases():
+    """Aliases of labels that differ in one category or in the hierarchy, and labels between them that have none."""
+    entries = [of_label(at, b"l%d" % number, b"a%d" % number)
+               for number, at in enumerate([*BORDER_LABELS, label(0), label(199), label(199, 255)])]
+    yield case("aliases of labels at borders", SEES_ALL, table(*entries))
+    for entry in entries:
+        yield in_every_form(entry.value) + read_label(entry.name) + read_label(entry.abbreviation)
+    yield case("no aliases of these", *(written(at, ALIAS_FORM) for at in (
+        label(21), *(label(20, c) for c in (1, 62, 65, 126, 190, 193, 254)), label(21, 255), label(20, *WORD_BORDERS[1:]),
+        label(20, *WORD_BORDERS[:-1]), label(20, 1, *WORD_BORDERS), label(198, 255), label(1))))
+
+
 # Texts
 
 def texts():
@@ -233,8 +245,9 @@ def text_sizes():
 
 def sight():
     seen = [(label(20), b"low"), (label(20, 7), b"low:e"), (LABEL, b"pair"), (label(40, 1, 2, 7), b"high:n,s,e")]
+    others = [label(0), label(19, 1, 2, 7), label(39, 1, 2, 7), label(40, 1, 2)]  # see none or some of them
     yield SMALL
-    for at in (label(0), label(19, 1, 2, 7), label(20), label(20, 7), LABEL, label(39, 1, 2, 7), label(40, 1, 2), label(40, 1, 2, 7)):
+    for at in (*others, *(one for one, _ in seen)):
         for override in (0, 1):
             yield case(f"hierarchy {at.hierarchy}, categories {sorted(at.categories)}, override {override}",
                        subject(at, override), *(written(one) + read_label(text) for one, text in seen))
@@ -458,7 +471,7 @@ def at_the_start():
 
 def tables_at_the_end():
     """Tables that the end of the input ends."""
-    lines, exact, over = map(b"".join, (PROGRAM.others[b"table"][:-1], labels_table(TABLE_BUFFER), labels_table(TABLE_BUFFER + 1)))
+    lines, exact, over = b"".join(map(write, ENTRIES)), *(b"".join(labels_table(TABLE_BUFFER + more)) for more in (0, 1))
     for what, end in (("no line", b""), ("no empty line", lines), ("no last LF", lines[:-1]),
                       ("one byte for a line", lines + b"0"), ("a bad line, and no last LF", lines + b"x\n" + lines[:-1]),
                       ("as long as the buffer", exact), ("some lines more", exact + lines),
@@ -518,6 +531,7 @@ SECTIONS = [
     ("Forms and variants", forms),
     ("Several names for one number", several_names),
     ("Hierarchies and categories at borders", borders),
+    ("Aliases of labels that are almost the same", near_aliases),
     ("Good and bad texts", texts),
     ("Texts by their length", text_sizes),
     ("What a subject sees", sight),
