@@ -7,6 +7,8 @@ from protocol import DASH, LEFT_OUT, LINE_BUFFER, NUMBERS_END
 from rules import write
 from samples import ALIAS, LABEL, SAMPLES, damaged, sum_changed
 
+MEGABYTE = 2 ** 20
+
 
 def case(what, *lines):
     return b"# %s\n" % what.encode() + b"".join(lines)

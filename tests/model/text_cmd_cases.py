@@ -10,7 +10,7 @@ import cases
 import mac_cmd
 import mac_cmd_cases
 import segments_cmd
-from cases import Program, case, command_line, filled, operand_line
+from cases import MEGABYTE, Program, case, command_line, filled, operand_line
 from protocol import LINE_BUFFER, NUMBERS_END
 from rules import LONGEST_NAME, Range, Tuple, write
 from samples import BORDER_HIERARCHIES, BORDER_LABELS, LABEL, RANGE, TUPLE, WORD_BORDERS, at_times, label, sum_changed
@@ -24,7 +24,6 @@ from text_samples import (BAD_RANGES, BAD_TEXTS, EAST, ENTRIES, FULL, GOOD_RANGE
 RANDOM_TABLES = 40
 RANDOM_REQUESTS = 16  # on each
 FAR = [2 ** 32, 2 ** 32 + 1, 2 ** 63, NUMBERS_END - 1]  # numbers of which the lower bits would often be good
-MEGABYTE = 2 ** 20
 
 
 # Requests
@@ -424,8 +423,8 @@ def number_forms():
 
 def random_text(rng, known):
     """A text to read, damaged at times."""
-    text_in, read = rng.choice(((label_text_in, read_label), (range_text_in, read_range)))
-    text = text_in(rng, known)
+    any_text, read = rng.choice(((label_text_in, read_label), (range_text_in, read_range)))
+    text = any_text(rng, known)
     return read(damaged_text(rng, text) if at_times(rng, 0.2) else text)
 
 
@@ -503,14 +502,17 @@ def long_texts():
 
 
 def long_tables():
-    lines, exact = b"".join(map(write, ENTRIES)), b"".join(labels_table(TABLE_BUFFER))
+    lines = b"".join(map(write, ENTRIES))
+    *almost, last = labels_table(TABLE_BUFFER)
+    almost = b"".join(almost)
+    exact = almost + last
     for what, data in (("a line of a megabyte", lines + b"0" * MEGABYTE + b"\n" + lines),
                        ("a line of a megabyte of NUL", lines + b"\0" * MEGABYTE + b"\n"),
                        ("a line of every byte", lines + bytes(byte for byte in range(256) if byte != 10) + b"\n"),
                        ("a megabyte of short lines", b"x\n" * (MEGABYTE // 2)),
                        ("a megabyte of comments", b"# comment\n" * (MEGABYTE // 10)),
                        ("a megabyte of good lines", exact * (MEGABYTE // len(exact))),
-                       ("a line that is too long where the buffer ends", exact[:-139] + b"0" * 600 + b"\n" + lines),
+                       ("a line that is too long where the buffer ends", almost + b"0" * 600 + b"\n" + lines),
                        ("lines as long as the line buffer", filled(b"", b"0", b"", LINE_BUFFER) * 200)):
         yield f"a table of {what}, then requests", SMALL + table(data) + KEPT + read_label(b"low") + SMALL + KEPT
     yield "large and small tables in turns", 10 * b"".join(
