@@ -7,6 +7,8 @@ from protocol import DASH, LEFT_OUT, LINE_BUFFER, NUMBERS_END
 from rules import write
 from samples import ALIAS, LABEL, SAMPLES, damaged, sum_changed
 
+MEGABYTE = 2 ** 20
+
 
 def case(what, *lines):
     return b"# %s\n" % what.encode() + b"".join(lines)
@@ -48,12 +50,19 @@ class Program:
     with_first: object  # makes a request of a line for its first operand, which should be a label
     with_last: object  # makes a request of a line for its last operand, with others before it where there are any
     numbers: dict = field(default_factory=dict)  # by word, the numbers of a good request where zeros are not good
+    others: dict = field(default_factory=dict)  # by word, the lines of good operands that are no hex lines
 
     def request(self, word, *operands, numbers=None):
         """A request with the numbers, or those of a good one, and with what `operand_line` takes as operands."""
         if numbers is None:
             numbers = self.numbers.get(word, [0] * self.commands[word].numbers)
         return command_line(word, numbers) + b"".join(map(operand_line, operands))
+
+    def operands(self, word):
+        """The lines of a good request's operands."""
+        if word in self.others:
+            return self.others[word]
+        return [write(contents) for contents in samples(self.commands[word].forms[0])]
 
 
 # Operands
@@ -76,7 +85,7 @@ def may_be_left_out(command, at):
 def bad_operands(program):
     a_command = program.good[0].splitlines(keepends=True)[0]
     for word, command in program.commands.items():
-        good = [write(contents) for contents in samples(command.forms[0])]
+        good = program.operands(word) if word not in program.others else []
         for at, operand in enumerate(good):
             for what, line in bad_operands_for(operand, a_command):
                 if line != DASH or not may_be_left_out(command, at):
@@ -134,10 +143,10 @@ def bad_words(program, counts, unknown):
     for word, command in program.commands.items():
         for what, text in word_forms(word, program.request(word)):
             yield case(f"{word.decode()}: {what}", text + b"\n")
-        operands = [write(contents) for contents in samples(command.forms[0])]
         for count in counts:
             if count != command.numbers:
-                yield case(f"{word.decode()} with a wrong count of numbers takes no operand", command_line(word, [1] * count), *operands)
+                yield case(f"{word.decode()} with a wrong count of numbers takes no operand", command_line(word, [1] * count),
+                           *program.operands(word))
     for word in unknown:
         yield case("an unknown word", word + b"\n")
     yield case("a hex line", write(LABEL))

@@ -6,7 +6,7 @@ import re
 import sys
 from collections import namedtuple
 
-from rules import INVALID, Refusal, read, write
+from rules import INVALID, Refusal, read, require, write
 
 LINE_BUFFER = 512
 NUMBER = re.compile(rb"[0-9]+")
@@ -14,17 +14,18 @@ NUMBERS_END = 2 ** 64
 DASH = b"-\n"
 LEFT_OUT = type(None)  # the kind of an operand that a dash stands for
 
-# How many numbers a command has, the kinds of operands that it takes, each way that it takes them, and what it calls.
-Command = namedtuple("Command", "numbers forms call")
-
 
 def lines_of(data):
-    """The input's lines, each with its LF; None for a bad one, which has no LF or does not fit the line buffer."""
+    """The input's lines, each with its LF, which a last one may lack."""
     *ended, last = data.split(b"\n")
-    for line in ended:
-        yield line + b"\n" if len(line) < LINE_BUFFER else None
+    yield from (line + b"\n" for line in ended)
     if last:
-        yield None
+        yield last
+
+
+def whole(line, buffer=LINE_BUFFER):
+    """The line; None for a bad one, which has no LF or does not fit the buffer, and where there is none."""
+    return line if line is not None and line.endswith(b"\n") and len(line) <= buffer else None
 
 
 def number(digits):
@@ -50,15 +51,23 @@ def operand(line):
     return None if line == DASH else read(line)
 
 
-def operands_of(lines, command):
+def hex_operands(lines, command):
     """The contents of a command's operand lines. All of them are taken before any is looked at."""
-    taken = [next(lines, None) for _ in command.forms[0]]
-    if None in taken:
-        raise Refusal(INVALID)
+    taken = [whole(next(lines, None)) for _ in command.forms[0]]
+    require(None not in taken, INVALID)
     operands = [operand(line) for line in taken]
-    if tuple(map(type, operands)) not in command.forms:
-        raise Refusal(INVALID)
+    require(tuple(map(type, operands)) in command.forms, INVALID)
     return operands
+
+
+# How many numbers a command has, the kinds of operands that it takes, each way that it takes them, what it calls, and how
+# its operands are taken from the lines.
+Command = namedtuple("Command", "numbers forms call operands", defaults=[hex_operands])
+
+
+def keeping(kept, commands):
+    """Commands whose calls get, before all else, what a program keeps between requests."""
+    return {word: command._replace(call=functools.partial(command.call, kept)) for word, command in commands.items()}
 
 
 def printed(answer):
@@ -74,13 +83,18 @@ def printed(answer):
     return b"%s\n" % str(answer).encode()
 
 
+def error(refusal):
+    """What is printed of a refusal, with the one more number that it may carry."""
+    return printed(f"error {refusal.number}" if refusal.detail is None else f"error {refusal.number} {refusal.detail}")
+
+
 def answer(commands, line, lines):
     """The answer to the request that begins with `line`; its operands are taken from `lines`."""
     try:
         command, numbers = command_of(commands, line)
-        return printed(command.call(*numbers, *operands_of(lines, command)))
+        return printed(command.call(*numbers, *command.operands(lines, command)))
     except Refusal as refusal:
-        return b"error %d\n" % refusal.number
+        return error(refusal)
 
 
 def skipped(line):
@@ -90,7 +104,7 @@ def skipped(line):
 
 def answers(commands, data):
     lines = lines_of(data)
-    return b"".join(answer(commands, line, lines) for line in lines if not skipped(line))
+    return b"".join(answer(commands, line, lines) for line in map(whole, lines) if not skipped(line))
 
 
 def run(program):

@@ -9,6 +9,7 @@ from dataclasses import dataclass
 # "Numbers handed back"
 
 NO_PRIVILEGE = 1
+NO_NAME = 2
 BUFFER_SHORT = 7
 NO_PAGES = 12
 DENIED = 13
@@ -19,12 +20,24 @@ NO_COMMON_LABEL = 33
 
 
 class Refusal(Exception):
-    """A refusal: its number, and the one more number that 7 carries."""
+    """A refusal: its number, and the one more number that 7 and a bad table's 22 carry."""
 
     def __init__(self, number, detail=None):
         super().__init__(number, detail)
         self.number = number
         self.detail = detail
+
+
+def require(met, number, detail=None):
+    """One check: refuses with the number unless it is met."""
+    if not met:
+        raise Refusal(number, detail)
+
+
+def fitted(text, capacity):
+    """What is to be written. With a capacity, a text that is longer is refused with its length."""
+    require(capacity is None or len(text) <= capacity, BUFFER_SHORT, len(text))
+    return text
 
 
 # "Labels and regions"
@@ -276,12 +289,8 @@ def sealed(frame):
 
 def write(contents, capacity=None):
     """The line of `contents`. With a capacity, a line that is longer is refused with its length."""
-    if not contents.valid():
-        raise Refusal(INVALID)
-    line = sealed(bytes([contents.KIND]) + contents.body())
-    if capacity is not None and len(line) > capacity:
-        raise Refusal(BUFFER_SHORT, len(line))
-    return line
+    require(contents.valid(), INVALID)
+    return fitted(sealed(bytes([contents.KIND]) + contents.body()), capacity)
 
 
 def read(line):

@@ -40,6 +40,10 @@ BORDER_TUPLES = [
 
 # Random contents
 
+def at_times(rng, share):
+    return rng.random() < share
+
+
 def any_hierarchy(rng, within):
     """As often an end of `within` or near a border of a region as anywhere."""
     borders = [h for h in NEAR_BORDERS if h in within] + [within[0], within[-1]]

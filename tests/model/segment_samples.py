@@ -7,7 +7,7 @@ from dataclasses import replace
 
 from protocol import NUMBERS_END
 from rules import Range, Tuple
-from samples import label, tuple_of
+from samples import at_times, label, tuple_of
 from segments import MOST_PAGES, SLOTS, TENANTS, Call, Segment, SegmentTable, Tenant, step, tenant_call
 
 LABELS = [label(10), label(20), label(30, 1), label(30, 2), label(30, 1, 2), label(40, 1, 2, 200), label(185, 255)]
@@ -21,10 +21,6 @@ CLEARANCES = [
 ]
 NAMES = ["open", "size", "post", "look", "close"]
 WEIGHTS = [7, 3, 3, 5, 2]
-
-
-def at_times(rng, share):
-    return rng.random() < share
 
 
 # Tables

@@ -5,7 +5,7 @@ import functools
 from collections import namedtuple
 from dataclasses import dataclass, replace
 
-from rules import DENIED, IN_USE, INVALID, NO_PAGES, NO_PLACE, NO_PRIVILEGE, Label, Refusal, Tuple
+from rules import DENIED, IN_USE, INVALID, NO_PAGES, NO_PLACE, NO_PRIVILEGE, Label, Refusal, Tuple, require
 
 MOST_PAGES = 1_048_576
 PAGES = range(1, MOST_PAGES + 1)  # of a pool, and those that a call may ask for
@@ -13,12 +13,6 @@ TENANTS = range(8)  # tenant numbers
 SLOTS_EACH = 8
 SLOTS = range(SLOTS_EACH * len(TENANTS))  # place numbers
 VERSIONS = range(2 ** 64)
-
-
-def require(met, number):
-    """One check: refuses with the number unless it is met."""
-    if not met:
-        raise Refusal(number)
 
 
 remembered = functools.lru_cache(maxsize=2 ** 14)  # for what each call asks again of the whole table

@@ -1,12 +1,10 @@
 # A model of the program segments_cmd, as docs/PROGRAMS.md describes it, over the rules in segments.py:
 # python3 tests/model/segments_cmd.py < INPUT > OUTPUT. `answers` is the same from bytes to bytes.
 
-import functools
-
 import protocol
 from protocol import Command
-from rules import INVALID, Label, Tuple
-from segments import SLOTS, TENANTS, SegmentTable, require
+from rules import INVALID, Label, Tuple, require
+from segments import SLOTS, TENANTS, SegmentTable
 
 
 class Console:
@@ -69,9 +67,7 @@ COMMANDS = {
 
 
 def answers(data):
-    console = Console()
-    kept = {word: command._replace(call=functools.partial(command.call, console)) for word, command in COMMANDS.items()}
-    return protocol.answers(kept, data)
+    return protocol.answers(protocol.keeping(Console(), COMMANDS), data)
 
 
 if __name__ == "__main__":

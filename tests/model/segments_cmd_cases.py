@@ -336,10 +336,8 @@ UNKNOWN_WORDS = [*(command_line(word, [0] * command.numbers)[:-1] for word, comm
 
 
 def number_forms():
-    for word, command in COMMANDS.items():
-        numbers = PROGRAM.numbers.get(word, ())
-        operands = b"".join(map(cases.operand_line, cases.samples(command.forms[0])))
-        yield from between(cases.number_forms(word, numbers, operands))
+    for word in COMMANDS:
+        yield from between(cases.number_forms(word, PROGRAM.numbers.get(word, ()), b"".join(PROGRAM.operands(word))))
 
 
 # Random calls
@@ -388,8 +386,7 @@ def mixes(rng):
 
 def before_make():
     """Every other command, good but for the state that the program starts with."""
-    return b"".join(PROGRAM.request(word, *cases.samples(command.forms[0]))
-                    for word, command in COMMANDS.items() if word != b"make")
+    return b"".join(PROGRAM.request(word, *PROGRAM.operands(word)) for word in COMMANDS if word != b"make")
 
 
 def longer_runs():
