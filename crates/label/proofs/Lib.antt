@@ -4,6 +4,7 @@ pub mod SearchLaws
 pub mod BitLaws
 pub mod WordLaws
 pub mod ListingLaws
+pub mod SingleLaws
 pub mod RegionLaws
 pub mod AnswerLaws
 pub mod BufferLaws

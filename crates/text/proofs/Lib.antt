@@ -1,0 +1,4 @@
+pub mod NameLaws
+pub mod RoundLaws
+pub mod TextLaws
+pub mod SightLaws
