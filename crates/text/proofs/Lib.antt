@@ -2,3 +2,4 @@ pub mod NameLaws
 pub mod RoundLaws
 pub mod TextLaws
 pub mod SightLaws
+pub mod TextExamples

@@ -1,28 +1,26 @@
 -- Names that are written find the entries that they are written of, in a table whose entries are valid and in which no name stands twice.
 -- Assumes nothing.
-use mathlib.Core.Bool.{Bool, true, false, cond, _&&_, _||_, true≢false}
-use mathlib.Core.List.{List, [], _∷_, _++_}
+use mathlib.Core.Bool.{Bool, true, false, cond, _&&_, true≢false}
+use mathlib.Core.List.{List}
 use mathlib.Core.Logic.{⊎-elim}
 use mathlib.Core.Option.{Option, none, some}
 use mathlib.Core.Path.{_≡_, refl, sym, ap, _∙_}
-use Prim.Native.Nat.{ℕ, zero, suc, _+_, _≤_, _<_}
-use native.Mathlib.Nat.{zero-add, eq-or-lt-of-le}
+use Prim.Native.Nat.{ℕ, zero, suc, _<_}
 use native.Mathlib.Omega.{arith}
-use lib.Dec.{eqb, leb}
-use lib.ListN.{getD, length, replicate}
-use borrow.Author.Tests.{eqb-true, leb-true}
+use lib.Dec.{leb}
+use lib.ListN.{getD, length}
+use borrow.Author.Tests.{eqb-true}
 use Rattle.label.specs.Answer.{Answer, andThen, granted}
 use Rattle.label.specs.Index.{firstFrom, firstOr, lastBelow}
 use Rattle.label.specs.Label
-use Rattle.label.specs.Words.{words}
 use Rattle.label.specs.declared.Label.{Label}
-use Rattle.label.proofs.BoolLaws.{both, either, first-true, or-first, or-second, second-true}
+use Rattle.label.proofs.BoolLaws.{both, either, or-first, or-second, second-true}
 use Rattle.label.proofs.LabelLaws.{equal-exact}
 use Rattle.label.proofs.SearchLaws.{first-least, first-none}
-use Rattle.octets.specs.Bytes.{indexOf, sameBytes}
+use Rattle.octets.specs.Bytes.{sameBytes}
 use Rattle.octets.proofs.ByteLaws.{same-is, same-self}
 use Rattle.hexline.specs.Entry as entries
-use Rattle.hexline.specs.Entry.{TypedEntry, abbreviationBytes, isLetter, isNameByte, nameBytes}
+use Rattle.hexline.specs.Entry.{TypedEntry, abbreviationBytes, isNameByte, nameBytes}
 use Rattle.hexline.specs.declared.entry.Entry.{Entry}
 use Rattle.hexline.specs.declared.entry.Value.{Value}
 use Rattle.hexline.specs.declared.entry.Value.the-variants.{Hierarchy, Category, WholeLabel}

@@ -1,16 +1,15 @@
 -- What is written of a label reads back as that label. Assumes nothing.
-use mathlib.Core.Bool.{Bool, true, false, cond, not, _&&_, _||_, and-false, and-true, or-false, true≢false}
+use mathlib.Core.Bool.{Bool, true, false, cond, not, _&&_, _||_, true≢false}
 use mathlib.Core.List.{List, [], _∷_, _++_, map, map-append, append-nil, List·Memᴰ, List·Memᴰ·cases-cons, List·Memᴰ·not-nil}
 use mathlib.Core.Logic.{⊎-elim}
 use mathlib.Core.Path.{_≡_, refl, sym, ap, ap₂, _∙_}
 use Prim.Native.Nat.{ℕ, zero, suc, _+_, _*_, _^_, _≤_, _<_}
-use native.Mathlib.Nat.{add-zero, suc-add, eq-or-lt-of-le, le-of-suc-le-suc}
-use native.Mathlib.Numerals.{add-one}
+use native.Mathlib.Nat.{add-zero, eq-or-lt-of-le, le-of-suc-le-suc}
 use native.Mathlib.Omega.{arith}
-use lib.Dec.{eqb, leb, ltb}
-use lib.ListN.{drop, getD, length, replicate, take, length-append}
-use lib.Seq.{drop-append-add, drop-append-seam, take-append-seam}
-use borrow.Author.Tests.{eq-eqb, eqb-true, le-ltb, lt-ltb, ltb-true, ltb-false, ne-eqb}
+use lib.Dec.{eqb, ltb}
+use lib.ListN.{length, length-append}
+use lib.Seq.{drop-append-add, take-append-seam}
+use borrow.Author.Tests.{eq-eqb, eqb-true, le-ltb, lt-ltb, ltb-true, ne-eqb}
 use Rattle.label.specs.Answer.{Answer, andThen, granted, refused, require}
 use Rattle.label.specs.Label
 use Rattle.label.specs.Label.{upperBoundOf}
@@ -18,16 +17,15 @@ use Rattle.label.specs.Words.{has, includesOf, listedIf, membersBelow, membersO
 use Rattle.label.specs.declared.Label.{Label}
 use Rattle.label.proofs.AnswerLaws.{grants-same}
 use Rattle.label.proofs.BoolLaws.{both, either, first-true, or-first, or-second, same-truth, second-true}
-use Rattle.label.proofs.IndexLaws.{le-or-lt}
 use Rattle.label.proofs.LabelLaws.{upper-typed}
-use Rattle.label.proofs.ListingLaws.{has-beyond, has-within, members-exact}
-use Rattle.label.proofs.WordLaws.{has-union, includes-antisym, includes-exact, union-length}
+use Rattle.label.proofs.ListingLaws.{has-within, members-exact}
+use Rattle.label.proofs.WordLaws.{has-union, includes-antisym, includes-exact}
 use Rattle.octets.specs.Bytes.{indexOf, split}
 use Rattle.octets.proofs.ByteLaws.{index-append}
 use Rattle.hexline.specs.Entry.{isLetter, isNameByte}
 use Rattle.hexline.specs.declared.entry.Entry.{Entry}
 use Rattle.hexline.specs.declared.entry.Value.the-variants.{Hierarchy, Category, WholeLabel}
-use Rattle.text.specs.Read.{categoriesRead, categoryNamed, composedOf, hierarchyNamed, labelIn, labelNamed, noCategories}
+use Rattle.text.specs.Read.{categoriesRead, categoryNamed, composedOf, labelIn, labelNamed, noCategories}
 use Rattle.text.specs.Write.{categoriesNamed, categoriesText, colon, comma, definitionNamed, definitionText, nameFor, named, namedIn, textIn}
 use Rattle.text.specs.declared.Form.{Form}
 use Rattle.text.specs.declared.Form.the-variants.{Definition, Alias}

@@ -1,9 +1,9 @@
 -- What is read is valid and in sight, and every refusal is the plain 22. Assumes nothing.
-use mathlib.Core.Bool.{Bool, true, false, cond, not, true≢false}
+use mathlib.Core.Bool.{Bool, true, false, cond, not}
 use mathlib.Core.List.{List, [], _∷_}
 use mathlib.Core.Option.{Option, none, some}
 use mathlib.Core.Path.{_≡_, refl, sym, ap, _∙_}
-use Prim.Native.Nat.{ℕ, _+_, _≤_, _<_}
+use Prim.Native.Nat.{ℕ, _+_, _≤_}
 use native.Mathlib.Omega.{arith}
 use lib.Dec.{ltb}
 use lib.ListN.{drop, length, take}
@@ -17,7 +17,7 @@ use Rattle.label.proofs.LabelLaws.{hierarchy-valid}
 use Rattle.label.proofs.SearchLaws.{first-least}
 use Rattle.range.specs.Range
 use Rattle.range.specs.declared.Range.{Range}
-use Rattle.range.proofs.RangeLaws.{Valid, parts-valid}
+use Rattle.range.proofs.RangeLaws.{parts-valid}
 use Rattle.octets.specs.Bytes.{blank, indexOf, split}
 use Rattle.hexline.specs.Entry as entries
 use Rattle.hexline.specs.declared.entry.Entry.{Entry}

@@ -1,13 +1,13 @@
 -- The laws of labels and ranges as text: what is written reads back, a range whose high end is not shown is refused, and what is read is in sight.
 -- Assumes nothing.
-use mathlib.Core.Bool.{Bool, true, false, cond, _&&_, true≢false}
+use mathlib.Core.Bool.{Bool, true, false, cond, _&&_}
 use mathlib.Core.List.{List, [], _∷_, _++_, append-assoc}
-use mathlib.Core.Option.{Option, none, some}
+use mathlib.Core.Option.{Option}
 use mathlib.Core.Path.{_≡_, refl, sym, ap, _∙_}
-use Prim.Native.Nat.{ℕ, zero, suc, _+_, _<_}
+use Prim.Native.Nat.{ℕ, zero, suc, _+_}
 use native.Mathlib.Nat.{add-zero}
 use native.Mathlib.Omega.{arith}
-use lib.ListN.{drop, getD, length, take}
+use lib.ListN.{length}
 use lib.Seq.{drop-append-seam, take-append-seam}
 use Rattle.label.specs.Answer.{Answer, andThen, granted, refused, require}
 use Rattle.label.specs.Label
