@@ -7,7 +7,7 @@ use Prim.Native.Nat.{ℕ, zero, suc, _+_, _*_, _/_, _%_, _^_, _≤_, _<_}
 use native.Mathlib.Nat.{add-zero, mod-lt, zero-lt-suc}
 use native.Mathlib.Omega.{arith}
 use lib.Dec.{eqb}
-use lib.ListN.{drop, getD, length, take, length-append, length-drop, List·getD-append}
+use lib.ListN.{drop, getD, length, take, length-append, length-drop, List·getD-append, List·getD-eq-default}
 use lib.Seq.{drop-cons, ext-getD, getD-append-add, getD-drop, getD-take, length-take-le, take-all, drop-drop, take-add}
 use borrow.Author.Tests.{le-ltb, lt-ltb}
 use Rattle.label.specs.Index.{tabulate}
@@ -17,9 +17,9 @@ use Rattle.label.specs.declared.Label.{Label}
 use Rattle.label.proofs.IndexLaws.{le-or-lt, tabulate-at, tabulate-length}
 use Rattle.range.specs.Range
 use Rattle.range.specs.declared.Range.{Range}
-use Rattle.frame.proofs.FrameLaws.{Bytes, bytes-append, bytes-by}
+use Rattle.frame.proofs.FrameLaws.{Bytes, bytes-append}
 use Rattle.hexline.specs.Body.{byteAt, categoryBit, categoryByte, labelAt, labelBytes, labelSize, numberOf, rangeAt, rangeBytes, rangeSize, wordFrom}
-use Rattle.hexline.proofs.NumberLaws.{as-number, byte-bit, number-digit, number-only}
+use Rattle.hexline.proofs.NumberLaws.{as-number, byte-bit, number-bound, number-digit, number-only}
 
 -- ---- bytes at an index
 
@@ -61,9 +61,14 @@ pub first-part : (n : ℕ) (bs : List ℕ) → length bs ≡ 1 + n → bs ≡ by
 first-part n [] e = absurd (omega arith)
 first-part n (b ∷ bs) e = ap (λ (l : List ℕ). b ∷ l) (sym (take-all n bs (omega arith)))
 
+-- past its end a list goes on with zeros
+tabulate-below : (f : ℕ → ℕ) (n b : ℕ) → ((i : ℕ) → f i < b) → (i : ℕ) → getD (tabulate f n) i 0 < b
+tabulate-below f n b h i =
+    ⊎-elim (λ l. let e = tabulate-length f n in let z = List·getD-eq-default (tabulate f n) 0 {n = i} (omega arith) in omega (arith, h i))
+    (λ l. let g = tabulate-at f n i 0 l in omega (arith, h i)) (le-or-lt n i)
+
 pub bytes-tabulate : (f : ℕ → ℕ) (n : ℕ) → ((i : ℕ) → f i < 256) → Bytes (tabulate f n)
-bytes-tabulate f n h =
-    bytes-by (tabulate f n) (λ i l. let e = tabulate-length f n in let g = tabulate-at f n i 0 (omega arith) in omega (arith, h i))
+bytes-tabulate f n = tabulate-below f n 256
 
 -- ---- labels
 
@@ -111,6 +116,17 @@ word-from w bs i j h = rw (lt-ltb j w h)
 pub word-past : (w : ℕ) (bs : List ℕ) (i j : ℕ) → w ≤ j → wordFrom w bs i j ≡ 0
 unfolding wordFrom
 word-past w bs i j h = rw (le-ltb j w h)
+
+-- a label that is read has what its type says
+pub label-typed : (w : ℕ) (bs : List ℕ) (i : ℕ) → Bytes bs → Label.Typed (labelAt w bs i)
+unfolding labelAt
+label-typed w bs i small =
+    record { hierarchy = small i; length-is = tabulate-length (wordFrom w bs (i + 1)) words; word = tabulate-below (wordFrom w bs (i + 1)) words (2 ^ 64) word }
+  where
+    word : (j : ℕ) → wordFrom w bs (i + 1) j < 2 ^ 64
+    word j =
+        ⊎-elim (λ p. rw (word-past w bs (i + 1) j p) (omega arith))
+        (λ p. rw (word-from w bs (i + 1) j p) (number-bound 256 (byteAt bs) small (i + 1 + 8 * j) 8)) (le-or-lt w j)
 
 -- the bytes of a label read back as the label
 pub label-back : (w : ℕ) (bs : List ℕ) (i : ℕ) (l : Label) → Holds bs i (labelBytes w l) → Label.Typed l → Within w l → labelAt w bs i ≡ l

@@ -3,28 +3,28 @@ use mathlib.Core.Bool.{Bool, true, false, cond, _&&_, _||_}
 use mathlib.Core.List.{List, [], _∷_, _++_}
 use mathlib.Core.Logic.{⊎-elim}
 use mathlib.Core.Path.{_≡_, refl, sym, ap, ap₂, _∙_}
-use Prim.Native.Nat.{ℕ, zero, suc, _+_, _*_, _≤_, _<_}
+use Prim.Native.Nat.{ℕ, zero, suc, _+_, _*_, _^_, _≤_, _<_}
 use native.Mathlib.Nat.{add-zero}
 use native.Mathlib.Omega.{arith}
 use lib.Dec.{eqb, leb, ltb}
-use lib.ListN.{getD, length, take, List·getD-eq-default}
+use lib.ListN.{getD, length, take, getD-replicate, List·getD-eq-default}
 use lib.Seq.{ext-getD, getD-take, length-take-le}
 use borrow.Author.Tests.{eqb-true, le-ltb, leb-true, lt-ltb, ltb-true}
 use Rattle.label.specs.Index.{every, tabulate}
 use Rattle.label.specs.Label
-use Rattle.label.specs.Words.{words}
+use Rattle.label.specs.Words.{wordAt, words}
 use Rattle.label.specs.declared.Label.{Label}
 use Rattle.label.proofs.BoolLaws.{first-true, second-true, three-true}
 use Rattle.label.proofs.IndexLaws.{every-at, le-or-lt, tabulate-at, tabulate-length}
 use Rattle.label.proofs.LabelLaws.{equal-exact, valid-hierarchy}
 use Rattle.frame.proofs.FrameLaws.{Bytes, cons-bytes}
-use Rattle.hexline.specs.Body.{Appended, byteAt, labelSize}
-use Rattle.hexline.specs.Entry.{classOf, entryBytes, isLetter, labelFrom, layoutOf, nameByteAt, nameByteOk, nameOf, textByte, textBytes, textFrom, validOf, valueBytes, valueFrom, valueOk, valueSize}
+use Rattle.hexline.specs.Body.{Appended, byteAt, labelAt, labelSize}
+use Rattle.hexline.specs.Entry.{classOf, entryBytes, isLetter, isNameByte, labelFrom, layoutOf, nameByteAt, nameByteOk, nameOf, textByte, textBytes, textFrom, validOf, valueBytes, valueFrom, valueOk, valueSize}
 use Rattle.hexline.specs.declared.entry.Entry.{Entry}
 use Rattle.hexline.specs.declared.entry.Layout.{Layout}
 use Rattle.hexline.specs.declared.entry.Value.{Value}
 use Rattle.hexline.specs.declared.entry.Value.the-variants.{Hierarchy, Category, WholeLabel}
-use Rattle.hexline.proofs.BodyLaws.{Holds, Within, label-back, label-bytes, label-forth, label-length, one-part, part, part-is, parts-join}
+use Rattle.hexline.proofs.BodyLaws.{Holds, Within, bytes-tabulate, label-back, label-bytes, label-forth, label-length, label-typed, one-part, part, part-is, parts-join}
 use Rattle.hexline.proofs.BodyLoops.{appended-both}
 
 -- ---- what a valid entry has
@@ -97,22 +97,37 @@ entry-joined w e p q r s = appended-both (appended-both (appended-both p q) r) s
 
 -- ---- texts
 
-text-byte : (bs : List ℕ) (i n k : ℕ) → k < n → textByte bs i n k ≡ byteAt bs (i + k)
+pub text-byte : (bs : List ℕ) (i n k : ℕ) → k < n → textByte bs i n k ≡ byteAt bs (i + k)
 unfolding textByte
 text-byte bs i n k l = rw (lt-ltb k n l)
+
+pub text-bytes : (bs : List ℕ) (i n most : ℕ) → Bytes bs → Bytes (textFrom most bs i n)
+unfolding textFrom textByte
+text-bytes bs i n most small = bytes-tabulate (λ k. cond (ltb k n) (byteAt bs (i + k)) 0) most (λ k. go (ltb k n) (small (i + k)))
+  where
+    go : (b : Bool) {x : ℕ} → x < 256 → cond b x 0 < 256
+    go true h = h
+    go false h = omega arith
 
 pub text-length : (bs : List ℕ) (n : ℕ) → n ≤ length bs → length (textBytes bs n) ≡ 1 + n
 text-length bs n h = let t = length-take-le n bs h in omega arith
 
+-- each byte is one that may stand at its index
+name-at : (bs : List ℕ) (n : ℕ) → nameOf bs n ≡ true → (k : ℕ) → k < length bs → nameByteAt bs n k ≡ true
+unfolding nameOf
+name-at bs n e k l =
+    every-at (nameByteAt bs n) (length bs) k
+    (three-true (leb n (length bs)) (eqb n 0 || isLetter (byteAt bs 0)) (every (nameByteAt bs n) (length bs)) e .2) l
+
+-- the bytes of a name
+pub name-byte : (bs : List ℕ) (n : ℕ) → nameOf bs n ≡ true → (k : ℕ) → k < n → isNameByte (byteAt bs k) ≡ true
+unfolding nameByteOk
+name-byte bs n e k h = let l = name-fits bs n e in rw (lt-ltb k n h) at (name-at bs n e k (omega arith))
+
 -- past a name stand zeros
 pub name-zero : (bs : List ℕ) (n : ℕ) → nameOf bs n ≡ true → (k : ℕ) → n ≤ k → byteAt bs k ≡ 0
-unfolding nameOf nameByteOk
-name-zero bs n e k h = ⊎-elim (λ l. List·getD-eq-default bs 0 l) (λ l. eqb-true (byteAt bs k) 0 (rw (le-ltb k n h) at (here l))) (le-or-lt (length bs) k)
-  where
-    here : k < length bs → nameByteAt bs n k ≡ true
-    here l =
-        every-at (nameByteAt bs n) (length bs) k
-        (three-true (leb n (length bs)) (eqb n 0 || isLetter (byteAt bs 0)) (every (nameByteAt bs n) (length bs)) e .2) l
+unfolding nameByteOk
+name-zero bs n e k h = ⊎-elim (λ l. List·getD-eq-default bs 0 l) (λ l. eqb-true (byteAt bs k) 0 (rw (le-ltb k n h) at (name-at bs n e k l))) (le-or-lt (length bs) k)
 
 -- the bytes of a text read back as the text
 pub text-back : (most : ℕ) (bs : List ℕ) (i n : ℕ) (xs : List ℕ) → length xs ≡ most → n ≤ most → Holds bs i (take n xs) → ((k : ℕ) → n ≤ k → byteAt xs k ≡ 0)
@@ -164,6 +179,23 @@ unfolding valueBytes
 value-bytes w (Hierarchy h) l t e = cons-bytes h [] (let s = hierarchy-small h l e in omega arith) (λ i. omega arith)
 value-bytes w (Category c) l t e = cons-bytes c [] (category-small c l e) (λ i. omega arith)
 value-bytes w WholeLabel l t e = label-bytes w l (t .hierarchy)
+
+zero-typed : Label.Typed Label.zeroLabel
+zero-typed = record { hierarchy = omega arith; length-is = refl; word = word }
+  where
+    word : (i : ℕ) → wordAt (Label.zeroLabel .categories) i < 2 ^ 64
+    word i =
+        ⊎-elim (λ l. let e = List·getD-eq-default (Label.zeroLabel .categories) 0 {n = i} l in omega arith)
+        (λ l. let e = getD-replicate {A = ℕ} words i 0 0 l in omega arith) (le-or-lt words i)
+
+-- the label of an entry that is read has what its type says
+pub label-from-typed : (w : ℕ) (bs : List ℕ) (class i : ℕ) → Bytes bs → Label.Typed (labelFrom w bs class i)
+unfolding labelFrom
+label-from-typed w bs class i small = go (eqb class 3)
+  where
+    go : (b : Bool) → Label.Typed (cond b (labelAt w bs i) Label.zeroLabel)
+    go true = label-typed w bs i small
+    go false = zero-typed
 
 no-label : (l : Label) → Label.Typed l → Label.equalOf l Label.zeroLabel ≡ true → Label.zeroLabel ≡ l
 no-label l t e = sym (equal-exact l Label.zeroLabel (t .length-is) .0 e)

@@ -6,4 +6,5 @@ pub mod EntryLaws
 pub mod LineLaws
 pub mod EntryKindLaws
 pub mod KindLaws
+pub mod StandingLaws
 pub mod HexlineExamples

@@ -1,5 +1,5 @@
 -- The laws of lines by their kind, and the ways in which their readers and writers end. Assumes nothing.
-use mathlib.Core.Bool.{Bool, true, false, _&&_}
+use mathlib.Core.Bool.{Bool, true, false, _&&_, true≢false}
 use mathlib.Core.List.{List}
 use mathlib.Core.Logic.{_↔_}
 use mathlib.Core.Option.{none}
@@ -9,13 +9,13 @@ use native.Mathlib.Omega.{arith}
 use lib.Dec.{eqb, leb, ltb}
 use lib.ListN.{length}
 use borrow.Author.Tests.{eq-eqb, eqb-true, le-leb, leb-true, ltb-true}
-use Rattle.label.specs.Answer.{Answered, granted, refused, require}
+use Rattle.label.specs.Answer.{Answered, granted, isGranted, refused, require}
 use Rattle.label.specs.Buffer.{WrittenTo}
 use Rattle.label.specs.Region.{regions}
 use Rattle.label.specs.declared.answer.Outcome.the-variants.{Granted, Refused}
 use Rattle.label.specs.declared.answer.Written.{Written}
 use Rattle.label.specs.declared.errno.Errno.the-variants.{Invalid}
-use Rattle.label.proofs.AnswerLaws.{answers-grant, answers-refusal}
+use Rattle.label.proofs.AnswerLaws.{answers-grant, answers-refusal, grant-passed, grant-told}
 use Rattle.label.proofs.BoolLaws.{both, first-true, not-so, second-true, three-true}
 use Rattle.frame.specs.Frame.{bodyOf, frameAnswerOf, frameOf, framedOf, maxBody, readOf}
 use Rattle.frame.proofs.FrameLaws.{Bytes, frame-length, reads-back, reads-exactly}
@@ -54,6 +54,31 @@ module _ {A : Type 0} (form : List ℕ → Bool) (contents : List ℕ → A) (va
       go true false e = refl
       go false g e = refl
 
+-- ---- what a reader grants
+
+module _ {A : Type 0} (form : List ℕ → Bool) (contents : List ℕ → A) (valid : A → Bool) where
+  contents-granted : (bs : List ℕ) (x : A) → contentsOf form contents valid bs ≡ granted x → (form bs ≡ true) × (contents bs ≡ x) × (valid x ≡ true)
+  unfolding contentsOf
+  contents-granted bs x e =
+      let t = grant-told (form bs && valid (contents bs)) 22 x (contents bs) (sym e) in
+      (first-true (form bs) (valid (contents bs)) (t .0), sym (t .1), ap valid (t .1) ∙ second-true (form bs) (valid (contents bs)) (t .0))
+
+  pub read-granted : (line : List ℕ) (x : A) → readOf (contentsOf form contents valid) line ≡ granted x → (contents (bodyOf line) ≡ x) × (valid x ≡ true)
+  read-granted line x e =
+      let t = contents-granted (bodyOf line) x (sym (grant-passed (framedOf line) 22 x (contentsOf form contents valid (bodyOf line)) (sym e) .1)) in
+      (t .1, t .2)
+
+  -- a line that is accepted is read as the contents that stand there
+  pub read-contents : (line : List ℕ) → isGranted (readOf (contentsOf form contents valid) line) ≡ true
+      → readOf (contentsOf form contents valid) line ≡ granted (contents (bodyOf line))
+  unfolding contentsOf
+  read-contents line = go (framedOf line) (form (bodyOf line) && valid (contents (bodyOf line)))
+    where
+      go : (f v : Bool) {y : A} → isGranted (require f 22 (require v 22 (granted y))) ≡ true → require f 22 (require v 22 (granted y)) ≡ granted y
+      go true true e = refl
+      go true false e = absurd (true≢false (sym e))
+      go false v e = absurd (true≢false (sym e))
+
 -- ---- a kind's two laws, from those of its body: what the writer makes reads back, and what is accepted is what the writer makes
 
 module _ {A : Type 0} (form : List ℕ → Bool) (contents : List ℕ → A) (valid : A → Bool) (body : A → List ℕ) (x : A) where
@@ -63,23 +88,10 @@ module _ {A : Type 0} (form : List ℕ → Bool) (contents : List ℕ → A) (va
 
   pub line-only : ((bs : List ℕ) → Bytes bs → form bs ≡ true → bs ≡ body (contents bs)) → (line : List ℕ) → readOf (contentsOf form contents valid) line ≡ granted x
       → (line ≡ frameOf (body x)) × (valid x ≡ true)
-  unfolding contentsOf
-  line-only forth line e = (reads-exactly body (contentsOf form contents valid) x only line e, go (framedOf line) e)
+  line-only forth line e = (reads-exactly body (contentsOf form contents valid) x only line e, read-granted form contents valid line x e .1)
     where
-      taken : (bs : List ℕ) (f v : Bool) → form bs ≡ f → valid (contents bs) ≡ v → require (form bs && valid (contents bs)) 22 (granted (contents bs)) ≡ granted x
-          → (form bs ≡ true) × (contents bs ≡ x) × (valid x ≡ true)
-      taken bs true true p q r =
-          let c : contents bs ≡ x = cc (rw (p, q) at r) in
-          (p, c, ap valid (sym c) ∙ q)
-      taken bs true false p q r = let no : _≡_ {A = ℕ} 0 1 = cc (rw (p, q) at r) in absurd (omega arith)
-      taken bs false v p q r = let no : _≡_ {A = ℕ} 0 1 = cc (rw p at r) in absurd (omega arith)
-
       only : (bs : List ℕ) → Bytes bs → contentsOf form contents valid bs ≡ granted x → bs ≡ body x
-      only bs small r = let t = taken bs (form bs) (valid (contents bs)) refl refl r in forth bs small (t .0) ∙ ap body (t .1)
-
-      go : (f : Bool) → require f 22 (contentsOf form contents valid (bodyOf line)) ≡ granted x → valid x ≡ true
-      go true r = taken (bodyOf line) (form (bodyOf line)) (valid (contents (bodyOf line))) refl refl r .2
-      go false r = let no : _≡_ {A = ℕ} 0 1 = cc r in absurd (omega arith)
+      only bs small r = let t = contents-granted form contents valid bs x r in forth bs small (t .0) ∙ ap body (t .1)
 
 -- the writer makes a line of x exactly if the reader gives x for that line
 pub line-exact : {A : Type 0} (form : List ℕ → Bool) (contents : List ℕ → A) (valid : A → Bool) (body : A → List ℕ) (x : A)

@@ -10,7 +10,7 @@ use crate::entry::layout_at;
 use crate::entry::value_from;
 use label::Label;
 ghost use mathlib.Core.Path.{_≡_};
-ghost use Prim.Native.Nat.{_+_, _<_, min};
+ghost use Prim.Native.Nat.{_+_, _<_};
 ghost use Rattle.hexline.specs.Entry.{atMost};
 ghost use Rattle.hexline.specs.Line.{abbreviationIn, nameIn, standingIn};
 
