@@ -1,1 +1,3 @@
 pub mod LinesLaws
+pub mod TableLaws
+pub mod WalkLaws

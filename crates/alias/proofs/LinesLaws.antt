@@ -99,13 +99,13 @@ lines-from (suc k) (b ∷ bs) =
     rw (lines-first (b ∷ bs) (omega arith), length-take-le n (b ∷ bs) (first-length-within (b ∷ bs)))
     (lines-from k rest ∙ ap linesOf (drop-drop (bytesBefore (linesOf rest) k) n (b ∷ bs)))
 
--- line k stands at index at, and the next line begins where it ends
-pub record LineHere (bytes : List ℕ) (k at : ℕ) : Type 0 where
+-- line k stands from index at up to index next, where the next line begins
+pub record LineHere (bytes : List ℕ) (k at next : ℕ) : Type 0 where
   pub below : k < length (linesOf bytes)
-  pub line : lineAt (linesOf bytes) k ≡ take (firstLength (drop at bytes)) (drop at bytes)
-  pub next : bytesBefore (linesOf bytes) (k + 1) ≡ lineEnd bytes at
-  pub further : at < lineEnd bytes at
-  pub within : lineEnd bytes at ≤ length bytes
+  pub line : lineAt (linesOf bytes) k ≡ take (next - at) (drop at bytes)
+  pub begins-next : next ≡ bytesBefore (linesOf bytes) (k + 1)
+  pub further : at < next
+  pub within : next ≤ length bytes
 
 -- where line k begins there is that line, or the bytes and the lines are at their end
 module _ (bytes : List ℕ) (k at : ℕ) (begins : at ≡ bytesBefore (linesOf bytes) k) where
@@ -117,8 +117,8 @@ module _ (bytes : List ℕ) (k at : ℕ) (begins : at ≡ bytesBefore (linesOf b
       let e : drop k (linesOf bytes) ≡ [] = there ∙ ap linesOf (drop-of-length-le bytes h) ∙ lines-none in
       omega (arith, length-drop k (linesOf bytes), ap length e)
 
-  pub line-here : at < length bytes → LineHere bytes k at
-  line-here h =
+  pub line-here : (next : ℕ) → at < length bytes → next ≡ lineEnd bytes at → LineHere bytes k at next
+  line-here next h end =
       let ls = linesOf bytes in
       let d = drop at bytes in
       let n = firstLength d in
@@ -128,7 +128,14 @@ module _ (bytes : List ℕ) (k at : ℕ) (begins : at ≡ bytesBefore (linesOf b
       let e : drop k ls ≡ take n d ∷ linesOf (drop n d) = there ∙ lines-first d (omega arith) in
       let b : k < length ls = omega (arith, length-drop k ls, ap length e) in
       let f : lineAt ls k ≡ take n d = ap (λ (i : ℕ). getD ls i []) (sym (add-zero k)) ∙ sym (getD-drop k ls 0 []) ∙ ap (λ (m : List (List ℕ)). getD m 0 []) e in
-      record { below = b; line = f; next = before-next ls k b ∙ rw (f, length-take-le n d w, begins) refl; further = omega arith; within = omega arith }
+      let size : n ≡ next - at = omega arith in
+      record {
+        below = b;
+        line = f ∙ ap (λ (i : ℕ). take i d) size;
+        begins-next = let t = before-next ls k b in let m = ap length f ∙ length-take-le n d w in omega arith;
+        further = omega arith;
+        within = omega arith;
+      }
 
 -- ---- the starts of lines
 
@@ -224,9 +231,8 @@ first-lines-by-starts bytes k h =
     at-index i l =
         let f = few in
         let at = bytesBefore ls i in
-        let here = line-here bytes i at refl (begun-line i (omega arith)) in
-        let size : lineEnd bytes at - at ≡ firstLength (drop at bytes) = omega arith in
-        getD-take k ls i [] (omega arith) ∙ here .line ∙ rw (start i (omega arith), start (i + 1) (omega arith), here .next, size)
+        let here = line-here bytes i at refl (lineEnd bytes at) (begun-line i (omega arith)) refl in
+        getD-take k ls i [] (omega arith) ∙ here .line ∙ rw (start i (omega arith), start (i + 1) (omega arith), here .begins-next)
 
 pub lines-by-starts : (bytes : List ℕ) → length (linesOf bytes) ≤ maxLines
     → linesBy bytes (take (length (linesOf bytes) + 1) (indexedOf (linesOf bytes) .starts)) ≡ linesOf bytes

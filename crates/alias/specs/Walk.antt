@@ -21,7 +21,7 @@ abbrev pub lineEnd : List ℕ → ℕ → ℕ
 lineEnd bytes at = at + firstLength (drop at bytes)
 
 -- whether a line is bad by itself as line k: one line too many, or no accepted line of kind 04
-abbrev pub faultyOf : ℕ → List ℕ → Bool
+unfoldable pub faultyOf : ℕ → List ℕ → Bool
 faultyOf k line = leb maxLines k || not (isGranted (readEntryOf line))
 
 abbrev pub faultyAt : List (List ℕ) → ℕ → Bool
