@@ -1,21 +1,19 @@
 -- The laws of lines: the first of them and the rest, where they begin, and that cutting by their starts gives them back. Assumes nothing.
 use mathlib.Core.Bool.{Bool, true, false, cond}
-use mathlib.Core.List.{List, [], _∷_, _++_, flatten}
+use mathlib.Core.List.{List, [], _∷_, flatten}
 use mathlib.Core.Logic.{⊎-elim}
 use mathlib.Core.Path.{_≡_, refl, sym, ap, _∙_}
 use Prim.Native.Nat.{ℕ, zero, suc, _+_, _-_, _≤_, _<_, min}
 use native.Mathlib.Nat.{add-zero}
 use native.Mathlib.Numerals.{add-one}
 use native.Mathlib.Omega.{arith}
-use lib.Dec.{eqb, leb}
+use lib.Dec.{eqb}
 use lib.ListN.{drop, getD, length, replicate, set, take, drop-of-length-le, length-drop, length-set, length-take}
-use lib.Seq.{drop-cons, drop-drop, getD-drop, getD-set-other, getD-set-same, getD-take, length-take-le, take-length}
+use lib.Seq.{drop-drop, getD-drop, getD-set-other, getD-set-same, getD-take, length-take-le, take-length}
 use borrow.Author.Tests.{le-leb, lt-leb}
-use Rattle.label.specs.Index.{tabulate}
 use Rattle.label.proofs.IndexLaws.{le-or-lt, tabulate-at, tabulate-is, tabulate-length, tabulate-one}
 use Rattle.label.proofs.SearchLaws.{same-or-not}
 use Rattle.octets.specs.Bytes.{indexOf, lf}
-use Rattle.octets.proofs.ByteLaws.{index-le}
 use Rattle.alias.specs.Lines.{bytesBefore, indexedOf, lineAt, linesBy, linesOf, maxLines, partAt, startFirst, startOf}
 use Rattle.alias.specs.Walk.{firstLength, lineEnd}
 

@@ -1,5 +1,5 @@
 use mathlib.Core.List.{List}
-use mathlib.Core.Path.{_≡_, refl, ap}
+use mathlib.Core.Path.{refl, ap}
 use Prim.Native.Nat.{ℕ, _+_}
 use Rattle.label.proofs.AnswerLaws.{answers-refusal}
 use Rattle.label.proofs.IndexLaws.{tabulate-one}

@@ -1,6 +1,6 @@
 use borrow.Author.Needs.{needs}
 use mathlib.Core.Path.{_∙_}
-use Rattle.alias.proofs.WalkLaws.{answered-granted}
+use Rattle.label.proofs.AnswerLaws.{answers-granted}
 use Rattle.alias.proofs.lines.accepted.Statement.{statement}
 use Rattle.alias.proofs.lines.accepted.Tie as tie
 
@@ -11,7 +11,7 @@ granted-requires : tie.Need-granted-requires
 granted-requires c κs = search needs
 
 returns : tie.Need-returns
-returns c = c .granted .ensures ∙ answered-granted _ (c .before .read-entry .ensures)
+returns c = c .granted .ensures ∙ answers-granted _ (c .before .read-entry .ensures)
 
 pub accepted-spec : {M : Type 1} → statement M
 accepted-spec = tie.close (tie.spec read-entry-requires granted-requires returns)

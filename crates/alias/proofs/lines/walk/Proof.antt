@@ -5,13 +5,10 @@ use native.Mathlib.Omega.{arith}
 use lib.ListN.{length}
 use Rattle.alias.specs.Lines.{maxLines}
 use Rattle.alias.proofs.LinesLaws.{LineHere, line-here}
-use Rattle.alias.proofs.WalkLaws.{Walking, faulty-few, walk-ends, walk-next, walk-start, walk-stops}
+use Rattle.alias.proofs.TableLaws.{faulty-few}
+use Rattle.alias.proofs.WalkLaws.{Walking, walk-ends, walk-next, walk-start, walk-stops}
 use Rattle.alias.proofs.lines.walk.Statement.{statement}
 use Rattle.alias.proofs.lines.walk.Tie as tie
-use Rattle.alias.proofs.lines.walk.Reads as reads
-use Rattle.alias.proofs.lines.walk.Lts as lts
-use Rattle.alias.proofs.lines.faulty.Reads as faulty-reads
-use Rattle.alias.proofs.lines.line_end.Reads as line-end-reads
 
 abbrev Inv-loop : tie.InvT-loop
 Inv-loop table more starts₀ count₀ at₀ starts count at = Walking table starts count at
