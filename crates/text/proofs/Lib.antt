@@ -1,5 +1,6 @@
 pub mod NameLaws
 pub mod RoundLaws
-pub mod TextLaws
+pub mod EndsLaws
 pub mod SightLaws
+pub mod TextLaws
 pub mod TextExamples

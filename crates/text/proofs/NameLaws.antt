@@ -20,13 +20,14 @@ use Rattle.label.proofs.SearchLaws.{first-least, first-none}
 use Rattle.octets.specs.Bytes.{sameBytes}
 use Rattle.octets.proofs.ByteLaws.{same-is, same-self}
 use Rattle.hexline.specs.Entry as entries
-use Rattle.hexline.specs.Entry.{TypedEntry, abbreviationBytes, isNameByte, nameBytes}
+use Rattle.hexline.specs.Entry.{abbreviationBytes, isNameByte, nameBytes}
 use Rattle.hexline.specs.declared.entry.Entry.{Entry}
 use Rattle.hexline.specs.declared.entry.Value.{Value}
 use Rattle.hexline.specs.declared.entry.Value.the-variants.{Hierarchy, Category, WholeLabel}
 use Rattle.hexline.proofs.StandingLaws.{abbreviation-letters, name-letters}
 use Rattle.alias.specs.Lines.{entryAt}
 use Rattle.alias.specs.Lookup.{calledOf, findOf, lastOf, sameValue, standsFor}
+use Rattle.alias.proofs.TableLaws.{Good, called-once}
 use Rattle.text.specs.Read.{categoryBy, categoryNamed, entryNamed, foundEntry, hierarchyBy, hierarchyNamed, labelBy, labelNamed, noCategories}
 use Rattle.text.specs.Write.{isSome, nameFor, nameOr, named, writtenName}
 use Rattle.text.specs.declared.Variant.{Variant}
@@ -89,13 +90,7 @@ called-letters e text v c k l =
     ap (λ (xs : List ℕ). isNameByte (getD xs k 0)) (sym q) ∙ abbreviation-letters e v k (omega arith))
     (either (sameBytes (nameBytes e) text) (leb 1 (length (abbreviationBytes e)) && sameBytes (abbreviationBytes e) text) c)
 
--- what holds of the entries of a good table
-pub record GoodTable (es : List Entry) : Type 0 where
-  pub valid : (k : ℕ) → k < length es → entries.validOf (entryAt es k) ≡ true
-  pub typed : (k : ℕ) → k < length es → TypedEntry (entryAt es k)
-  pub once : (text : List ℕ) (j k : ℕ) → j < length es → k < length es → calledOf (entryAt es j) text ≡ true → calledOf (entryAt es k) text ≡ true → j ≡ k
-
-module _ (es : List Entry) (good : GoodTable es) where
+module _ (es : List Entry) (good : Good es) where
   -- ---- looking a name up
 
   find-called : (text : List ℕ) (k : ℕ) → k < length es → calledOf (entryAt es k) text ≡ true → findOf es text ≡ some k
@@ -110,7 +105,7 @@ module _ (es : List Entry) (good : GoodTable es) where
       go (some j) e =
           let r = first-least f 0 (length es) j e in
           let b = r .1 in
-          e ∙ ap some (good .once text j k (omega arith) l (r .0 .there) c)
+          e ∙ ap some (called-once es good text j k (omega arith) l (r .0 .there) c)
 
   -- the last entry for a value
   record Last (value : Value) (l : Label) (v : Variant) : Type 0 where

@@ -25,12 +25,13 @@ use Rattle.octets.proofs.ByteLaws.{index-append}
 use Rattle.hexline.specs.Entry.{isLetter, isNameByte}
 use Rattle.hexline.specs.declared.entry.Entry.{Entry}
 use Rattle.hexline.specs.declared.entry.Value.the-variants.{Hierarchy, Category, WholeLabel}
+use Rattle.alias.proofs.TableLaws.{Good}
 use Rattle.text.specs.Read.{categoriesRead, categoryNamed, composedOf, labelIn, labelNamed, noCategories}
 use Rattle.text.specs.Write.{categoriesNamed, categoriesText, colon, comma, definitionNamed, definitionText, nameFor, named, namedIn, textIn}
 use Rattle.text.specs.declared.Form.{Form}
 use Rattle.text.specs.declared.Form.the-variants.{Definition, Alias}
 use Rattle.text.specs.declared.Variant.{Variant}
-use Rattle.text.proofs.NameLaws.{GoodTable, Without, alias-back, category-back, hierarchy-back, name-without, single-back}
+use Rattle.text.proofs.NameLaws.{Without, alias-back, category-back, hierarchy-back, name-without, single-back}
 use Rattle.label.proofs.SingleLaws.{has-single, includes-single, no-category, single-length, single-word, zero-word}
 
 -- ---- bytes that do not stand in a list
@@ -118,7 +119,7 @@ below-here k c p h =
 set-typed : (ws : List ℕ) → length ws ≡ words → ((i : ℕ) → wordAt ws i < 2 ^ 64) → Label.Typed (Label.labelOf 0 ws)
 set-typed ws n w = record { hierarchy = omega arith; length-is = n; word = w }
 
-module _ (es : List Entry) (good : GoodTable es) (v : Variant) where
+module _ (es : List Entry) (good : Good es) (v : Variant) where
   collected-more : (ws : List ℕ) (c : ℕ) → c < words * 64 → named es (Category c) Label.zeroLabel ≡ true → has ws c ≡ true → Collected es v ws c
       → Collected es v ws (suc c)
   unfolding membersBelow categoriesRead upperBoundOf

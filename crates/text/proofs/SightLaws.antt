@@ -26,11 +26,11 @@ use Rattle.hexline.specs.declared.entry.Value.the-variants.{Hierarchy, Category
 use Rattle.hexline.proofs.EntryLaws.{hierarchy-small, valid-parts}
 use Rattle.alias.specs.Lines.{entryAt}
 use Rattle.alias.specs.Lookup.{calledOf, findOf}
+use Rattle.alias.proofs.TableLaws.{Good}
 use Rattle.text.specs.Read.{beginsWith, categoriesRead, categoryBy, categoryNamed, composedOf, endsOf, entryNamed, foundEntry, hierarchyBy, hierarchyNamed, labelBy, labelIn, labelNamed, labelSeen, noCategories, rangeFrom, readLabelOf, readRangeOf}
 use Rattle.text.specs.Subject.{seesOf, subjectValid}
 use Rattle.text.specs.Write.{colon, comma, highMarker, lowMarker}
 use Rattle.text.specs.declared.Subject.{Subject}
-use Rattle.text.proofs.NameLaws.{GoodTable}
 
 -- ---- the plain refusal
 
@@ -154,7 +154,18 @@ followed : {A B : Type 0} (a : Answer A) (f : A → Answer B) (y : B) → andThe
 followed (granted x) f y e = record { first = x; first-is = refl; then-is = e }
 followed (refused n d) f y e = let z : _≡_ {A = ℕ} 0 1 = cc in absurd (omega arith)
 
-module _ (es : List Entry) (good : GoodTable es) where
+-- a label that is valid and that the subject may see
+pub record InSight (s : Subject) (l : Label) : Type 0 where
+  pub valid : Label.validOf l ≡ true
+  pub seen : seesOf s l ≡ true
+
+-- a range that is valid and both of whose ends the subject may see
+pub record RangeInSight (s : Subject) (x : Range) : Type 0 where
+  pub valid : Range.validOf x ≡ true
+  pub low : seesOf s (x .low) ≡ true
+  pub high : seesOf s (x .high) ≡ true
+
+module _ (es : List Entry) (good : Good es) where
   entry-valid : (text : List ℕ) (e : Entry) → entryNamed es text ≡ granted e → entries.validOf e ≡ true
   unfolding entryNamed findOf
   entry-valid text e h = go (firstFrom (λ k. calledOf (entryAt es k) text) 0 (length es)) refl h
@@ -201,11 +212,6 @@ module _ (es : List Entry) (good : GoodTable es) where
       go true q = composed-valid (take (indexOf colon text) text) (drop (indexOf colon text + 1) text) l q
       go false q = named-valid text l q
 
-  -- a label that is valid and that the subject may see
-  pub record InSight (s : Subject) (l : Label) : Type 0 where
-    pub valid : Label.validOf l ≡ true
-    pub seen : seesOf s l ≡ true
-
   seen-sight : (s : Subject) (text : List ℕ) (l : Label) → labelSeen es s text ≡ granted l → InSight s l
   unfolding labelSeen
   seen-sight s text l h =
@@ -216,12 +222,6 @@ module _ (es : List Entry) (good : GoodTable es) where
   pub label-sight : (s : Subject) (text : List ℕ) (l : Label) → readLabelOf es s text ≡ granted l → InSight s l
   unfolding readLabelOf
   label-sight s text l h = seen-sight s text l (sym (grant-passed (subjectValid s) 22 l (labelSeen es s text) (sym h) .1))
-
-  -- a range that is valid and both of whose ends the subject may see
-  pub record RangeInSight (s : Subject) (x : Range) : Type 0 where
-    pub valid : Range.validOf x ≡ true
-    pub low : seesOf s (x .low) ≡ true
-    pub high : seesOf s (x .high) ≡ true
 
   from-sight : (s : Subject) (low : Label) (text : List ℕ) (x : Range) → InSight s low → rangeFrom es s low text ≡ granted x → RangeInSight s x
   unfolding rangeFrom
