@@ -36,12 +36,12 @@ use Rattle.alias.proofs.LookupLaws.{entry-of}
 -- ---- the lines to be judged
 
 -- a line of no bytes is not accepted
-pub no-bytes : isGranted (readEntryOf []) ≡ false
+no-bytes : isGranted (readEntryOf []) ≡ false
 unfolding framedOf spelledOf
 no-bytes = refl
 
 module _ (more : Bool) (bytes : List ℕ) where
-  pub judged-at : (k : ℕ) → k < length (linesOf bytes) → lineAt (judgedOf more bytes) k ≡ lineAt (linesOf bytes) k
+  judged-at : (k : ℕ) → k < length (linesOf bytes) → lineAt (judgedOf more bytes) k ≡ lineAt (linesOf bytes) k
   unfolding judgedOf
   judged-at k h = List·getD-append (linesOf bytes) (cond more ([] ∷ []) []) [] k h
 
@@ -65,14 +65,20 @@ judged-whole bytes = append-nil (linesOf bytes)
 
 -- ---- lines that are not bad
 
--- a line that is not bad by itself is not one too many, and is an entry
+-- a line that is not bad by itself is not one too many
 pub faulty-few : (k : ℕ) (line : List ℕ) → faultyOf k line ≡ false → k < maxLines
 unfolding faultyOf
 faulty-few k line e = leb-false maxLines k (neither _ _ e .0)
 
+-- and is an entry
 faulty-read : (k : ℕ) (line : List ℕ) → faultyOf k line ≡ false → isGranted (readEntryOf line) ≡ true
 unfolding faultyOf
 faulty-read k line e = not-false (isGranted (readEntryOf line)) (neither (leb maxLines k) _ e .1)
+
+-- a table has few lines, where none of them is bad by itself
+pub good-few : (ls : List (List ℕ)) (n : ℕ) → ((k : ℕ) → k < n → faultyAt ls k ≡ false) → n ≤ maxLines
+good-few ls n h =
+    ⊎-elim (λ l. l) (λ l. absurd (let f = faulty-few maxLines (lineAt ls maxLines) (h maxLines l) in omega arith)) (le-or-lt n maxLines)
 
 pub faulty-bad : (ls : List (List ℕ)) (k : ℕ) → faultyAt ls k ≡ true → badAt ls k ≡ true
 unfolding badAt faultyOf
@@ -106,7 +112,7 @@ pub checked-small : (more : Bool) (bytes : List ℕ) (x : LineStarts) → checkO
 checked-small more bytes x e =
     let i = none-bad more bytes x e .0 in
     let c = ap (λ (y : LineStarts). y .count) i in
-    let few : length (linesOf bytes) ≤ maxLines = ⊎-elim (λ l. l) (λ l. absurd (let f = faulty-few maxLines _ (not-bad (linesOf bytes) maxLines (all-good more bytes x e maxLines l) .0) in omega arith)) (le-or-lt (length (linesOf bytes)) maxLines) in
+    let few = good-few (linesOf bytes) (length (linesOf bytes)) (λ k h. not-bad (linesOf bytes) k (all-good more bytes x e k h) .0) in
     (omega arith, i)
 
 pub checked-lines : (more : Bool) (bytes : List ℕ) (x : LineStarts) → checkOf more bytes ≡ granted x

@@ -1,7 +1,6 @@
 -- The laws of a walk over the lines of a table, and what the test of the table makes of it. Assumes nothing.
 use mathlib.Core.Bool.{Bool, true, false, cond, _||_, true≢false}
 use mathlib.Core.List.{List, [], _∷_, _++_, append-assoc, map, map-append}
-use mathlib.Core.Logic.{⊎-elim}
 use mathlib.Core.Option.{none, some}
 use mathlib.Core.Path.{_≡_, refl, sym, ap, _∙_}
 use Prim.Native.Nat.{ℕ, _+_, _-_, _≤_, _<_}
@@ -12,7 +11,7 @@ use lib.Seq.{length-take-le, take-all}
 use borrow.Author.Count.{below-more}
 use Rattle.label.specs.Answer.{granted, refused}
 use Rattle.label.specs.Index.{firstFrom}
-use Rattle.label.proofs.IndexLaws.{le-or-lt, tabulate-length}
+use Rattle.label.proofs.IndexLaws.{tabulate-length}
 use Rattle.label.proofs.SearchLaws.{any-same, first-either, first-same, orElse, search-end, search-hit}
 use Rattle.octets.specs.Bytes.{sameBytes}
 use Rattle.hexline.specs.Entry.{abbreviationBytes, nameBytes, zeroEntry}
@@ -24,28 +23,23 @@ use Rattle.alias.specs.Walk.{Walks, faultyAt, faultyOf}
 use Rattle.alias.specs.declared.LineStarts.{LineStarts}
 use Rattle.alias.specs.declared.lines.Walked.{Walked}
 use Rattle.alias.proofs.LinesLaws.{LineHere, first-lines-by-starts, lines-end, starts-next, starts-none}
-use Rattle.alias.proofs.TableLaws.{entries-length, faulty-bad, faulty-few, judged-cut-off, judged-faulty, judged-longer, judged-whole}
+use Rattle.alias.proofs.TableLaws.{entries-length, faulty-bad, faulty-few, good-few, judged-cut-off, judged-faulty, judged-longer, judged-whole}
 
 -- ---- the walk: at is where line count begins, and none of the lines before it is bad by itself
 
 pub record Walking (bytes starts : List ℕ) (count at : ℕ) : Type 0 where
   pub begins : at ≡ bytesBefore (linesOf bytes) count
   pub counted : count ≤ length (linesOf bytes)
-  pub few : count ≤ maxLines
   pub indexed : starts ≡ indexedOf (take count (linesOf bytes)) .starts
   pub good : (k : ℕ) → k < count → faultyAt (linesOf bytes) k ≡ false
 
 pub walk-start : (bytes : List ℕ) → Walking bytes (replicate (maxLines + 1) 0) 0 0
 unfolding bytesBefore
-walk-start bytes = record { begins = refl; counted = omega arith; few = omega arith; indexed = starts-none; good = λ k l. absurd (omega arith) }
-
-indexed-is : (count : ℕ) (starts : List ℕ) (ls : List (List ℕ)) → count ≡ length ls → starts ≡ indexedOf ls .starts
-    → _≡_ {A = LineStarts} (record { count = count; starts = starts }) (indexedOf ls)
-indexed-is count starts ls e f = λ i. record { count = e i; starts = f i }
+walk-start bytes = record { begins = refl; counted = omega arith; indexed = starts-none; good = λ k l. absurd (omega arith) }
 
 module _ {bytes starts : List ℕ} {count at : ℕ} (s : Walking bytes starts count at) where
   lines-held : _≡_ {A = LineStarts} (record { count = count; starts = starts }) (indexedOf (take count (linesOf bytes)))
-  lines-held = indexed-is count starts (take count (linesOf bytes)) (sym (length-take-le count (linesOf bytes) (s .counted))) (s .indexed)
+  lines-held = let e = sym (length-take-le count (linesOf bytes) (s .counted)) in λ i. record { count = e i; starts = s .indexed i }
 
   still-good : (more : Bool) (k : ℕ) → k < count → faultyAt (judgedOf more bytes) k ≡ false
   still-good more k h = let c = s .counted in judged-faulty more bytes k (omega arith) ∙ s .good k h
@@ -62,7 +56,6 @@ module _ {bytes starts : List ℕ} {count at : ℕ} (s : Walking bytes starts co
         record {
           begins = h .begins-next;
           counted = omega arith;
-          few = omega arith;
           indexed = rw (s .indexed, h .begins-next) (starts-next (linesOf bytes) count b f);
           good = below-more _ _ (s .good) (told false e);
         }
@@ -133,8 +126,7 @@ module _ {more : Bool} {bytes : List ℕ} {w : Walked} (x : Walks more bytes w) 
   within = let c = count-is in let t = length-take (w .lines .count) (linesOf bytes) in omega arith
 
   pub walk-few : w .lines .count ≤ maxLines
-  walk-few =
-      ⊎-elim (λ l. l) (λ l. absurd (let f = faulty-few maxLines _ (x .good maxLines l) in omega arith)) (le-or-lt (w .lines .count) maxLines)
+  walk-few = good-few (judgedOf more bytes) (w .lines .count) (x .good)
 
   -- the array of starts has room for one more than there are lines
   pub walk-room : w .lines .count + 1 ≤ length (w .lines .starts)
