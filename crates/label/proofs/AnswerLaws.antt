@@ -3,8 +3,9 @@ use mathlib.Core.Bool.{Bool, true, false, _&&_, true≢false}
 use mathlib.Core.Option.{Option, none}
 use mathlib.Core.Path.{_≡_, refl, sym, ap, _∙_}
 use Prim.Native.Nat.{ℕ}
-use Rattle.label.specs.Answer.{Answer, Answered, granted, isGranted, refused, refusedBy, require, testOf, valueOr}
+use Rattle.label.specs.Answer.{Answer, Answered, andThen, granted, isGranted, outcomeOf, refused, refusedBy, require, testOf, valueOr}
 use Rattle.label.specs.declared.errno.Errno.{Errno}
+use Rattle.label.specs.declared.answer.Outcome.{Outcome}
 use Rattle.label.specs.declared.answer.Test.{Test}
 use Rattle.label.specs.declared.answer.Outcome.the-variants.{Granted, Refused}
 
@@ -24,6 +25,30 @@ answers-grant value z y x e f = record { outcome = ap granted f ∙ sym e; besid
 
 pub answers-refusal : {A : Type 0} (e : Errno) (value z : A) (x : Answer A) → x ≡ refusedBy e → value ≡ z → Answered (Refused e) value z x
 answers-refusal e value z x h f = record { outcome = sym h; beside = rw h f }
+
+pub answers-same : {A : Type 0} {o : Outcome} {value z : A} {x y : Answer A} → Answered o value z x → y ≡ x → Answered o value z y
+answers-same h e = rw e h
+
+-- ---- what follows an answer
+
+pub then-then : {A B C : Type 0} (x : Answer A) (f : A → Answer B) (g : B → Answer C) → andThen (andThen x f) g ≡ andThen x (λ a. andThen (f a) g)
+then-then (granted a) f g = refl
+then-then (refused n detail) f g = refl
+
+pub require-then : {A B : Type 0} (t : Bool) (n : ℕ) (x : Answer A) (f : A → Answer B) → andThen (require t n x) f ≡ require t n (andThen x f)
+require-then true n x f = refl
+require-then false n x f = refl
+
+-- an outcome is taken apart: what follows a grant, or the refusal passed on
+module _ {A B : Type 0} {o : Outcome} {value z : A} {x : Answer A} (h : Answered o value z x) (next : A → Answer B) where
+  pub grant-next : o ≡ Granted → andThen x next ≡ next value
+  grant-next e = rw (← h .outcome, e)
+
+  pub refusal-next : {e : Errno} {y w : B} → o ≡ Refused e → y ≡ w → Answered o y w (andThen x next)
+  refusal-next {e} {y} {w} r f = rw (← h .outcome, r) (answers-refusal e y w (refusedBy e) refl f)
+
+pub refusal-beside : {A : Type 0} {o : Outcome} {value z : A} {x : Answer A} {e : Errno} → Answered o value z x → o ≡ Refused e → value ≡ z
+refusal-beside {z = z} h r = h .beside ∙ ap (valueOr z) (sym (h .outcome)) ∙ rw r
 
 -- ---- what an answer tells of the check before it
 

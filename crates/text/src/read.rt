@@ -140,7 +140,7 @@ fn read_categories(table: &[u8], starts: &[usize], names: &[u8]) -> SetAnswer
         let added = add_category(table, starts, set, &rest[..n]);
         let outcome = added.outcome;
         let Outcome::Granted = outcome else {
-            return no_set();
+            return added;
         };
         set = added.categories;
         at = at + n + 1;
@@ -165,7 +165,10 @@ fn composed(table: &[u8], starts: &[usize], name: &[u8], names: &[u8]) -> LabelA
     let read = read_categories(table, starts, names);
     let outcome = read.outcome;
     let Outcome::Granted = outcome else {
-        return no_label();
+        return LabelAnswer {
+            outcome,
+            label: label::zero(),
+        };
     };
     let categories = read.categories;
     let l = Label {
@@ -196,7 +199,7 @@ fn label_seen(table: &[u8], starts: &[usize], s: Subject, text: &[u8]) -> LabelA
     let l = label_in(table, starts, text);
     let outcome = l.outcome;
     let Outcome::Granted = outcome else {
-        return no_label();
+        return l;
     };
     if sees(s, l.label) {
         return l;
@@ -251,7 +254,10 @@ fn range_from(table: &[u8], starts: &[usize], s: Subject, low: Label, text: &[u8
     let end = label_seen(table, starts, s, text);
     let outcome = end.outcome;
     let Outcome::Granted = outcome else {
-        return no_range();
+        return RangeAnswer {
+            outcome,
+            range: range::zero(),
+        };
     };
     let high = end.label;
     let x = high.categories;
