@@ -6,7 +6,7 @@ use Prim.Native.Nat.{ℕ, _+_, _≤_, _<_}
 use native.Mathlib.Omega.{arith}
 use denote.Enum.Declared.{tagOf}
 use lib.ListN.{drop, length, take, drop-of-length-le}
-use Rattle.label.specs.Answer.{Answer, andThen, granted, require}
+use Rattle.label.specs.Answer.{Answer, andThen, granted}
 use Rattle.label.proofs.AnswerLaws.{require-then, then-then}
 use Rattle.label.proofs.SearchLaws.{first-least}
 use Rattle.octets.specs.Bytes.{indexOf}

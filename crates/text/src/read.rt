@@ -187,7 +187,7 @@ fn label_in(table: &[u8], starts: &[usize], text: &[u8]) -> LabelAnswer
 {
     let i = octets::index_of(b':', text);
     if i < text.len() {
-        return composed(table, starts, &text[..i], &text[i + 1..]);
+        return composed(table, starts, &text[..i], octets::rest(text, i + 1));
     }
     label_named(table, starts, text)
 }
@@ -284,11 +284,11 @@ fn ends(table: &[u8], starts: &[usize], s: Subject, text: &[u8]) -> RangeAnswer
             range: range::zero(),
         };
     };
-    let rest = &text[n..];
-    if !begins_with(b" -H ", rest) {
-        return no_range();
+    let rest = octets::rest(text, n);
+    if begins_with(b" -H ", rest) {
+        return range_from(table, starts, s, low.label, octets::rest(rest, 4));
     }
-    range_from(table, starts, s, low.label, octets::rest(rest, 4))
+    no_range()
 }
 
 // Reads a range by a table that was tested.

@@ -1,7 +1,4 @@
 use borrow.Author.Needs.{needs}
-use Rattle.text.proofs.read.read_categories.Statement.{statement}
-use Rattle.text.proofs.read.read_categories.Tie as tie
-use mathlib.Core.List.{_∷_}
 use mathlib.Core.Path.{_≡_, refl, sym, ap, _∙_}
 use Prim.Native.Nat.{_+_, _-_, _≤_}
 use native.Mathlib.Omega.{arith}
@@ -11,10 +8,12 @@ use Rattle.label.specs.Answer.{andThen}
 use Rattle.label.proofs.AnswerLaws.{answers-grant, answers-same, grant-next, refusal-beside, refusal-next}
 use Rattle.octets.specs.Bytes.{split}
 use Rattle.alias.specs.Lines.{entriesBy}
+use Rattle.text.specs.Named.{addedTo}
 use Rattle.text.specs.Read.{categoriesRead, noCategories}
 use Rattle.text.specs.Write.{comma}
-use Rattle.text.specs.Named.{addedTo}
 use Rattle.text.proofs.ReadLaws.{readFrom, read-end, read-next}
+use Rattle.text.proofs.read.read_categories.Statement.{statement}
+use Rattle.text.proofs.read.read_categories.Tie as tie
 
 abbrev Inv-loop : tie.InvT-loop
 Inv-loop table starts names set₀ at₀ set at =
