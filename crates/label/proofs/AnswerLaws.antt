@@ -3,10 +3,10 @@ use mathlib.Core.Bool.{Bool, true, false, _&&_, true≢false}
 use mathlib.Core.Option.{Option, none}
 use mathlib.Core.Path.{_≡_, refl, sym, ap, _∙_}
 use Prim.Native.Nat.{ℕ}
-use Rattle.label.specs.Answer.{Answer, Answered, granted, grantedOf, isGranted, refused, refusedBy, require, testOf, valueOr}
+use Rattle.label.specs.Answer.{Answer, Answered, andThen, granted, grantedOf, isGranted, refused, refusedBy, require, testOf, valueOr}
 use Rattle.label.specs.declared.errno.Errno.{Errno}
-use Rattle.label.specs.declared.answer.Test.{Test}
 use Rattle.label.specs.declared.answer.Outcome.{Outcome}
+use Rattle.label.specs.declared.answer.Test.{Test}
 use Rattle.label.specs.declared.answer.Outcome.the-variants.{Granted, Refused}
 
 pub passed : {A : Type 0} (t : Bool) (n : ℕ) (rest : Answer A) → t ≡ true → require t n rest ≡ rest
@@ -29,6 +29,40 @@ answers-refusal e value z x h f = record { outcome = sym h; beside = rw h f }
 pub answers-granted : {A : Type 0} (o : Outcome) {value z : A} {x : Answer A} → Answered o value z x → grantedOf o ≡ isGranted x
 answers-granted Granted a = ap isGranted (a .outcome)
 answers-granted (Refused e) a = ap isGranted (a .outcome)
+
+pub answers-same : {A : Type 0} {o : Outcome} {value z : A} {x y : Answer A} → Answered o value z x → y ≡ x → Answered o value z y
+answers-same h e = rw e h
+
+-- ---- what follows an answer
+
+pub then-then : {A B C : Type 0} (x : Answer A) (f : A → Answer B) (g : B → Answer C) → andThen (andThen x f) g ≡ andThen x (λ a. andThen (f a) g)
+then-then (granted a) f g = refl
+then-then (refused n detail) f g = refl
+
+pub require-then : {A B : Type 0} (t : Bool) (n : ℕ) (x : Answer A) (f : A → Answer B) → andThen (require t n x) f ≡ require t n (andThen x f)
+require-then true n x f = refl
+require-then false n x f = refl
+
+pub require-both : {A : Type 0} (p q : Bool) (n : ℕ) (rest : Answer A) → require (p && q) n rest ≡ require p n (require q n rest)
+require-both true q n rest = refl
+require-both false q n rest = refl
+
+-- an outcome is taken apart: what follows the grant, or the refusal passed on
+module _ {A : Type 0} {o : Outcome} {value z : A} {x : Answer A} (h : Answered o value z x) where
+  pub granted-is : o ≡ Granted → x ≡ granted value
+  granted-is e = sym (h .outcome) ∙ rw e
+
+  pub grant-next : {B : Type 0} (next : A → Answer B) → o ≡ Granted → andThen x next ≡ next value
+  grant-next next e = ap (λ (y : Answer A). andThen y next) (granted-is e)
+
+  refused-is : {e : Errno} → o ≡ Refused e → x ≡ refusedBy e
+  refused-is e = sym (h .outcome) ∙ rw e
+
+  pub refusal-next : {B : Type 0} (next : A → Answer B) {e : Errno} {y w : B} → o ≡ Refused e → y ≡ w → Answered o y w (andThen x next)
+  refusal-next next {e} {y} {w} r f = rw (r, refused-is r) (answers-refusal e y w (refusedBy e) refl f)
+
+  pub refusal-beside : {e : Errno} → o ≡ Refused e → value ≡ z
+  refusal-beside r = h .beside ∙ ap (valueOr z) (refused-is r)
 
 -- ---- what an answer tells of the check before it
 

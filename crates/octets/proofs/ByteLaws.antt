@@ -75,6 +75,12 @@ split-first b (x ∷ xs) = pick (eqb x b) (split-first b xs)
     pick true ih = refl
     pick false ih = ap (onFirst x) ih
 
+-- a loop over the fields, the next of which begins at index at: a b stands before each, as if one stood before the first
+pub fields-next : (b : ℕ) (xs : List ℕ) (at : ℕ) → at ≤ length xs
+    → fieldsFrom b (drop at (b ∷ xs)) ≡ take (indexOf b (drop at xs)) (drop at xs) ∷ fieldsFrom b (drop (at + indexOf b (drop at xs) + 1) (b ∷ xs))
+fields-next b xs at h =
+    rw (drop-cons (b ∷ xs) at 0 (omega arith), split-first b (drop at xs), drop-drop (indexOf b (drop at xs)) at xs, add-one (at + indexOf b (drop at xs)))
+
 -- ---- putAt
 
 -- bytes that fit at an index, compared with no sum

@@ -4,3 +4,5 @@ pub mod EndsLaws
 pub mod SightLaws
 pub mod TextLaws
 pub mod TextExamples
+pub mod ReadLaws
+pub mod SubjectLaws

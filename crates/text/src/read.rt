@@ -140,7 +140,7 @@ fn read_categories(table: &[u8], starts: &[usize], names: &[u8]) -> SetAnswer
         let added = add_category(table, starts, set, &rest[..n]);
         let outcome = added.outcome;
         let Outcome::Granted = outcome else {
-            return no_set();
+            return added;
         };
         set = added.categories;
         at = at + n + 1;
@@ -165,7 +165,10 @@ fn composed(table: &[u8], starts: &[usize], name: &[u8], names: &[u8]) -> LabelA
     let read = read_categories(table, starts, names);
     let outcome = read.outcome;
     let Outcome::Granted = outcome else {
-        return no_label();
+        return LabelAnswer {
+            outcome,
+            label: label::zero(),
+        };
     };
     let categories = read.categories;
     let l = Label {
@@ -184,7 +187,7 @@ fn label_in(table: &[u8], starts: &[usize], text: &[u8]) -> LabelAnswer
 {
     let i = octets::index_of(b':', text);
     if i < text.len() {
-        return composed(table, starts, &text[..i], &text[i + 1..]);
+        return composed(table, starts, &text[..i], octets::rest(text, i + 1));
     }
     label_named(table, starts, text)
 }
@@ -196,7 +199,7 @@ fn label_seen(table: &[u8], starts: &[usize], s: Subject, text: &[u8]) -> LabelA
     let l = label_in(table, starts, text);
     let outcome = l.outcome;
     let Outcome::Granted = outcome else {
-        return no_label();
+        return l;
     };
     if sees(s, l.label) {
         return l;
@@ -251,7 +254,10 @@ fn range_from(table: &[u8], starts: &[usize], s: Subject, low: Label, text: &[u8
     let end = label_seen(table, starts, s, text);
     let outcome = end.outcome;
     let Outcome::Granted = outcome else {
-        return no_range();
+        return RangeAnswer {
+            outcome,
+            range: range::zero(),
+        };
     };
     let high = end.label;
     let x = high.categories;
@@ -278,11 +284,11 @@ fn ends(table: &[u8], starts: &[usize], s: Subject, text: &[u8]) -> RangeAnswer
             range: range::zero(),
         };
     };
-    let rest = &text[n..];
-    if !begins_with(b" -H ", rest) {
-        return no_range();
+    let rest = octets::rest(text, n);
+    if begins_with(b" -H ", rest) {
+        return range_from(table, starts, s, low.label, octets::rest(rest, 4));
     }
-    range_from(table, starts, s, low.label, octets::rest(rest, 4))
+    no_range()
 }
 
 // Reads a range by a table that was tested.

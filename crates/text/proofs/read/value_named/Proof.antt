@@ -1,0 +1,51 @@
+use borrow.Author.Needs.{needs}
+use mathlib.Core.Path.{sym, ap, _∙_}
+use Rattle.label.specs.Answer.{granted}
+use Rattle.alias.specs.Lookup.{foundOf}
+use Rattle.text.specs.Named.{valueNamed}
+use Rattle.text.proofs.ReadLaws.{named-line, named-none}
+use Rattle.text.proofs.read.value_named.Statement.{statement}
+use Rattle.text.proofs.read.value_named.Tie as tie
+
+find-requires : tie.Need-find-requires
+find-requires c κs = search needs
+
+enum-known-found : tie.Need-enum-known-found
+enum-known-found c = search needs
+
+line-requires : tie.Need-line-requires
+line-requires c κs = search needs
+
+value-requires : tie.Need-value-requires
+value-requires c κs = search needs
+
+enum-told : tie.Need-enum-told
+enum-told c = search needs
+
+returns : tie.Need-returns
+unfolding valueNamed
+returns c =
+    let l = c .before in
+    let k = l .before .before in
+    let f = k .before .before in
+    let a = f .before .before .before .before .args in
+    ap granted (c .value .ensures) ∙ sym (named-line (a .table .now) (a .starts .now) (a .text .now) _ (sym (f .find .ensures) ∙ ap foundOf (k .found .given .1)) (l .line .ensures))
+
+returns-2 : tie.Need-returns-2
+unfolding valueNamed
+returns-2 c =
+    let f = c .before .before in
+    let a = f .before .before .before .before .args in
+    sym (named-none (a .table .now) (a .starts .now) (a .text .now) _ (sym (f .find .ensures) ∙ ap foundOf (c .enum-told .given .1)))
+
+pub value-named-spec : {M : Type 1} → statement M
+value-named-spec =
+    tie.close
+    (tie.spec
+    find-requires
+    enum-known-found
+    line-requires
+    value-requires
+    enum-told
+    returns
+    returns-2)
