@@ -18,7 +18,7 @@ use Rattle.label.specs.Index.{firstFrom}
 use Rattle.label.specs.Words.{bit, has, listedIf, membersBelow, membersOf, nextOf, wordAt}
 use Rattle.label.proofs.BitLaws.{bit-high, bit-suc, bit-zero}
 use Rattle.label.proofs.IndexLaws.{le-or-lt}
-use Rattle.label.proofs.SearchLaws.{Least, first-least, first-none, hit, pass}
+use Rattle.label.proofs.SearchLaws.{Least, first-least, first-none, hit, pass, search-end}
 use Rattle.label.proofs.WordLaws.{has-at}
 
 no-bit : (j : ℕ) → bit 0 j ≡ false
@@ -141,8 +141,8 @@ next-pass ws c l e =
     ∙ ap (λ (k : ℕ). firstFrom (has ws) k (length ws * 64 - (c / 64 + 1) * 64)) g
 
 pub next-end : (ws : List ℕ) (c : ℕ) → length ws * 64 ≤ c → nextOf ws c ≡ none
-unfolding nextOf firstFrom
-next-end ws c h = let e : length ws * 64 - c ≡ 0 = omega arith in ap (firstFrom (has ws) c) e
+unfolding nextOf
+next-end ws c h = search-end (has ws) c (length ws * 64) h
 
 -- ---- the next category is the least at or above, and there is none exactly if the set has none there
 

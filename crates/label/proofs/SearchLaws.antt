@@ -1,14 +1,15 @@
--- The laws of `any`, `firstFrom` and `sumFrom`, and what a loop over the index needs of them. Assumes nothing.
+-- The laws of `any`, `firstFrom`, `lastBelow` and `sumFrom`, and what a loop over the index needs of them. Assumes nothing.
 use mathlib.Core.Bool.{Bool, true, false, not, _&&_, and-true, true≢false}
 use mathlib.Core.Logic.{_⊎_, inl, inr, ⊎-elim}
 use mathlib.Core.Option.{none, some}
 use mathlib.Core.Path.{_≡_, refl, sym, ap, _∙_}
 use Prim.Native.Nat.{ℕ, zero, suc, _+_, _-_, _≤_, _<_, suc-le-suc}
 use native.Mathlib.Nat.{zero-lt-suc, eq-or-lt-of-le, add-zero, zero-add, suc-add}
+use native.Mathlib.Numerals.{add-one}
 use native.Mathlib.Omega.{arith}
 use lib.Dec.{eqb}
 use borrow.Author.Tests.{eqb-true, eqb-false}
-use Rattle.label.specs.Index.{any, every, firstFrom, firstOr, sumFrom}
+use Rattle.label.specs.Index.{any, every, firstFrom, firstOr, lastBelow, sumFrom}
 use Rattle.label.proofs.IndexLaws.{every-at}
 use Rattle.label.proofs.BoolLaws.{not-so}
 
@@ -110,6 +111,32 @@ pub first-same : (f g : ℕ → Bool) (k n : ℕ) → ((j : ℕ) → k ≤ j →
 unfolding firstFrom
 first-same f g k zero h = refl
 first-same f g k (suc n) h = rw (h k (omega arith) (omega arith), first-same f g (suc k) n (λ j a b. h j (omega arith) (omega arith)))
+
+-- a search that is at k of n numbers: it stops, goes on, or ends
+module _ (f : ℕ → Bool) (k n : ℕ) where
+  pub search-hit : k < n → f k ≡ true → firstFrom f k (n - k) ≡ some k
+  unfolding firstFrom
+  search-hit l e = let r : n - k ≡ suc (n - suc k) = omega arith in rw (r, e)
+
+  pub search-pass : k < n → f k ≡ false → firstFrom f k (n - k) ≡ firstFrom f (k + 1) (n - (k + 1))
+  search-pass l e = let r : n - k ≡ suc (n - (k + 1)) = omega arith in rw r (pass-one f k (n - (k + 1)) e ∙ rw add-one)
+
+  pub search-end : n ≤ k → firstFrom f k (n - k) ≡ none
+  unfolding firstFrom
+  search-end l = let r : n - k ≡ 0 = omega arith in rw r
+
+-- ---- the last
+
+module _ (f : ℕ → Bool) where
+  pub last-hit : (k : ℕ) → f k ≡ true → lastBelow f (k + 1) ≡ some k
+  unfolding lastBelow
+  last-hit k e = rw (add-one, e)
+
+  pub last-pass : (k n : ℕ) → k ≤ n → ((j : ℕ) → k ≤ j → j < n → f j ≡ false) → lastBelow f n ≡ lastBelow f k
+  unfolding lastBelow
+  last-pass k zero l h = let e : k ≡ 0 = omega arith in rw e
+  last-pass k (suc n) l h =
+      ⊎-elim (λ e. ap (lastBelow f) (sym e)) (λ u. rw (h n (omega arith) (omega arith)) (last-pass k n (omega arith) (λ j a b. h j a (omega arith)))) (eq-or-lt-of-le l)
 
 -- ---- sums
 
