@@ -1,0 +1,76 @@
+use borrow.Author.Needs.{needs}
+use mathlib.Core.Path.{_≡_, sym, _∙_}
+use Prim.Native.Nat.{_-_}
+use native.Mathlib.Omega.{arith}
+use Rattle.label.specs.Index.{firstFrom}
+use Rattle.label.proofs.SearchLaws.{search-end, search-hit, search-pass}
+use Rattle.alias.specs.Lines.{entriesBy}
+use Rattle.alias.specs.Lookup.{calledOf, findOf}
+use Rattle.alias.proofs.LookupLaws.{calledAt, entry-test, search-start}
+use Rattle.alias.proofs.lookup.find.Statement.{statement}
+use Rattle.alias.proofs.lookup.find.Tie as tie
+
+abbrev Inv-loop : tie.InvT-loop
+Inv-loop table starts text n k₀ k = findOf (entriesBy table starts) text ≡ firstFrom (calledAt (entriesBy table starts) text) k (n - k)
+
+abbrev μ-loop : tie.MeasureT-loop
+μ-loop table starts text n k₀ k = n - k
+
+-- the test of entry k
+told : (c : tie.After-called Inv-loop μ-loop)
+    → let h = c .before .before .before in
+    let a = h .before .before .before .before .before .args in
+    calledAt (entriesBy (a .table .now) (a .starts .now)) (a .text .now) (h .loop .k) ≡ c .called .result
+told c =
+    let h = c .before .before .before in
+    let a = h .before .before .before .before .before .args in
+    entry-test (a .table .now) (a .starts .now) (λ e. calledOf e (a .text .now)) (h .loop .k) (omega arith) (c .before .line .ensures) (c .called .ensures)
+
+count-requires : tie.Need-count-requires Inv-loop μ-loop
+count-requires c κs = search needs
+
+loop-holds : tie.Need-loop-holds Inv-loop μ-loop
+unfolding findOf
+loop-holds c =
+    let a = c .before .before .before .before .args in
+    search-start (a .table .now) (a .starts .now) _ (c .count .ensures)
+
+line-requires : tie.Need-line-requires Inv-loop μ-loop
+line-requires c κs = search needs
+
+called-requires : tie.Need-called-requires Inv-loop μ-loop
+called-requires c κs = search needs
+
+returns : tie.Need-returns Inv-loop μ-loop
+returns c =
+    let h = c .before .before .before .before in
+    sym (h .loop .inv ∙ search-hit _ (h .loop .k) _ (omega arith) (told (c .before) ∙ c .if1 .taken))
+
+add-k : tie.Need-add-k Inv-loop μ-loop
+add-k c = search needs
+
+loop-less : tie.Need-loop-less Inv-loop μ-loop
+loop-less c = search needs
+
+loop-again : tie.Need-loop-again Inv-loop μ-loop
+loop-again c =
+    let h = c .before .before .before .before in h .loop .inv ∙ search-pass _ (h .loop .k) _ (omega arith) (told (c .before) ∙ c .if1 .left)
+
+returns-2 : tie.Need-returns-2 Inv-loop μ-loop
+returns-2 c = let h = c .before in sym (h .loop .inv ∙ search-end _ (h .loop .k) _ (omega arith))
+
+pub find-spec : {M : Type 1} → statement M
+find-spec =
+    tie.close
+    (tie.spec
+    Inv-loop
+    μ-loop
+    count-requires
+    loop-holds
+    line-requires
+    called-requires
+    returns
+    add-k
+    loop-less
+    loop-again
+    returns-2)

@@ -1,0 +1,71 @@
+use borrow.Author.Needs.{needs}
+use mathlib.Core.Path.{refl}
+use Prim.Native.Nat.{_-_}
+use native.Mathlib.Omega.{arith}
+use Rattle.frame.specs.Frame.{bodyOf}
+use Rattle.alias.proofs.LookupLaws.{SameSoFar, span-end, span-pass, span-stop, spans-differ}
+use Rattle.alias.proofs.names.spells.Statement.{statement}
+use Rattle.alias.proofs.names.spells.Tie as tie
+
+abbrev Inv-loop : tie.InvT-loop
+Inv-loop line s text i₀ i = SameSoFar (bodyOf line) s text i
+
+abbrev μ-loop : tie.MeasureT-loop
+μ-loop line s text i₀ i = s .length - i
+
+returns : tie.Need-returns Inv-loop μ-loop
+returns c =
+    let a = c .before .before .before .before .args in spans-differ (bodyOf (a .line .now)) (a .s) (a .text .now) (c .if1 .taken)
+
+loop-holds : tie.Need-loop-holds Inv-loop μ-loop
+loop-holds c = record { within = search needs; rest = refl }
+
+add-byte : tie.Need-add-byte Inv-loop μ-loop
+add-byte c = search needs
+
+byte-requires : tie.Need-byte-requires Inv-loop μ-loop
+byte-requires c κs = search needs
+
+shared-slice-read-if3 : tie.Need-shared-slice-read-if3 Inv-loop μ-loop
+shared-slice-read-if3 c = search needs
+
+returns-2 : tie.Need-returns-2 Inv-loop μ-loop
+returns-2 c =
+    let h = c .before .before .before .before .before .before in
+    let a = h .before .before .before .before .before .args in
+    span-stop (bodyOf (a .line .now)) (a .s) (a .text .now) (h .before .if1 .left) (h .loop .i) (h .loop .inv) (omega arith) (c .before .before .byte .ensures) refl (c .if3 .taken)
+
+add-i : tie.Need-add-i Inv-loop μ-loop
+add-i c = search needs
+
+loop-less : tie.Need-loop-less Inv-loop μ-loop
+loop-less c = search needs
+
+loop-again : tie.Need-loop-again Inv-loop μ-loop
+loop-again c =
+    let h = c .before .before .before .before .before .before in
+    let a = h .before .before .before .before .before .args in
+    span-pass (bodyOf (a .line .now)) (a .s) (a .text .now) (h .before .if1 .left) (h .loop .i) (h .loop .inv) (omega arith) (c .before .before .byte .ensures) refl (c .if3 .left)
+
+returns-3 : tie.Need-returns-3 Inv-loop μ-loop
+returns-3 c =
+    let h = c .before .before in
+    let a = h .before .before .before .before .before .args in
+    span-end (bodyOf (a .line .now)) (a .s) (a .text .now) (h .before .if1 .left) (h .loop .i) (h .loop .inv) (omega arith)
+
+pub spells-spec : {M : Type 1} → statement M
+spells-spec =
+    tie.close
+    (tie.spec
+    Inv-loop
+    μ-loop
+    returns
+    loop-holds
+    add-byte
+    byte-requires
+    shared-slice-read-if3
+    returns-2
+    add-i
+    loop-less
+    loop-again
+    returns-3)

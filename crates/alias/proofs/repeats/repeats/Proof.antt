@@ -1,0 +1,31 @@
+use borrow.Author.Needs.{needs}
+use native.Mathlib.Omega.{arith}
+use Rattle.octets.specs.Bytes.{sameBytes}
+use Rattle.hexline.specs.Entry.{abbreviationBytes, nameBytes}
+use Rattle.alias.specs.Table.{repeatsAt}
+use Rattle.alias.proofs.LookupLaws.{entry-test}
+use Rattle.alias.proofs.repeats.repeats.Statement.{statement}
+use Rattle.alias.proofs.repeats.repeats.Tie as tie
+
+line-requires : tie.Need-line-requires
+line-requires c κs = search needs
+
+repeats-itself-requires : tie.Need-repeats-itself-requires
+repeats-itself-requires c κs = search needs
+
+shared-before-requires : tie.Need-shared-before-requires
+shared-before-requires c κs = search needs
+
+returns : tie.Need-returns
+unfolding repeatsAt
+returns c =
+    let d = c .before .before in
+    let a = d .before .before .before .args in
+    rw (
+      c .shared-before .ensures,
+      ← entry-test (a .table .now) (a .starts .now) (λ e. sameBytes (nameBytes e) (abbreviationBytes e)) (a .k) (omega arith) (d .line .ensures) (c .before .repeats-itself .ensures),
+    )
+
+pub repeats-spec : {M : Type 1} → statement M
+repeats-spec =
+    tie.close (tie.spec line-requires repeats-itself-requires shared-before-requires returns)

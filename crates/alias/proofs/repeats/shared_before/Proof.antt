@@ -1,0 +1,82 @@
+use borrow.Author.Needs.{needs}
+use mathlib.Core.Bool.{true, not}
+use mathlib.Core.Path.{_≡_, refl, sym, ap, _∙_}
+use Prim.Native.Nat.{_-_, _≤_}
+use native.Mathlib.Omega.{arith}
+use Rattle.label.specs.Index.{every}
+use Rattle.label.proofs.IndexLaws.{every-done, every-next}
+use Rattle.label.proofs.SearchLaws.{any-of}
+use Rattle.hexline.specs.Line.{standingIn}
+use Rattle.alias.specs.Lines.{entriesBy, entryAt}
+use Rattle.alias.specs.Table.{sharesOf}
+use Rattle.alias.proofs.LookupLaws.{entry-test, sharesAt}
+use Rattle.alias.proofs.repeats.shared_before.Statement.{statement}
+use Rattle.alias.proofs.repeats.shared_before.Tie as tie
+
+abbrev Inv-loop : tie.InvT-loop
+Inv-loop table starts k own j₀ j = (j ≤ k) × (every (λ i. not (sharesAt (entriesBy table starts) k i)) j ≡ true)
+
+abbrev μ-loop : tie.MeasureT-loop
+μ-loop table starts k own j₀ j = k - j
+
+-- the test of entry j
+told : (c : tie.After-shares Inv-loop μ-loop)
+    → let h = c .before .before .before in
+    let a = h .before .before .before .before .args in
+    sharesAt (entriesBy (a .table .now) (a .starts .now)) (a .k) (h .loop .j) ≡ c .shares .result
+told c =
+    let h = c .before .before .before in
+    let a = h .before .before .before .before .args in
+    let t = a .table .now in
+    let s = a .starts .now in
+    entry-test t s (sharesOf (entryAt (entriesBy t s) (h .loop .j))) (a .k) (omega arith) (h .before .line .ensures) refl
+    ∙ entry-test t s (λ e. sharesOf e (standingIn (h .before .line .result .now))) (h .loop .j) (omega arith) (c .before .line2 .ensures) (c .shares .ensures)
+
+line-requires : tie.Need-line-requires Inv-loop μ-loop
+line-requires c κs = search needs
+
+loop-holds : tie.Need-loop-holds Inv-loop μ-loop
+unfolding every
+loop-holds c = (search needs, refl)
+
+line-requires-2 : tie.Need-line-requires-2 Inv-loop μ-loop
+line-requires-2 c κs = search needs
+
+shares-requires : tie.Need-shares-requires Inv-loop μ-loop
+shares-requires c κs = search needs
+
+returns : tie.Need-returns Inv-loop μ-loop
+returns c =
+    let h = c .before .before .before .before in
+    let a = h .before .before .before .before .args in
+    sym (any-of (sharesAt (entriesBy (a .table .now) (a .starts .now)) (a .k)) (a .k) (h .loop .j) (omega arith) (told (c .before) ∙ c .if1 .taken))
+
+add-j : tie.Need-add-j Inv-loop μ-loop
+add-j c = search needs
+
+loop-less : tie.Need-loop-less Inv-loop μ-loop
+loop-less c = search needs
+
+loop-again : tie.Need-loop-again Inv-loop μ-loop
+loop-again c =
+    let h = c .before .before .before .before in
+    (search needs, every-next _ (h .loop .j) (h .loop .inv .1) (ap not (told (c .before) ∙ c .if1 .left)))
+
+returns-2 : tie.Need-returns-2 Inv-loop μ-loop
+returns-2 c = let h = c .before in sym (ap not (every-done _ _ (h .loop .j) (omega arith) (h .loop .inv .1)))
+
+pub shared-before-spec : {M : Type 1} → statement M
+shared-before-spec =
+    tie.close
+    (tie.spec
+    Inv-loop
+    μ-loop
+    line-requires
+    loop-holds
+    line-requires-2
+    shares-requires
+    returns
+    add-j
+    loop-less
+    loop-again
+    returns-2)
