@@ -245,6 +245,9 @@ members-exact ws k = (listed-has ws (length ws * 64) k, λ h. has-listed ws (len
 
 -- ---- a listing by one search after another
 
+pub next-within : (ws : List ℕ) (c k : ℕ) → nextOf ws c ≡ some k → (c ≤ k) × (k < length ws * 64)
+next-within ws c k e = let l = next-least ws c k e in (l .above, has-within ws k (l .there))
+
 below-skip : (ws : List ℕ) (c d : ℕ) → c ≤ d → ((j : ℕ) → c ≤ j → j < d → has ws j ≡ false) → membersBelow ws d ≡ membersBelow ws c
 unfolding membersBelow
 below-skip ws c zero l h = let e : c ≡ 0 = omega arith in rw e
@@ -257,8 +260,8 @@ unfolding membersBelow
 next-listed ws c k e = let l = next-least ws c k e in rw (add-one, l .there, below-skip ws c k (l .above) (l .none-before))
 
 -- where none is found, all are listed
-pub none-listed : (ws : List ℕ) (c d : ℕ) → nextOf ws c ≡ none → c ≤ d → membersBelow ws d ≡ membersBelow ws c
-none-listed ws c d e l = below-skip ws c d l (λ j a b. next-none ws c .0 e j a)
+pub last-listed : (ws : List ℕ) (c d : ℕ) → nextOf ws c ≡ none → c ≤ d → membersBelow ws d ≡ membersBelow ws c
+last-listed ws c d e l = below-skip ws c d l (λ j a b. next-none ws c .0 e j a)
 
 pub all-listed : (ws : List ℕ) (c : ℕ) → c ≡ length ws * 64 → membersBelow ws c ≡ membersOf ws
 unfolding membersOf
