@@ -1,13 +1,13 @@
 -- The listing of a set's categories, their number by the set bits of each word, and the next category by the zeros below a shifted
 -- word's lowest set bit. Assumes nothing.
 use mathlib.Core.Bool.{Bool, true, false, true≢false}
-use mathlib.Core.List.{List, [], _∷_, _++_, List·Memᴰ, List·Memᴰ·head, List·Memᴰ·not-nil, List·Memᴰ·eq-of-singleton, List·Memᴰ·append-cases, Memᴰ·append-left, Memᴰ·append-right}
+use mathlib.Core.List.{List, [], _∷_, _++_, append-assoc, append-nil, List·Memᴰ, List·Memᴰ·head, List·Memᴰ·not-nil, List·Memᴰ·eq-of-singleton, List·Memᴰ·append-cases, Memᴰ·append-left, Memᴰ·append-right}
 use mathlib.Core.Logic.{⊎-elim, _⊎_, inl, inr, _↔_}
 use mathlib.Core.Option.{Option, none, some}
 use mathlib.Core.Path.{_≡_, refl, sym, ap, ap₂, _∙_}
 use Prim.Native.Nat.{ℕ, zero, suc, _+_, _-_, _*_, _/_, _%_, _^_, _≤_, _<_}
 use native.Mathlib.Nat.{zero-lt-suc, le-refl, lt-of-not-le, lt-of-le-of-lt, eq-or-lt-of-le, le-of-suc-le-suc, add-zero, add-suc, add-assoc, add-comm, mod-lt, mod-one, mod-eq-of-lt, div-lt-iff-lt-mul, pow-suc}
-use native.Mathlib.Numerals.{one-add}
+use native.Mathlib.Numerals.{add-one, one-add}
 use native.Mathlib.Omega.{arith}
 use lib.Count.{ones, ones-cat, trailingZeros, under}
 use lib.Dec.{eqb}
@@ -242,3 +242,41 @@ has-listed ws (suc c) k l h = go (has ws c) refl (λ u. has-listed ws c k u h) (
 pub members-exact : (ws : List ℕ) (k : ℕ) → List·Memᴰ k (membersOf ws) ↔ (has ws k ≡ true)
 unfolding membersOf
 members-exact ws k = (listed-has ws (length ws * 64) k, λ h. has-listed ws (length ws * 64) k (has-within ws k h) h)
+
+-- ---- a listing by one search after another
+
+pub next-within : (ws : List ℕ) (c k : ℕ) → nextOf ws c ≡ some k → (c ≤ k) × (k < length ws * 64)
+next-within ws c k e = let l = next-least ws c k e in (l .above, has-within ws k (l .there))
+
+below-skip : (ws : List ℕ) (c d : ℕ) → c ≤ d → ((j : ℕ) → c ≤ j → j < d → has ws j ≡ false) → membersBelow ws d ≡ membersBelow ws c
+unfolding membersBelow
+below-skip ws c zero l h = let e : c ≡ 0 = omega arith in rw e
+below-skip ws c (suc d) l h =
+    ⊎-elim (λ e. ap (membersBelow ws) (sym e)) (λ u. rw (h d (omega arith) (omega arith)) (below-skip ws c d (omega arith) (λ j a b. h j a (omega arith)))) (eq-or-lt-of-le l)
+
+-- the category that is found is listed next
+pub next-listed : (ws : List ℕ) (c k : ℕ) → nextOf ws c ≡ some k → membersBelow ws (k + 1) ≡ membersBelow ws c ++ (k ∷ [])
+unfolding membersBelow
+next-listed ws c k e = let l = next-least ws c k e in rw (add-one, l .there, below-skip ws c k (l .above) (l .none-before))
+
+-- where none is found, all are listed
+pub last-listed : (ws : List ℕ) (c d : ℕ) → nextOf ws c ≡ none → c ≤ d → membersBelow ws d ≡ membersBelow ws c
+last-listed ws c d e l = below-skip ws c d l (λ j a b. next-none ws c .0 e j a)
+
+pub all-listed : (ws : List ℕ) (c : ℕ) → c ≡ length ws * 64 → membersBelow ws c ≡ membersOf ws
+unfolding membersOf
+all-listed ws c e = ap (membersBelow ws) e
+
+-- what is listed first stays in front
+below-front : (ws : List ℕ) (c d : ℕ) → c ≤ d → (rest : List ℕ) × (membersBelow ws d ≡ membersBelow ws c ++ rest)
+unfolding membersBelow
+below-front ws c zero l = let e : c ≡ 0 = omega arith in ([], rw e)
+below-front ws c (suc d) l = ⊎-elim (λ e. ([], rw e (sym (append-nil (membersBelow ws (suc d)))))) (λ u. go (has ws d) (below-front ws c d (omega arith))) (eq-or-lt-of-le l)
+  where
+    go : (p : Bool) → (rest : List ℕ) × (membersBelow ws d ≡ membersBelow ws c ++ rest) → (rest : List ℕ) × (listedIf p d (membersBelow ws d) ≡ membersBelow ws c ++ rest)
+    go true r = (r .0 ++ (d ∷ []), rw (r .1) (append-assoc (membersBelow ws c) (r .0) (d ∷ [])))
+    go false r = r
+
+pub members-front : (ws : List ℕ) (c : ℕ) → c ≤ length ws * 64 → (rest : List ℕ) × (membersOf ws ≡ membersBelow ws c ++ rest)
+unfolding membersOf
+members-front ws c l = below-front ws c (length ws * 64) l

@@ -160,6 +160,15 @@ module _ (f : ℕ → Bool) where
   last-pass k (suc n) l h =
       ⊎-elim (λ e. ap (lastBelow f) (sym e)) (λ u. rw (h n (omega arith) (omega arith)) (last-pass k n (omega arith) (λ j a b. h j a (omega arith)))) (eq-or-lt-of-le l)
 
+  pub last-within : (n k : ℕ) → lastBelow f n ≡ some k → k < n
+  unfolding lastBelow
+  last-within zero k e = let z : _≡_ {A = ℕ} 0 1 = cc in absurd (omega arith)
+  last-within (suc n) k e = go (f n) e (last-within n k)
+    where
+      go : (p : Bool) → firstOr p n (lastBelow f n) ≡ some k → (lastBelow f n ≡ some k → k < n) → k < suc n
+      go true g ih = let q : n ≡ k = cc in omega arith
+      go false g ih = let l = ih g in omega arith
+
 -- ---- sums
 
 -- a loop that has added i of n terms: the rest is the next term and the rest after it

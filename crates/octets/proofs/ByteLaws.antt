@@ -96,6 +96,9 @@ module _ (out : List ℕ) (at : ℕ) where
   unfolding putAt
   put-nil = rw (append-nil, add-zero, take-append-drop)
 
+  pub nothing-put : Put out at [] at out
+  nothing-put = record { past = sym (add-zero at); written = sym put-nil }
+
   pub put-all : (xs : List ℕ) → paste out at xs (length xs) ≡ putAt out at xs
   unfolding putAt
   put-all xs = rw take-length
@@ -106,6 +109,9 @@ module _ (out : List ℕ) (at : ℕ) where
   pub put-one : (b : ℕ) → at < length out → putAt out at (b ∷ []) ≡ set out at b
   unfolding putAt
   put-one b h = rw (set-split out at b h, append-snoc, add-one)
+
+  pub one-put : (b : ℕ) → at < length out → Put out at (b ∷ []) (at + 1) (set out at b)
+  one-put b h = record { past = refl; written = sym (put-one b h) }
 
   -- bytes that are put behind others
   pub put-put : (cs bs : List ℕ) → at + length cs ≤ length out → putAt (putAt out at cs) (at + length cs) bs ≡ putAt out at (cs ++ bs)

@@ -1,8 +1,9 @@
+pub mod SubjectLaws
+pub mod WriteLaws
+pub mod ReadLaws
 pub mod NameLaws
 pub mod RoundLaws
 pub mod EndsLaws
 pub mod SightLaws
 pub mod TextLaws
 pub mod TextExamples
-pub mod ReadLaws
-pub mod SubjectLaws

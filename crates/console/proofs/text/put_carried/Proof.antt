@@ -1,11 +1,10 @@
 use borrow.Author.Needs.{needs}
-use mathlib.Core.Path.{_≡_, sym}
+use mathlib.Core.Path.{_≡_}
 use Prim.Native.Nat.{suc}
-use native.Mathlib.Nat.{add-zero}
 use native.Mathlib.Omega.{arith}
 use lib.ListN.{length}
 use Rattle.label.specs.Errno.{carriedOf}
-use Rattle.octets.proofs.ByteLaws.{appended-put, put-nil, then-put}
+use Rattle.octets.proofs.ByteLaws.{appended-put, nothing-put, then-put}
 use Rattle.console.specs.Text.{carriedText, decimalOf}
 use Rattle.console.proofs.text.put_carried.Statement.{statement}
 use Rattle.console.proofs.text.put_carried.Tie as tie
@@ -51,7 +50,7 @@ returns-2 : tie.Need-returns-2
 unfolding carriedText
 returns-2 c =
     let a = c .before .before .before .args in
-    rw (c .enum-told .given .1) (record { past = sym (add-zero (a .at)); written = sym (put-nil (a .out .now) (a .at)) })
+    rw (c .enum-told .given .1) (nothing-put (a .out .now) (a .at))
 
 pub put-carried-spec : {M : Type 1} → statement M
 put-carried-spec =

@@ -1,0 +1,87 @@
+use borrow.Author.Needs.{needs}
+use mathlib.Core.Path.{_≡_, refl, sym, ap, _∙_}
+use Prim.Native.Nat.{_+_, _-_, _≤_}
+use native.Mathlib.Numerals.{add-one}
+use native.Mathlib.Omega.{arith}
+use lib.ListN.{length, length-set}
+use lib.Seq.{paste, paste-suc, paste-zero}
+use Rattle.frame.specs.Frame.{bodyOf}
+use Rattle.hexline.specs.Entry.{spanBytes}
+use Rattle.hexline.proofs.StandingLaws.{span-at, span-length}
+use Rattle.octets.proofs.ByteLaws.{put-all}
+use Rattle.text.proofs.name.put_span.Statement.{statement}
+use Rattle.text.proofs.name.put_span.Tie as tie
+
+abbrev Inv-loop : tie.InvT-loop
+Inv-loop out₀ at line s i₀ out i = (i ≤ s .length) × (length out ≡ length out₀) × (out ≡ paste out₀ at (spanBytes (bodyOf line) s) i)
+
+abbrev μ-loop : tie.MeasureT-loop
+μ-loop out₀ at line s i₀ out i = s .length - i
+
+loop-holds : tie.Need-loop-holds Inv-loop μ-loop
+loop-holds c =
+    let a = c .before .before .args in (search needs, refl, paste-zero (a .out .now) (a .at) (spanBytes (bodyOf (a .line .now)) (a .s)))
+
+add-byte : tie.Need-add-byte Inv-loop μ-loop
+add-byte c = search needs
+
+byte-requires : tie.Need-byte-requires Inv-loop μ-loop
+byte-requires c κs = search needs
+
+add-out : tie.Need-add-out Inv-loop μ-loop
+add-out c = search needs
+
+slice-write-out : tie.Need-slice-write-out Inv-loop μ-loop
+slice-write-out c = search needs
+
+add-i : tie.Need-add-i Inv-loop μ-loop
+add-i c = search needs
+
+loop-less : tie.Need-loop-less Inv-loop μ-loop
+loop-less c = search needs
+
+loop-again : tie.Need-loop-again Inv-loop μ-loop
+loop-again c =
+    let h = c .before .before .before .before in
+    let a = h .before .before .before .args in
+    let i = h .loop .i in
+    let bs = spanBytes (bodyOf (a .line .now)) (a .s) in
+    let l = span-length (bodyOf (a .line .now)) (a .s) in
+    let e = c .byte .ensures ∙ sym (span-at (bodyOf (a .line .now)) (a .s) i (omega arith)) in (
+      search needs,
+      length-set (h .loop .out) (a .at + i) (c .byte .result) ∙ h .loop .inv .1,
+      rw (h .loop .inv .2, e, add-one) (paste-suc (a .out .now) (a .at) bs i 0 (omega arith) (omega arith)),
+    )
+
+add-result : tie.Need-add-result Inv-loop μ-loop
+add-result c = search needs
+
+same-length : tie.Need-same-length Inv-loop μ-loop
+same-length c = search needs
+
+returns : tie.Need-returns Inv-loop μ-loop
+returns c =
+    let h = c .before .before in
+    let a = h .before .before .before .args in
+    let bs = spanBytes (bodyOf (a .line .now)) (a .s) in
+    let l = span-length (bodyOf (a .line .now)) (a .s) in
+    let e : h .loop .i ≡ length bs = omega arith in
+    record { past = ap (_+_ (a .at)) e; written = rw (h .loop .inv .2, e) (put-all (a .out .now) (a .at) bs) }
+
+pub put-span-spec : {M : Type 1} → statement M
+put-span-spec =
+    tie.close
+    (tie.spec
+    Inv-loop
+    μ-loop
+    loop-holds
+    add-byte
+    byte-requires
+    add-out
+    slice-write-out
+    add-i
+    loop-less
+    loop-again
+    add-result
+    same-length
+    returns)
