@@ -160,14 +160,15 @@ module _ (f : ℕ → Bool) where
   last-pass k (suc n) l h =
       ⊎-elim (λ e. ap (lastBelow f) (sym e)) (λ u. rw (h n (omega arith) (omega arith)) (last-pass k n (omega arith) (λ j a b. h j a (omega arith)))) (eq-or-lt-of-le l)
 
-  pub last-within : (n k : ℕ) → lastBelow f n ≡ some k → k < n
+  -- it is below n, and f holds there
+  pub last-holds : (n k : ℕ) → lastBelow f n ≡ some k → (k < n) × (f k ≡ true)
   unfolding lastBelow
-  last-within zero k e = let z : _≡_ {A = ℕ} 0 1 = cc in absurd (omega arith)
-  last-within (suc n) k e = go (f n) e (last-within n k)
+  last-holds zero k e = let z : _≡_ {A = ℕ} 0 1 = cc in absurd (omega arith)
+  last-holds (suc n) k e = go (f n) refl e (last-holds n k)
     where
-      go : (p : Bool) → firstOr p n (lastBelow f n) ≡ some k → (lastBelow f n ≡ some k → k < n) → k < suc n
-      go true g ih = let q : n ≡ k = cc in omega arith
-      go false g ih = let l = ih g in omega arith
+      go : (p : Bool) → f n ≡ p → firstOr p n (lastBelow f n) ≡ some k → (lastBelow f n ≡ some k → (k < n) × (f k ≡ true)) → (k < suc n) × (f k ≡ true)
+      go true h g ih = let q : n ≡ k = cc in (omega arith, ap f (sym q) ∙ h)
+      go false h g ih = let r = ih g in let l = r .0 in (omega arith, r .1)
 
 -- ---- sums
 

@@ -8,7 +8,7 @@ use native.Mathlib.Numerals.{add-one}
 use native.Mathlib.Omega.{arith}
 use lib.Dec.{eqb, leb}
 use lib.ListN.{drop, getD, length, set, take, drop-of-length-le, length-append, length-take, take-append-drop}
-use lib.Seq.{append-snoc, drop-append-add, drop-at, drop-cons, drop-drop, length-paste, length-take-le, paste, set-split, take-at, take-length, take-set-le}
+use lib.Seq.{append-snoc, drop-append-add, drop-append-seam, drop-at, drop-cons, drop-drop, drop-length, length-paste, length-take-le, paste, set-split, take-append-seam, take-at, take-length, take-set-le}
 use borrow.Author.Tests.{eq-eqb, eqb-true, le-leb, leb-false, leb-true, lt-leb, ne-eqb}
 use Rattle.octets.specs.Bytes.{Appended, Put, appendedOf, indexOf, onFirst, pastOf, putAt, sameBytes, split}
 
@@ -80,6 +80,37 @@ pub fields-next : (b : ℕ) (xs : List ℕ) (at : ℕ) → at ≤ length xs
     → fieldsFrom b (drop at (b ∷ xs)) ≡ take (indexOf b (drop at xs)) (drop at xs) ∷ fieldsFrom b (drop (at + indexOf b (drop at xs) + 1) (b ∷ xs))
 fields-next b xs at h =
     rw (drop-cons (b ∷ xs) at 0 (omega arith), split-first b (drop at xs), drop-drop (indexOf b (drop at xs)) at xs, add-one (at + indexOf b (drop at xs)))
+
+-- ---- bytes that do not stand in a list
+
+-- b does not stand in xs
+abbrev pub Without : ℕ → List ℕ → Type 0
+Without b xs = (k : ℕ) → k < length xs → getD xs k 0 ≡ b → ⊥
+
+module _ (b : ℕ) where
+  pub without-cons : (x : ℕ) (xs : List ℕ) → (x ≡ b → ⊥) → Without b xs → Without b (x ∷ xs)
+  without-cons x xs h w zero l e = h e
+  without-cons x xs h w (suc k) l e = w k (omega arith) e
+
+  pub without-append : (xs ys : List ℕ) → Without b xs → Without b ys → Without b (xs ++ ys)
+  without-append [] ys p q = q
+  without-append (x ∷ xs) ys p q = without-cons x (xs ++ ys) (p 0 (omega arith)) (without-append xs ys (λ k l. p (suc k) (omega arith)) q)
+
+  pub index-without : (xs : List ℕ) → Without b xs → indexOf b xs ≡ length xs
+  unfolding indexOf
+  index-without [] w = refl
+  index-without (x ∷ xs) w = rw (ne-eqb x b (w 0 (omega arith))) (ap suc (index-without xs (λ k l. w (suc k) (omega arith))))
+
+  -- the first b behind such a list
+  pub index-behind : (xs ys : List ℕ) → Without b xs → indexOf b (xs ++ b ∷ ys) ≡ length xs
+  index-behind xs ys w = index-append b xs (b ∷ ys) (index-without xs w) ∙ rw (index-first b b ys refl) (add-zero (length xs))
+
+  -- the fields of such a list, and of one with a b behind it
+  pub split-without : (xs : List ℕ) → Without b xs → split b xs ≡ xs ∷ []
+  split-without xs w = split-first b xs ∙ rw (index-without xs w, take-length xs, drop-length xs)
+
+  pub split-behind : (xs ys : List ℕ) → Without b xs → split b (xs ++ b ∷ ys) ≡ xs ∷ split b ys
+  split-behind xs ys w = split-first b (xs ++ b ∷ ys) ∙ rw (index-behind xs ys w, take-append-seam xs (b ∷ ys), drop-append-seam xs (b ∷ ys))
 
 -- ---- putAt
 

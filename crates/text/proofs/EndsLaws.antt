@@ -18,7 +18,7 @@ use Rattle.range.specs.Range
 use Rattle.range.specs.declared.Range.{Range}
 use Rattle.range.proofs.RangeLaws.{valid-parts}
 use Rattle.octets.specs.Bytes.{blank, indexOf}
-use Rattle.octets.proofs.ByteLaws.{index-append, same-self}
+use Rattle.octets.proofs.ByteLaws.{Without, index-behind, same-self, without-append, without-cons}
 use Rattle.hexline.specs.Entry.{isLetter, isNameByte}
 use Rattle.hexline.specs.declared.entry.Entry.{Entry}
 use Rattle.hexline.specs.declared.entry.Value.the-variants.{Hierarchy, Category, WholeLabel}
@@ -32,18 +32,10 @@ use Rattle.text.specs.declared.Form.the-variants.{Definition, Alias}
 use Rattle.text.specs.declared.Style.{Style}
 use Rattle.text.specs.declared.Subject.{Subject}
 use Rattle.text.specs.declared.Variant.{Variant}
-use Rattle.text.proofs.NameLaws.{Without, find-nothing, name-without}
-use Rattle.text.proofs.RoundLaws.{index-without, label-back, label-single}
+use Rattle.text.proofs.NameLaws.{find-nothing, name-without}
+use Rattle.text.proofs.RoundLaws.{label-back, label-single}
 
--- ---- bytes that do not stand in the text of a label
-
-without-cons : (b x : ℕ) (xs : List ℕ) → (x ≡ b → ⊥) → Without b xs → Without b (x ∷ xs)
-without-cons b x xs h w zero l e = h e
-without-cons b x xs h w (suc k) l e = w k (omega arith) e
-
-without-append : (b : ℕ) (xs ys : List ℕ) → Without b xs → Without b ys → Without b (xs ++ ys)
-without-append b [] ys p q = q
-without-append b (x ∷ xs) ys p q = without-cons b x (xs ++ ys) (p 0 (omega arith)) (without-append b xs ys (λ k l. p (suc k) (omega arith)) q)
+-- ---- bytes that do not stand in the text of a label, and the ends of a range in its text
 
 regroup : (a b c d : List ℕ) → ((a ++ b) ++ c) ++ d ≡ a ++ (b ++ (c ++ d))
 regroup a b c d = simp append-assoc
@@ -98,10 +90,9 @@ module _ (es : List Entry) (good : Good es) where
   -- the low end up to the blank, the marker, and what follows
   ends-at : (s : Subject) (low : Label) (text rest : List ℕ) → Without blank text → labelSeen es s text ≡ granted low
       → endsOf es s (text ++ (highMarker ++ rest)) ≡ rangeFrom es s low rest
-  unfolding endsOf indexOf
+  unfolding endsOf
   ends-at s low text rest w e =
-      let i : indexOf blank (text ++ (highMarker ++ rest)) ≡ length text = index-append blank text (highMarker ++ rest) (index-without blank text w) ∙ add-zero (length text) in
-      rw (i, take-append-seam text (highMarker ++ rest), drop-append-seam text (highMarker ++ rest), e, same-self highMarker)
+      rw (index-behind blank text (45 ∷ 72 ∷ 32 ∷ rest) w, take-append-seam text (highMarker ++ rest), drop-append-seam text (highMarker ++ rest), e, same-self highMarker)
 
   range-shown : (s : Subject) (low : Label) (text rest : List ℕ) → subjectValid s ≡ true → Without blank text → labelSeen es s text ≡ granted low
       → readRangeOf es s (lowMarker ++ (text ++ (highMarker ++ rest))) ≡ rangeFrom es s low rest

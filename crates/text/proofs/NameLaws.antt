@@ -16,9 +16,9 @@ use Rattle.label.specs.Label
 use Rattle.label.specs.declared.Label.{Label}
 use Rattle.label.proofs.BoolLaws.{both, either, or-first, or-second, second-true}
 use Rattle.label.proofs.LabelLaws.{equal-exact}
-use Rattle.label.proofs.SearchLaws.{first-least, first-none}
+use Rattle.label.proofs.SearchLaws.{first-least, first-none, last-holds}
 use Rattle.octets.specs.Bytes.{sameBytes}
-use Rattle.octets.proofs.ByteLaws.{same-is, same-self}
+use Rattle.octets.proofs.ByteLaws.{Without, same-is, same-self}
 use Rattle.hexline.specs.Entry as entries
 use Rattle.hexline.specs.Entry.{abbreviationBytes, isNameByte, nameBytes}
 use Rattle.hexline.specs.declared.entry.Entry.{Entry}
@@ -33,22 +33,7 @@ use Rattle.text.specs.Write.{isSome, nameFor, nameOr, named, writtenName
 use Rattle.text.specs.declared.Variant.{Variant}
 use Rattle.text.specs.declared.Variant.the-variants.{Names, Abbreviations}
 
--- ---- lists without a byte
-
--- b does not stand in xs
-abbrev pub Without : ℕ → List ℕ → Type 0
-Without b xs = (k : ℕ) → k < length xs → getD xs k 0 ≡ b → ⊥
-
--- ---- what the last entry for a value is
-
-pub last-holds : (f : ℕ → Bool) (n k : ℕ) → lastBelow f n ≡ some k → (k < n) × (f k ≡ true)
-unfolding lastBelow
-last-holds f zero k e = let z : _≡_ {A = ℕ} 0 1 = cc in absurd (omega arith)
-last-holds f (suc n) k e = go (f n) refl e (last-holds f n k)
-  where
-    go : (p : Bool) → f n ≡ p → firstOr p n (lastBelow f n) ≡ some k → (lastBelow f n ≡ some k → (k < n) × (f k ≡ true)) → (k < suc n) × (f k ≡ true)
-    go true h g ih = let q : n ≡ k = cc in (omega arith, ap f (sym q) ∙ h)
-    go false h g ih = let r = ih g in let l = r .0 in (omega arith, r .1)
+-- ---- what an entry that stands for a value holds
 
 pub stands-hierarchy : (h : ℕ) (l m : Label) (v : Value) → sameValue v m (Hierarchy h) l ≡ true → v ≡ Hierarchy h
 unfolding sameValue

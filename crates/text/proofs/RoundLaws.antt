@@ -21,7 +21,7 @@ use Rattle.label.proofs.LabelLaws.{upper-typed}
 use Rattle.label.proofs.ListingLaws.{has-within, members-exact}
 use Rattle.label.proofs.WordLaws.{has-union, includes-antisym, includes-exact}
 use Rattle.octets.specs.Bytes.{indexOf, split}
-use Rattle.octets.proofs.ByteLaws.{index-append}
+use Rattle.octets.proofs.ByteLaws.{Without, index-behind, index-without, split-behind, split-without}
 use Rattle.hexline.specs.Entry.{isLetter, isNameByte}
 use Rattle.hexline.specs.declared.entry.Entry.{Entry}
 use Rattle.hexline.specs.declared.entry.Value.the-variants.{Hierarchy, Category, WholeLabel}
@@ -31,27 +31,8 @@ use Rattle.text.specs.Write.{categoriesNamed, categoriesText, colon, com
 use Rattle.text.specs.declared.Form.{Form}
 use Rattle.text.specs.declared.Form.the-variants.{Definition, Alias}
 use Rattle.text.specs.declared.Variant.{Variant}
-use Rattle.text.proofs.NameLaws.{Without, alias-back, category-back, hierarchy-back, name-without, single-back}
+use Rattle.text.proofs.NameLaws.{alias-back, category-back, hierarchy-back, name-without, single-back}
 use Rattle.label.proofs.SingleLaws.{has-single, includes-single, no-category, single-length, single-word, zero-word}
-
--- ---- bytes that do not stand in a list
-
-pub index-without : (b : ℕ) (xs : List ℕ) → Without b xs → indexOf b xs ≡ length xs
-unfolding indexOf
-index-without b [] h = refl
-index-without b (x ∷ xs) h =
-    rw (ne-eqb x b (h 0 (omega arith))) (ap suc (index-without b xs (λ k l. h (suc k) (omega arith))))
-
--- the fields of a list with no b in it, and of one with a b behind it
-pub split-without : (b : ℕ) (xs : List ℕ) → Without b xs → split b xs ≡ xs ∷ []
-unfolding split
-split-without b [] h = refl
-split-without b (x ∷ xs) h = rw (ne-eqb x b (h 0 (omega arith)), split-without b xs (λ k l. h (suc k) (omega arith)))
-
-pub split-at : (b : ℕ) (xs ys : List ℕ) → Without b xs → split b (xs ++ b ∷ ys) ≡ xs ∷ split b ys
-unfolding split
-split-at b [] ys h = rw (eq-eqb b b refl)
-split-at b (x ∷ xs) ys h = rw (ne-eqb x b (h 0 (omega arith)), split-at b xs ys (λ k l. h (suc k) (omega arith)))
 
 -- ---- the names of categories
 
@@ -190,7 +171,7 @@ module _ (es : List Entry) (good : Good es) (v : Variant) where
   fields-back c (d ∷ cs) e =
       let name = nameFor es v (Category c) Label.zeroLabel in
       let rest = named es (Category d) Label.zeroLabel && categoriesNamed es cs in
-      split-at comma name (nameFor es v (Category d) Label.zeroLabel ++ categoriesText es v comma cs)
+      split-behind comma name (nameFor es v (Category d) Label.zeroLabel ++ categoriesText es v comma cs)
       (name-without es good comma refl (Category c) Label.zeroLabel v (first-true (named es (Category c) Label.zeroLabel) rest e))
       ∙ ap (λ (xs : List (List ℕ)). name ∷ xs) (fields-back d cs (second-true (named es (Category c) Label.zeroLabel) rest e))
 
@@ -200,11 +181,10 @@ module _ (es : List Entry) (good : Good es) (v : Variant) where
   label-single text w = rw (index-without colon text w, le-ltb (length text) (length text) (omega arith))
 
   label-composed : (name rest : List ℕ) → Without colon name → labelIn es (name ++ colon ∷ rest) ≡ composedOf es name rest
-  unfolding labelIn indexOf
+  unfolding labelIn
   label-composed name rest w =
-      let i : indexOf colon (name ++ colon ∷ rest) ≡ length name = index-append colon name (colon ∷ rest) (index-without colon name w) ∙ add-zero (length name) in
       let n = length-append name (colon ∷ rest) in
-      rw (i, lt-ltb (length name) (length (name ++ colon ∷ rest)) (omega arith), take-append-seam name (colon ∷ rest), drop-append-add name (colon ∷ rest) 1)
+      rw (index-behind colon name rest w, lt-ltb (length name) (length (name ++ colon ∷ rest)) (omega arith), take-append-seam name (colon ∷ rest), drop-append-add name (colon ∷ rest) 1)
 
   definition-by : (l : Label) → Label.Typed l → (cs : List ℕ) → membersOf (l .categories) ≡ cs → named es (Hierarchy (l .hierarchy)) Label.zeroLabel ≡ true
       → categoriesNamed es cs ≡ true

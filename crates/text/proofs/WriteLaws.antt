@@ -14,7 +14,7 @@ use Rattle.label.specs.Label.{zeroLabel}
 use Rattle.label.specs.Words.{membersBelow, membersOf, nextOf, words}
 use Rattle.label.specs.declared.Label.{Label}
 use Rattle.label.proofs.ListingLaws.{all-listed, last-listed, members-front, next-listed, next-within}
-use Rattle.label.proofs.SearchLaws.{last-within}
+use Rattle.label.proofs.SearchLaws.{last-holds}
 use Rattle.octets.specs.Bytes.{Put}
 use Rattle.octets.proofs.ByteLaws.{nothing-put, put-same-length, then-put}
 use Rattle.frame.specs.Frame.{bodyOf}
@@ -104,7 +104,7 @@ module _ (bytes starts : List ℕ) (v : Variant) (value : Value) (l : Label) whe
     unfolding nameFor lastOf
     name-found =
         let n = entries-length bytes starts in
-        let u = last-within (λ j. standsFor value l (entryAt (entriesBy bytes starts) j)) (length (entriesBy bytes starts)) k e in
+        let u = last-holds (λ j. standsFor value l (entryAt (entriesBy bytes starts) j)) (length (entriesBy bytes starts)) k e .0 in
         rw (e, entries-at bytes starts k (omega arith), ← f) (written-stands v line)
 
     pub name-length : length (nameFor (entriesBy bytes starts) v value l) ≡ writtenIn v line .length
