@@ -35,10 +35,11 @@ pub(crate) fn take_subject(mut k: Kept, read_override: u64, line: &[u8]) -> Kept
         return k;
     }
     let label = read.label;
-    k.subject = Subject {
+    let subject = Subject {
         label,
         read_override: read_override == 1,
     };
+    k.subject = subject;
     answer::print_ok();
     k
 }
