@@ -1,1 +1,4 @@
+pub mod LinesLaws
 pub mod LookupLaws
+pub mod TableLaws
+pub mod WalkLaws

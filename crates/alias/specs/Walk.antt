@@ -1,31 +1,35 @@
--- A table's lines up to the first that is faulty by itself: for a function that is not public. Assumes nothing.
+-- A table's lines up to the first that is bad by itself: for functions that are not public. Assumes nothing.
 use mathlib.Core.Bool.{Bool, true, false, not, _||_}
 use mathlib.Core.List.{List}
-use mathlib.Core.Option.{Option, none, some}
-use Prim.Native.Nat.{ℕ, _+_, min}
+use mathlib.Core.Path.{_≡_}
+use Prim.Native.Nat.{ℕ, _+_, _<_, min}
 use lib.Dec.{leb}
 use lib.ListN.{drop, length, take}
 use Rattle.label.specs.Answer.{isGranted}
-use Rattle.label.specs.Index.{firstFrom}
 use Rattle.octets.specs.Bytes.{indexOf, lf}
 use Rattle.hexline.specs.Line.{readEntryOf}
 use Rattle.alias.specs.Lines.{indexedOf, lineAt, linesOf, maxLines}
 use Rattle.alias.specs.Table.{judgedOf}
-use Rattle.alias.specs.declared.LineStarts.{LineStarts}
 use Rattle.alias.specs.declared.lines.Walked.{Walked}
 
--- past the LF of the line that begins at an index, or the end where there is none
-unfoldable pub lineEnd : List ℕ → ℕ → ℕ
-lineEnd bytes at = min (at + indexOf lf (drop at bytes) + 1) (length bytes)
+-- how many bytes the first line has: up to its LF and with it, or all where there is no LF
+unfoldable pub firstLength : List ℕ → ℕ
+firstLength bytes = min (indexOf lf bytes + 1) (length bytes)
 
--- whether line k is bad by itself
-unfoldable pub faultyAt : List (List ℕ) → ℕ → Bool
-faultyAt ls k = leb maxLines k || not (isGranted (readEntryOf (lineAt ls k)))
+-- where the line ends that begins at an index
+abbrev pub lineEnd : List ℕ → ℕ → ℕ
+lineEnd bytes at = at + firstLength (drop at bytes)
 
--- the lines before the first that is bad by itself, and that there is one; or all lines
-abbrev pub stoppedAt : Option ℕ → List (List ℕ) → Walked
-stoppedAt none ls = record { lines = indexedOf ls; stopped = false }
-stoppedAt (some k) ls = record { lines = indexedOf (take k ls); stopped = true }
+-- whether a line is bad by itself as line k: one line too many, or no accepted line of kind 04
+unfoldable pub faultyOf : ℕ → List ℕ → Bool
+faultyOf k line = leb maxLines k || not (isGranted (readEntryOf line))
 
-unfoldable pub walkOf : Bool → List ℕ → Walked
-walkOf more bytes = stoppedAt (firstFrom (faultyAt (judgedOf more bytes)) 0 (length (judgedOf more bytes))) (linesOf bytes)
+abbrev pub faultyAt : List (List ℕ) → ℕ → Bool
+faultyAt ls k = faultyOf k (lineAt ls k)
+
+-- w has the lines before the first that is bad by itself, and says whether there is one
+pub record Walks (more : Bool) (bytes : List ℕ) (w : Walked) : Type 0 where
+  pub lines : w .lines ≡ indexedOf (take (w .lines .count) (linesOf bytes))
+  pub good : (k : ℕ) → k < w .lines .count → faultyAt (judgedOf more bytes) k ≡ false
+  pub first : w .stopped ≡ true → (w .lines .count < length (judgedOf more bytes)) × (faultyAt (judgedOf more bytes) (w .lines .count) ≡ true)
+  pub all : w .stopped ≡ false → w .lines .count ≡ length (judgedOf more bytes)

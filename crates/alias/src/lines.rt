@@ -1,4 +1,4 @@
-// The lines of a table: where they begin, and which of them are faulty by themselves.
+// The lines of a table: where they begin, and which of them are bad by themselves.
 use crate::LineStarts;
 use crate::MAX_LINES;
 use crate::MAX_STARTS;
@@ -9,9 +9,9 @@ ghost use Prim.Native.Nat.{_<_};
 ghost use lib.ListN.{length};
 ghost use Rattle.label.specs.Answer.{isGranted};
 ghost use Rattle.hexline.specs.Line.{readEntryOf};
-ghost use Rattle.alias.specs.Walk.{lineEnd, walkOf};
+ghost use Rattle.alias.specs.Walk.{Walks, faultyOf, lineEnd};
 
-// The lines of a table before its first line that is faulty, if there is one.
+// The lines of a table before the first that is bad by itself, and whether there is one.
 pub(crate) struct Walked {
     pub lines: LineStarts,
     pub stopped: bool,
@@ -39,31 +39,36 @@ fn accepted(line: &[u8]) -> bool
     granted(outcome)
 }
 
-// Walks the lines up to the first that is faulty by itself: the 513th, one that is no entry, or, where the table is cut off, the one after the last.
+// Whether a line is bad by itself as line k: the 513th, or no accepted line of kind 04.
+fn faulty(k: usize, line: &[u8]) -> bool
+    ensures { λ r. ⌜ r ≡ faultyOf k (now (line .entry)) ⌝ }
+{
+    (MAX_LINES <= k) | !accepted(line)
+}
+
+// Walks the lines up to the first that is bad by itself. Where the table is cut off, that is at the latest the one after the last.
 pub(crate) fn walk(table: &[u8], more: bool) -> Walked
-    ensures { λ r. ⌜ r ≡ walkOf more (now (table .entry)) ⌝ }
+    ensures { λ r. ⌜ Walks more (now (table .entry)) r ⌝ }
 {
     let mut starts = [0usize; MAX_STARTS];
     let mut count = 0;
     let mut at = 0;
-    let mut stopped = false;
-    while (at < table.len()) & !stopped {
+    while at < table.len() {
         let next = line_end(table, at);
-        if count < MAX_LINES {
-            if accepted(&table[at..next]) {
-                count += 1;
-                starts[count] = next;
-                at = next;
-            } else {
-                stopped = true;
-            }
-        } else {
-            stopped = true;
+        if faulty(count, &table[at..next]) {
+            let lines = LineStarts { count, starts };
+            return Walked {
+                lines,
+                stopped: true,
+            };
         }
+        count += 1;
+        starts[count] = next;
+        at = next;
     }
     let lines = LineStarts { count, starts };
     Walked {
         lines,
-        stopped: stopped | more,
+        stopped: more,
     }
 }

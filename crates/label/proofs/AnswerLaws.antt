@@ -3,9 +3,10 @@ use mathlib.Core.Bool.{Bool, true, false, _&&_, true≢false}
 use mathlib.Core.Option.{Option, none}
 use mathlib.Core.Path.{_≡_, refl, sym, ap, _∙_}
 use Prim.Native.Nat.{ℕ}
-use Rattle.label.specs.Answer.{Answer, Answered, granted, isGranted, refused, refusedBy, require, testOf, valueOr}
+use Rattle.label.specs.Answer.{Answer, Answered, granted, grantedOf, isGranted, refused, refusedBy, require, testOf, valueOr}
 use Rattle.label.specs.declared.errno.Errno.{Errno}
 use Rattle.label.specs.declared.answer.Test.{Test}
+use Rattle.label.specs.declared.answer.Outcome.{Outcome}
 use Rattle.label.specs.declared.answer.Outcome.the-variants.{Granted, Refused}
 
 pub passed : {A : Type 0} (t : Bool) (n : ℕ) (rest : Answer A) → t ≡ true → require t n rest ≡ rest
@@ -24,6 +25,10 @@ answers-grant value z y x e f = record { outcome = ap granted f ∙ sym e; besid
 
 pub answers-refusal : {A : Type 0} (e : Errno) (value z : A) (x : Answer A) → x ≡ refusedBy e → value ≡ z → Answered (Refused e) value z x
 answers-refusal e value z x h f = record { outcome = sym h; beside = rw h f }
+
+pub answers-granted : {A : Type 0} (o : Outcome) {value z : A} {x : Answer A} → Answered o value z x → grantedOf o ≡ isGranted x
+answers-granted Granted a = ap isGranted (a .outcome)
+answers-granted (Refused e) a = ap isGranted (a .outcome)
 
 -- ---- what an answer tells of the check before it
 

@@ -28,6 +28,10 @@ pub or-second : (p : Bool) {q : Bool} → q ≡ true → (p || q) ≡ true
 or-second true e = refl
 or-second false e = e
 
+pub neither : (p q : Bool) → (p || q) ≡ false → (p ≡ false) × (q ≡ false)
+neither true q e = absurd (true≢false e)
+neither false q e = (refl, e)
+
 -- two tests that imply each other
 pub same-truth : (p q : Bool) → (p ≡ true → q ≡ true) → (q ≡ true → p ≡ true) → p ≡ q
 same-truth true q f g = sym (f refl)

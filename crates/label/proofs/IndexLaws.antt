@@ -8,8 +8,8 @@ use native.Mathlib.Nat.{eq-or-lt-of-le, le-of-suc-le-suc}
 use native.Mathlib.Numerals.{add-one}
 use native.Mathlib.Omega.{arith}
 use lib.Dec.{leb}
-use lib.ListN.{length, getD, set, take, length-append, length-map, List·getD-append, List·getD-eq-default}
-use lib.Seq.{getD-at, take-suc-set, take-all}
+use lib.ListN.{length, getD, replicate, set, take, getD-replicate, length-append, length-map, length-replicate, List·getD-append, List·getD-eq-default}
+use lib.Seq.{ext-getD, getD-at, take-suc-set, take-all}
 use borrow.Author.Tests.{leb-true, leb-false}
 use Rattle.label.specs.Index.{every, tabulate}
 use Rattle.label.proofs.BoolLaws.{both, first-true, second-true, not-so}
@@ -41,6 +41,14 @@ module _ {A : Type 0} (f : ℕ → A) where
       go : (i ≡ n) ⊎ (i < n) → (i < n → getD (tabulate f n) i d ≡ f i) → getD (tabulate f n ++ (f n ∷ [])) i d ≡ f i
       go (inl e) ih = getD-at (tabulate f n) (f n) [] d i (tabulate-length n ∙ sym e) ∙ ap f (sym e)
       go (inr l) ih = let k = tabulate-length n in List·getD-append (tabulate f n) (f n ∷ []) d i (omega arith) ∙ ih l
+
+  -- a list is known by its elements
+  pub tabulate-is : (r : List A) (n : ℕ) (d : A) → length r ≡ n → ((i : ℕ) → i < n → getD r i d ≡ f i) → r ≡ tabulate f n
+  tabulate-is r n d e h =
+      ext-getD d r (tabulate f n) (e ∙ sym (tabulate-length n)) (λ i l. let k : i < n = omega arith in h i k ∙ sym (tabulate-at n i d k))
+
+  pub tabulate-one : (n : ℕ) (a : A) → ((i : ℕ) → i < n → f i ≡ a) → replicate n a ≡ tabulate f n
+  tabulate-one n a h = tabulate-is (replicate n a) n a (length-replicate n a) (λ i l. getD-replicate n i a a l ∙ sym (h i l))
 
   -- a loop that fills r from the front
   pub fill-step : (r : List A) (i : ℕ) (v : A) → i < length r → v ≡ f i → take i r ≡ tabulate f i → take (i + 1) (set r i v) ≡ tabulate f (i + 1)
@@ -79,3 +87,9 @@ module _ (f : ℕ → Bool) where
 
   pub every-done : (n i : ℕ) → i ≡ n → every f i ≡ true → every f n ≡ true
   every-done n i e h = rw e at h
+
+-- two tests that agree at each number below n
+pub every-same : (f g : ℕ → Bool) (n : ℕ) → ((i : ℕ) → i < n → f i ≡ g i) → every f n ≡ every g n
+unfolding every
+every-same f g zero h = refl
+every-same f g (suc n) h = rw (every-same f g n (λ i l. h i (omega arith)), h n (omega arith))

@@ -1,7 +1,7 @@
 -- The laws of `any`, `firstFrom`, `lastBelow` and `sumFrom`, and what a loop over the index needs of them. Assumes nothing.
-use mathlib.Core.Bool.{Bool, true, false, not, _&&_, and-true, true≢false}
+use mathlib.Core.Bool.{Bool, true, false, not, _&&_, _||_, and-true, true≢false}
 use mathlib.Core.Logic.{_⊎_, inl, inr, ⊎-elim}
-use mathlib.Core.Option.{none, some}
+use mathlib.Core.Option.{Option, none, some}
 use mathlib.Core.Path.{_≡_, refl, sym, ap, _∙_}
 use Prim.Native.Nat.{ℕ, zero, suc, _+_, _-_, _≤_, _<_, suc-le-suc}
 use native.Mathlib.Nat.{zero-lt-suc, eq-or-lt-of-le, add-zero, zero-add, suc-add}
@@ -10,8 +10,8 @@ use native.Mathlib.Omega.{arith}
 use lib.Dec.{eqb}
 use borrow.Author.Tests.{eqb-true, eqb-false}
 use Rattle.label.specs.Index.{any, every, firstFrom, firstOr, lastBelow, sumFrom}
-use Rattle.label.proofs.IndexLaws.{every-at}
-use Rattle.label.proofs.BoolLaws.{not-so}
+use Rattle.label.proofs.IndexLaws.{every-at, every-same}
+use Rattle.label.proofs.BoolLaws.{not-so, or-second}
 
 pub same-or-not : (m n : ℕ) → (m ≡ n) ⊎ (m ≡ n → ⊥)
 same-or-not m n = pick (eqb m n) refl
@@ -51,7 +51,13 @@ module _ (f : ℕ → Bool) where
       go true z g rest = h n (omega arith) z
       go false z g rest = rest (ap not (sym (and-true (every (λ j. not (f j)) n))) ∙ g)
 
+pub any-same : (f g : ℕ → Bool) (n : ℕ) → ((i : ℕ) → i < n → f i ≡ g i) → any f n ≡ any g n
+any-same f g n h = ap not (every-same (λ i. not (f i)) (λ i. not (g i)) n (λ i l. ap not (h i l)))
+
 -- ---- the search
+
+over : (a b : ℕ) → suc a + b ≡ a + suc b
+over a b = omega arith
 
 module _ (f : ℕ → Bool) where
   pub pass-one : (k n : ℕ) → f k ≡ false → firstFrom f k (suc n) ≡ firstFrom f (suc k) n
@@ -65,9 +71,6 @@ module _ (f : ℕ → Bool) where
       ∙ pass-one k (m + n) (ap f (sym (add-zero k)) ∙ h 0 (zero-lt-suc m))
       ∙ pass (suc k) m n (λ j l. ap f (over k j) ∙ h (suc j) (suc-le-suc l))
       ∙ ap (λ (i : ℕ). firstFrom f i n) (over k m)
-    where
-      over : (a b : ℕ) → suc a + b ≡ a + suc b
-      over a b = omega arith
 
   pub hit : (k n t : ℕ) → t < n → ((j : ℕ) → j < t → f (k + j) ≡ false) → f (k + t) ≡ true → firstFrom f k n ≡ some (k + t)
   unfolding firstFrom
@@ -111,6 +114,25 @@ pub first-same : (f g : ℕ → Bool) (k n : ℕ) → ((j : ℕ) → k ≤ j →
 unfolding firstFrom
 first-same f g k zero h = refl
 first-same f g k (suc n) h = rw (h k (omega arith) (omega arith), first-same f g (suc k) n (λ j a b. h j (omega arith) (omega arith)))
+
+-- what the one search finds, and if it finds nothing, what the other does
+abbrev pub orElse : Option ℕ → Option ℕ → Option ℕ
+orElse (some k) o = some k
+orElse none o = o
+
+-- a search by f or g, where f holds at none of the first m numbers: the first of these at which g holds, if there is one
+pub first-either : (f g : ℕ → Bool) (k m n : ℕ) → ((j : ℕ) → k ≤ j → j < k + m → f j ≡ false)
+    → firstFrom (λ j. f j || g j) k (m + n) ≡ orElse (firstFrom g k m) (firstFrom (λ j. f j || g j) (k + m) n)
+unfolding firstFrom
+first-either f g k zero n h = rw (zero-add, add-zero)
+first-either f g k (suc m) n h =
+    ap (firstFrom (λ j. f j || g j) k) (suc-add m n)
+    ∙ pick (f k) (h k (omega arith) (omega arith)) (g k) _ (firstFrom g (suc k) m) _
+    (first-either f g (suc k) m n (λ j a b. h j (omega arith) (omega arith)) ∙ ap (λ (i : ℕ). orElse (firstFrom g (suc k) m) (firstFrom (λ j. f j || g j) i n)) (over k m))
+  where
+    pick : (p : Bool) → p ≡ false → (q : Bool) (x y z : Option ℕ) → x ≡ orElse y z → firstOr (p || q) k x ≡ orElse (firstOr q k y) z
+    pick p e true x y z r = rw (or-second p refl)
+    pick p e false x y z r = rw e r
 
 -- a search that is at k of n numbers: it stops, goes on, or ends
 module _ (f : ℕ → Bool) (k n : ℕ) where

@@ -1,0 +1,183 @@
+-- The laws of a walk over the lines of a table, and what the test of the table makes of it. Assumes nothing.
+use mathlib.Core.Bool.{Bool, true, false, cond, _||_, true≢false}
+use mathlib.Core.List.{List, [], _∷_, _++_, append-assoc, map, map-append}
+use mathlib.Core.Option.{none, some}
+use mathlib.Core.Path.{_≡_, refl, sym, ap, _∙_}
+use Prim.Native.Nat.{ℕ, _+_, _-_, _≤_, _<_}
+use native.Mathlib.Nat.{zero-add}
+use native.Mathlib.Omega.{arith}
+use lib.ListN.{drop, length, replicate, set, take, length-take, take-append-drop, List·getD-append}
+use lib.Seq.{length-take-le, take-all}
+use borrow.Author.Count.{below-more}
+use Rattle.label.specs.Answer.{granted, refused}
+use Rattle.label.specs.Index.{firstFrom}
+use Rattle.label.proofs.IndexLaws.{tabulate-length}
+use Rattle.label.proofs.SearchLaws.{any-same, first-either, first-same, orElse, search-end, search-hit}
+use Rattle.octets.specs.Bytes.{sameBytes}
+use Rattle.hexline.specs.Entry.{abbreviationBytes, nameBytes, zeroEntry}
+use Rattle.hexline.specs.Line.{standingIn}
+use Rattle.hexline.specs.declared.entry.Entry.{Entry}
+use Rattle.alias.specs.Lines.{bytesBefore, entriesBy, entriesOf, entryAt, indexedOf, linesBy, linesOf, maxLines, startOf}
+use Rattle.alias.specs.Table.{badAt, checkOf, firstRepeat, judgedOf, repeatsAt, sharesOf}
+use Rattle.alias.specs.Walk.{Walks, faultyAt, faultyOf}
+use Rattle.alias.specs.declared.LineStarts.{LineStarts}
+use Rattle.alias.specs.declared.lines.Walked.{Walked}
+use Rattle.alias.proofs.LinesLaws.{LineHere, first-lines-by-starts, lines-end, starts-next, starts-none}
+use Rattle.alias.proofs.TableLaws.{entries-length, faulty-bad, faulty-few, good-few, judged-cut-off, judged-faulty, judged-longer, judged-whole}
+
+-- ---- the walk: at is where line count begins, and none of the lines before it is bad by itself
+
+pub record Walking (bytes starts : List ℕ) (count at : ℕ) : Type 0 where
+  pub begins : at ≡ bytesBefore (linesOf bytes) count
+  pub counted : count ≤ length (linesOf bytes)
+  pub indexed : starts ≡ indexedOf (take count (linesOf bytes)) .starts
+  pub good : (k : ℕ) → k < count → faultyAt (linesOf bytes) k ≡ false
+
+pub walk-start : (bytes : List ℕ) → Walking bytes (replicate (maxLines + 1) 0) 0 0
+unfolding bytesBefore
+walk-start bytes = record { begins = refl; counted = omega arith; indexed = starts-none; good = λ k l. absurd (omega arith) }
+
+module _ {bytes starts : List ℕ} {count at : ℕ} (s : Walking bytes starts count at) where
+  lines-held : _≡_ {A = LineStarts} (record { count = count; starts = starts }) (indexedOf (take count (linesOf bytes)))
+  lines-held = let e = sym (length-take-le count (linesOf bytes) (s .counted)) in λ i. record { count = e i; starts = s .indexed i }
+
+  still-good : (more : Bool) (k : ℕ) → k < count → faultyAt (judgedOf more bytes) k ≡ false
+  still-good more k h = let c = s .counted in judged-faulty more bytes k (omega arith) ∙ s .good k h
+
+  -- line count, which stands there, is tested
+  module _ {next : ℕ} (h : LineHere bytes count at next) where
+    told : (t : Bool) → faultyOf count (take (next - at) (drop at bytes)) ≡ t → faultyAt (linesOf bytes) count ≡ t
+    told t e = ap (faultyOf count) (h .line) ∙ e
+
+    pub walk-next : faultyOf count (take (next - at) (drop at bytes)) ≡ false → Walking bytes (set starts (count + 1) next) (count + 1) next
+    walk-next e =
+        let b = h .below in
+        let f : count < maxLines = faulty-few count _ e in
+        record {
+          begins = h .begins-next;
+          counted = omega arith;
+          indexed = rw (s .indexed, h .begins-next) (starts-next (linesOf bytes) count b f);
+          good = below-more _ _ (s .good) (told false e);
+        }
+
+    pub walk-stops : (more : Bool) → faultyOf count (take (next - at) (drop at bytes)) ≡ true
+        → Walks more bytes (record { lines = record { count = count; starts = starts }; stopped = true })
+    walk-stops more e =
+        let b = h .below in
+        let j = judged-longer more bytes in
+        record {
+          lines = lines-held;
+          good = still-good more;
+          first = λ t. (omega arith, judged-faulty more bytes count b ∙ told true e);
+          all = λ t. absurd (true≢false t);
+        }
+
+  ended : length bytes ≤ at → count ≡ length (linesOf bytes)
+  ended l = let c = s .counted in let e = lines-end bytes count at (s .begins) l in omega arith
+
+  pub walk-ends : (more : Bool) → length bytes ≤ at → Walks more bytes (record { lines = record { count = count; starts = starts }; stopped = more })
+  walk-ends true l =
+      let e = ended l in
+      let j = judged-cut-off bytes in
+      record {
+        lines = lines-held;
+        good = still-good true;
+        first = λ t. (omega arith, ap (faultyAt (judgedOf true bytes)) e ∙ j .1);
+        all = λ t. absurd (true≢false t);
+      }
+  walk-ends false l =
+      record {
+        lines = lines-held;
+        good = still-good false;
+        first = λ t. absurd (true≢false (sym t));
+        all = λ t. ended l ∙ sym (ap length (judged-whole bytes));
+      }
+
+-- ---- the first bad line is the first repeat among the lines of a walk, or where there is none the line that the walk stops at
+
+-- whether an entry repeats a name is a matter of the entries up to it
+repeats-within : (es fs : List Entry) (k : ℕ) → k < length es → repeatsAt (es ++ fs) k ≡ repeatsAt es k
+unfolding repeatsAt
+repeats-within es fs k h =
+    rw (List·getD-append es fs zeroEntry k h)
+    (ap (λ (b : Bool). sameBytes (nameBytes (entryAt es k)) (abbreviationBytes (entryAt es k)) || b)
+    (any-same _ _ k (λ j l. ap (λ (e : Entry). sharesOf e (entryAt es k)) (List·getD-append es fs zeroEntry j (omega arith)))))
+
+judged-repeats : (more : Bool) (bytes : List ℕ) (n k : ℕ) → k < length (take n (linesOf bytes))
+    → repeatsAt (entriesOf (judgedOf more bytes)) k ≡ repeatsAt (entriesOf (take n (linesOf bytes))) k
+unfolding judgedOf entriesOf
+judged-repeats more bytes n k h =
+    let ls = linesOf bytes in
+    let ms = take n ls in
+    let more-lines = cond more ([] ∷ []) [] in
+    let e : ls ++ more-lines ≡ ms ++ (drop n ls ++ more-lines) = ap (λ (l : List (List ℕ)). l ++ more-lines) (sym (take-append-drop n ls)) ∙ append-assoc ms (drop n ls) more-lines in
+    let m = entries-length ms in
+    rw (e, map-append) (repeats-within (map standingIn ms) (map standingIn (drop n ls ++ more-lines)) k (omega arith))
+
+-- the starts of the lines, and of the end of the last
+abbrev startsTo : LineStarts → List ℕ
+startsTo l = take (l .count + 1) (l .starts)
+
+module _ {more : Bool} {bytes : List ℕ} {w : Walked} (x : Walks more bytes w) where
+  count-is : w .lines .count ≡ length (take (w .lines .count) (linesOf bytes))
+  count-is = ap (λ (y : LineStarts). y .count) (x .lines)
+
+  within : w .lines .count ≤ length (linesOf bytes)
+  within = let c = count-is in let t = length-take (w .lines .count) (linesOf bytes) in omega arith
+
+  pub walk-few : w .lines .count ≤ maxLines
+  walk-few = good-few (judgedOf more bytes) (w .lines .count) (x .good)
+
+  -- the array of starts has room for one more than there are lines
+  pub walk-room : w .lines .count + 1 ≤ length (w .lines .starts)
+  walk-room =
+      let f = walk-few in
+      let t = ap (λ (y : LineStarts). length (y .starts)) (x .lines) ∙ tabulate-length (startOf (take (w .lines .count) (linesOf bytes))) (maxLines + 1) in
+      omega arith
+
+  lines-back : linesBy bytes (startsTo (w .lines)) ≡ take (w .lines .count) (linesOf bytes)
+  lines-back =
+      let n = w .lines .count in
+      let c = count-is in
+      let f = walk-few in
+      ap (λ (xs : List ℕ). linesBy bytes (take (n + 1) xs)) (ap (λ (y : LineStarts). y .starts) (x .lines))
+      ∙ ap (λ (m : ℕ). linesBy bytes (take (m + 1) (indexedOf (take n (linesOf bytes)) .starts))) c
+      ∙ first-lines-by-starts bytes n (omega arith)
+
+  repeats : firstFrom (repeatsAt (entriesOf (judgedOf more bytes))) 0 (w .lines .count) ≡ firstRepeat (entriesBy bytes (startsTo (w .lines)))
+  unfolding firstRepeat
+  repeats =
+      let c = count-is in
+      rw (lines-back, entries-length, ← c) (first-same _ _ 0 (w .lines .count) (λ j a b. judged-repeats more bytes (w .lines .count) j (omega arith)))
+
+  first-bad : firstFrom (badAt (judgedOf more bytes)) 0 (length (judgedOf more bytes))
+      ≡ orElse (firstRepeat (entriesBy bytes (startsTo (w .lines)))) (firstFrom (badAt (judgedOf more bytes)) (w .lines .count) (length (judgedOf more bytes) - w .lines .count))
+  unfolding badAt faultyOf
+  first-bad =
+      let ls = judgedOf more bytes in
+      let n = w .lines .count in
+      let i = within in
+      let j = judged-longer more bytes in
+      let r : length ls ≡ n + (length ls - n) = omega arith in
+      ap (firstFrom (badAt ls) 0) r
+      ∙ first-either (faultyAt ls) (repeatsAt (entriesOf ls)) 0 n (length ls - n) (λ j a b. x .good j (omega arith))
+      ∙ rw (zero-add, repeats)
+
+  pub check-repeat : {k : ℕ} → some k ≡ firstRepeat (entriesBy bytes (startsTo (w .lines))) → checkOf more bytes ≡ refused 22 (some k)
+  unfolding checkOf
+  check-repeat {k} e = rw (first-bad, ← e)
+
+  pub check-stopped : w .stopped ≡ true → none ≡ firstRepeat (entriesBy bytes (startsTo (w .lines))) → checkOf more bytes ≡ refused 22 (some (w .lines .count))
+  unfolding checkOf
+  check-stopped t e =
+      let ls = judgedOf more bytes in
+      let f = x .first t in
+      rw (first-bad, ← e, search-hit (badAt ls) (w .lines .count) (length ls) (f .0) (faulty-bad ls (w .lines .count) (f .1)))
+
+  pub check-granted : w .stopped ≡ false → none ≡ firstRepeat (entriesBy bytes (startsTo (w .lines))) → checkOf more bytes ≡ granted (w .lines)
+  unfolding checkOf
+  check-granted t e =
+      let a = x .all t in
+      let j = judged-longer more bytes in
+      rw (first-bad, ← e, search-end (badAt (judgedOf more bytes)) (w .lines .count) (length (judgedOf more bytes)) (omega arith))
+      (ap granted (ap indexedOf (sym (take-all (w .lines .count) (linesOf bytes) (omega arith))) ∙ sym (x .lines)))
