@@ -11,7 +11,7 @@ use text::Subject;
 use text::Variant;
 use text::read;
 use text::write;
-ghost use Prim.Native.Nat.{_≤_};
+ghost use Rattle.io.specs.Counts.{Counts};
 
 // Tests a table that is complete.
 pub(crate) fn check_table(k: Kept, table: &[u8]) {
@@ -80,14 +80,12 @@ fn style_of(form: u64, variant: u64) -> Style {
     }
 }
 
-// How many bytes of a buffer of that size a text may take.
-fn room(k: Kept, size: usize) -> usize
-    ensures { λ r. ⌜ r ≤ size ⌝ }
+// How many bytes of the buffer a text may take.
+fn room(k: Kept, out: &[u8]) -> usize
+    ensures { λ r. ⌜ Counts r (now (out .entry)) ⌝ }
 {
-    if k.capacity < size {
-        return k.capacity;
-    }
-    size
+    let part = lines::front(out, k.capacity);
+    part.len()
 }
 
 pub(crate) fn write_label(
@@ -103,7 +101,7 @@ pub(crate) fn write_label(
     if is_style(form, variant) & granted(outcome) {
         let names = lines::front(table, k.length);
         let style = style_of(form, variant);
-        let n = room(k, out.len());
+        let n = room(k, out);
         let written = write::write_label(
             names,
             k.more,
@@ -131,7 +129,7 @@ pub(crate) fn write_range(
     if is_style(form, variant) & granted(outcome) {
         let names = lines::front(table, k.length);
         let style = style_of(form, variant);
-        let n = room(k, out.len());
+        let n = room(k, out);
         let r = write::write_range(
             names,
             k.more,
@@ -151,9 +149,9 @@ pub(crate) fn write_range(
 // Reads a label from a line of text. A bad line, which comes as no bytes at all, has no text.
 pub(crate) fn read_label(k: Kept, line: &[u8], table: &[u8]) {
     if line.len() > 0 {
-        let n = line.len() - 1;
+        let text = lines::front(line, line.len() - 1);
         let names = lines::front(table, k.length);
-        answer::print_label(read::read_label(names, k.more, k.subject, &line[..n]));
+        answer::print_label(read::read_label(names, k.more, k.subject, text));
     } else {
         answer::print_invalid();
     }
@@ -161,9 +159,9 @@ pub(crate) fn read_label(k: Kept, line: &[u8], table: &[u8]) {
 
 pub(crate) fn read_range(k: Kept, line: &[u8], table: &[u8]) {
     if line.len() > 0 {
-        let n = line.len() - 1;
+        let text = lines::front(line, line.len() - 1);
         let names = lines::front(table, k.length);
-        answer::print_range(read::read_range(names, k.more, k.subject, &line[..n]));
+        answer::print_range(read::read_range(names, k.more, k.subject, text));
     } else {
         answer::print_invalid();
     }
