@@ -1,0 +1,97 @@
+// Answers, as they are printed.
+use console::lines;
+use console::text::append_decimal;
+use console::text::append_error;
+use label::LabelAnswer;
+use label::answer::Outcome;
+use label::answer::Written;
+use label::errno::Errno;
+use libc::STDOUT_FILENO;
+use range::RangeAnswer;
+
+// The size of the buffer for an answer that is no text.
+const ANSWER_BYTES: usize = 512;
+
+pub(crate) fn print_ok() {
+    io::write_all(STDOUT_FILENO, b"ok\n");
+}
+
+pub(crate) fn print_refusal(e: Errno) {
+    let mut out = [0u8; ANSWER_BYTES];
+    let n = append_error(&mut out, 0, e);
+    io::write_all(STDOUT_FILENO, lines::front(&out, n));
+}
+
+// What is printed of a request that makes no call.
+pub(crate) fn print_invalid() {
+    print_refusal(Errno::Invalid);
+}
+
+// Prints how many entries a table has.
+pub(crate) fn print_count(n: usize) {
+    let mut out = [0u8; ANSWER_BYTES];
+    let word = octets::append(&mut out, 0, b"table ");
+    let digits = append_decimal(&mut out, word, n as u64);
+    let end = octets::append(&mut out, digits, b"\n");
+    io::write_all(STDOUT_FILENO, lines::front(&out, end));
+}
+
+// Prints a text that stands at the front of the buffer, and LF. The longest text has 16,453 bytes, so that LF fits behind it.
+pub(crate) fn print_text(written: Written, out: &mut [u8]) {
+    match written {
+        Written::Length(n) => {
+            let end = octets::append(out, n, b"\n");
+            io::write_all(STDOUT_FILENO, lines::front(out, end));
+        }
+        Written::Refused(e) => print_refusal(e),
+    }
+}
+
+// Prints the status of a range that was written, which stands before its text.
+pub(crate) fn print_status(written: Written, status: u8) {
+    match written {
+        Written::Length(_) => {
+            if status == 0 {
+                io::write_all(STDOUT_FILENO, b"0 ");
+            } else {
+                io::write_all(STDOUT_FILENO, b"1 ");
+            }
+        }
+        Written::Refused(_) => {}
+    }
+}
+
+fn print_line(written: Written, out: &[u8]) {
+    match written {
+        Written::Length(n) => {
+            io::write_all(STDOUT_FILENO, lines::front(out, n));
+        }
+        Written::Refused(e) => print_refusal(e),
+    }
+}
+
+// Prints the hex line of a label that was read.
+pub(crate) fn print_label(r: LabelAnswer) {
+    let mut out = [0u8; ANSWER_BYTES];
+    let outcome = r.outcome;
+    match outcome {
+        Outcome::Granted => {
+            let written = hexline::write_label(r.label, &mut out);
+            print_line(written, &out);
+        }
+        Outcome::Refused(e) => print_refusal(e),
+    }
+}
+
+// Prints the hex line of a range that was read.
+pub(crate) fn print_range(r: RangeAnswer) {
+    let mut out = [0u8; ANSWER_BYTES];
+    let outcome = r.outcome;
+    match outcome {
+        Outcome::Granted => {
+            let written = hexline::write_range(r.range, &mut out);
+            print_line(written, &out);
+        }
+        Outcome::Refused(e) => print_refusal(e),
+    }
+}

@@ -1,0 +1,168 @@
+// What a request does once its operand is there: the operand and the numbers are tested, and where one is bad no call is made.
+use crate::answer;
+use crate::kept::Kept;
+use crate::kept::MAX_CAPACITY;
+use console::lines;
+use label::answer::Outcome;
+use label::answer::granted;
+use text::Form;
+use text::Style;
+use text::Subject;
+use text::Variant;
+use text::read;
+use text::write;
+ghost use Rattle.io.specs.Counts.{Counts};
+
+// Tests a table that is complete.
+pub(crate) fn check_table(k: Kept, table: &[u8]) {
+    let t = alias::check(lines::front(table, k.length), k.more);
+    let outcome = t.outcome;
+    match outcome {
+        Outcome::Granted => {
+            let l = t.lines;
+            answer::print_count(l.count);
+        }
+        Outcome::Refused(e) => answer::print_refusal(e),
+    }
+}
+
+// Takes a subject, with read override where the number is 1.
+pub(crate) fn take_subject(mut k: Kept, read_override: u64, line: &[u8]) -> Kept {
+    let read = hexline::read_label(line);
+    let outcome = read.outcome;
+    if (read_override > 1) | !granted(outcome) {
+        answer::print_invalid();
+        return k;
+    }
+    let label = read.label;
+    let subject = Subject {
+        label,
+        read_override: read_override == 1,
+    };
+    k.subject = subject;
+    answer::print_ok();
+    k
+}
+
+pub(crate) fn take_capacity(mut k: Kept, n: u64) -> Kept {
+    if n > MAX_CAPACITY as u64 {
+        answer::print_invalid();
+        return k;
+    }
+    k.capacity = n as usize;
+    answer::print_ok();
+    k
+}
+
+// Whether there are a form and a variant of these numbers.
+fn is_style(form: u64, variant: u64) -> bool {
+    (form <= 1) & (variant <= 1)
+}
+
+fn form_of(n: u64) -> Form {
+    if n == 0 {
+        return Form::Definition;
+    }
+    Form::Alias
+}
+
+fn variant_of(n: u64) -> Variant {
+    if n == 0 {
+        return Variant::Names;
+    }
+    Variant::Abbreviations
+}
+
+fn style_of(form: u64, variant: u64) -> Style {
+    Style {
+        form: form_of(form),
+        variant: variant_of(variant),
+    }
+}
+
+// How many bytes of the buffer a text may take.
+fn room(k: Kept, out: &[u8]) -> usize
+    ensures { λ r. ⌜ Counts r (now (out .entry)) ⌝ }
+{
+    let part = lines::front(out, k.capacity);
+    part.len()
+}
+
+pub(crate) fn write_label(
+    k: Kept,
+    form: u64,
+    variant: u64,
+    line: &[u8],
+    table: &[u8],
+    out: &mut [u8],
+) {
+    let operand = hexline::read_label(line);
+    let outcome = operand.outcome;
+    if is_style(form, variant) & granted(outcome) {
+        let names = lines::front(table, k.length);
+        let style = style_of(form, variant);
+        let n = room(k, out);
+        let written = write::write_label(
+            names,
+            k.more,
+            k.subject,
+            style,
+            operand.label,
+            &mut out[..n],
+        );
+        answer::print_text(written, out);
+    } else {
+        answer::print_invalid();
+    }
+}
+
+pub(crate) fn write_range(
+    k: Kept,
+    form: u64,
+    variant: u64,
+    line: &[u8],
+    table: &[u8],
+    out: &mut [u8],
+) {
+    let operand = hexline::read_range(line);
+    let outcome = operand.outcome;
+    if is_style(form, variant) & granted(outcome) {
+        let names = lines::front(table, k.length);
+        let style = style_of(form, variant);
+        let n = room(k, out);
+        let r = write::write_range(
+            names,
+            k.more,
+            k.subject,
+            style,
+            operand.range,
+            &mut out[..n],
+        );
+        let written = r.written;
+        answer::print_status(written, r.status);
+        answer::print_text(written, out);
+    } else {
+        answer::print_invalid();
+    }
+}
+
+// Reads a label from a line of text. A bad line, which comes as no bytes at all, has no text.
+pub(crate) fn read_label(k: Kept, line: &[u8], table: &[u8]) {
+    if line.len() > 0 {
+        let text = lines::front(line, line.len() - 1);
+        let names = lines::front(table, k.length);
+        answer::print_label(read::read_label(names, k.more, k.subject, text));
+    } else {
+        answer::print_invalid();
+    }
+}
+
+pub(crate) fn read_range(k: Kept, line: &[u8], table: &[u8]) {
+    if line.len() > 0 {
+        let text = lines::front(line, line.len() - 1);
+        let names = lines::front(table, k.length);
+        answer::print_range(read::read_range(names, k.more, k.subject, text));
+    } else {
+        answer::print_invalid();
+    }
+}
