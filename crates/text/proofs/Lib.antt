@@ -1,5 +1,6 @@
 pub mod SubjectLaws
 pub mod WriteLaws
+pub mod RoomLaws
 pub mod ReadLaws
 pub mod NameLaws
 pub mod RoundLaws

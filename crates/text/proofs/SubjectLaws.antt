@@ -5,9 +5,10 @@ use mathlib.Core.Path.{_≡_, sym, ap, _∙_}
 use Prim.Native.Nat.{ℕ, _+_, _≤_}
 use native.Mathlib.Omega.{arith}
 use lib.ListN.{length, take}
-use Rattle.label.specs.Answer.{Answer, Answered}
+use Rattle.label.specs.Answer.{Answer, Answered, andThen, outcomeOf, refusedBy}
 use Rattle.label.specs.declared.answer.Outcome.{Outcome}
-use Rattle.label.specs.declared.answer.Outcome.the-variants.{Granted}
+use Rattle.label.specs.declared.answer.Outcome.the-variants.{Granted, Refused}
+use Rattle.label.specs.declared.errno.Errno.{Errno}
 use Rattle.label.proofs.AnswerLaws.{grant-next, granted-is}
 use Rattle.label.proofs.IndexLaws.{tabulate-length}
 use Rattle.hexline.specs.declared.entry.Entry.{Entry}
@@ -33,3 +34,9 @@ module _ (more : Bool) (bytes : List ℕ) {o : Outcome} {x : LineStarts} (h : An
   table-next answer =
       grant-next h (λ (y : LineStarts). answer (entriesOf (linesOf bytes))) e
       ∙ ap (λ (ls : List (List ℕ)). answer (entriesOf ls)) (sym (checked-lines more bytes x (granted-is h e)))
+
+-- a table that is refused: so is what is asked of it
+pub table-refused : {A : Type 0} (more : Bool) (bytes : List ℕ) {o : Outcome} {x : LineStarts} {e : Errno} → Answered o x noLines (checkOf more bytes) → o ≡ Refused e
+    → (answer : List Entry → Answer A) → withTable more bytes answer ≡ refusedBy e
+table-refused more bytes {o} {x} {e} h q answer =
+    ap (λ (c : Answer LineStarts). andThen c (λ (y : LineStarts). answer (entriesOf (linesOf bytes)))) (sym (h .outcome) ∙ ap (λ (o : Outcome). outcomeOf o x) q)

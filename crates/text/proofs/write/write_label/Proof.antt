@@ -1,49 +1,58 @@
+use borrow.Author.Needs.{needs}
+use mathlib.Core.Path.{refl, sym}
+use native.Mathlib.Omega.{arith}
+use lib.Seq.{length-take-le}
+use Rattle.label.proofs.BufferLaws.{writes-nothing}
+use Rattle.text.specs.Write.{writeLabelOf}
+use Rattle.text.proofs.RoomLaws.{written-same}
+use Rattle.text.proofs.SubjectLaws.{table-few, table-next, table-refused, table-room}
 use Rattle.text.proofs.write.write_label.Statement.{statement}
 use Rattle.text.proofs.write.write_label.Tie as tie
-use Rattle.text.proofs.write.write_label.Reads as reads
-use Rattle.text.proofs.write.write_label.Lts as lts
-use Rattle.alias.proofs.check.Reads as check-reads
-use Rattle.text.proofs.write.write_checked.Reads as write-checked-reads
 
--- src/write.rt:277:9
 check-requires : tie.Need-check-requires
-check-requires c κs = ?
+check-requires c κs = search needs
 
--- src/write.rt:280:26
 enum-known-outcome : tie.Need-enum-known-outcome
-enum-known-outcome c = ?
+enum-known-outcome c = search needs
 
--- src/write.rt:282:17
 enum-told : tie.Need-enum-told
-enum-told c = ?
+enum-told c = search needs
 
--- src/write.rt:284:21
 add-n : tie.Need-add-n
-add-n c = ?
+add-n c =
+    let e = c .before .before .before in
+    let n = table-few _ _ (e .before .before .check .ensures) (e .enum-told .given .1) in omega arith
 
--- src/write.rt:285:34
 array-share-prefix-starts : tie.Need-array-share-prefix-starts
-array-share-prefix-starts c = ?
+array-share-prefix-starts c =
+    let e = c .before .before .before in
+    table-room _ _ (e .before .before .check .ensures) (e .enum-told .given .1)
 
--- src/write.rt:285:34
 slice-aggregate-write-checked : tie.Need-slice-aggregate-write-checked
-slice-aggregate-write-checked c = ?
+slice-aggregate-write-checked c =
+    let e = c .before .before .before .before in
+    sym (length-take-le _ _ (table-room _ _ (e .before .before .check .ensures) (e .enum-told .given .1)))
 
--- src/write.rt:285:13
 write-checked-requires : tie.Need-write-checked-requires
-write-checked-requires c κs = ?
+write-checked-requires c κs = search needs
 
--- src/write.rt:267:1
 returns : tie.Need-returns
-returns c = ?
+returns c =
+    let o = c .before in
+    let k = o .before .before in
+    let a = k .before .before .before .args in
+    writes-nothing _ _ _ _ (table-refused (a .more) (a .table .now) (k .check .ensures) (o .outcome .given .1) (λ es. writeLabelOf es (a .s) (a .style) (a .l))) refl
 
--- src/write.rt:267:1
 same-length : tie.Need-same-length
-same-length c = ?
+same-length c = search needs
 
--- src/write.rt:267:1
 returns-2 : tie.Need-returns-2
-returns-2 c = ?
+returns-2 c =
+    let w = c .before .before in
+    let e = w .before .before .before .before .before .before in
+    let k = e .before .before in
+    let a = k .before .before .before .args in
+    written-same (w .write-checked .ensures) (table-next (a .more) (a .table .now) (k .check .ensures) (e .enum-told .given .1) (λ es. writeLabelOf es (a .s) (a .style) (a .l)))
 
 pub write-label-spec : {M : Type 1} → statement M
 write-label-spec =

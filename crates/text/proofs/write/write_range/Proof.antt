@@ -1,54 +1,60 @@
+use borrow.Author.Needs.{needs}
+use mathlib.Core.Path.{refl, sym}
+use native.Mathlib.Omega.{arith}
+use lib.Seq.{length-take-le}
+use Rattle.text.specs.Write.{writeRangeOf}
+use Rattle.text.proofs.RoomLaws.{range-refusal, range-same}
+use Rattle.text.proofs.SubjectLaws.{table-few, table-next, table-refused, table-room}
 use Rattle.text.proofs.write.write_range.Statement.{statement}
 use Rattle.text.proofs.write.write_range.Tie as tie
-use Rattle.text.proofs.write.write_range.Reads as reads
-use Rattle.text.proofs.write.write_range.Lts as lts
-use Rattle.alias.proofs.check.Reads as check-reads
-use Rattle.text.proofs.write.with_status.Reads as with-status-reads
-use Rattle.text.proofs.write.write_range_checked.Reads as write-range-checked-reads
 
--- src/write.rt:401:9
 check-requires : tie.Need-check-requires
-check-requires c κs = ?
+check-requires c κs = search needs
 
--- src/write.rt:404:26
 enum-known-outcome : tie.Need-enum-known-outcome
-enum-known-outcome c = ?
+enum-known-outcome c = search needs
 
--- src/write.rt:404:32
 with-status-requires : tie.Need-with-status-requires
-with-status-requires c κs = ?
+with-status-requires c κs = search needs
 
--- src/write.rt:406:17
 enum-told : tie.Need-enum-told
-enum-told c = ?
+enum-told c = search needs
 
--- src/write.rt:408:21
 add-n : tie.Need-add-n
-add-n c = ?
+add-n c =
+    let e = c .before .before .before in
+    let n = table-few _ _ (e .before .before .check .ensures) (e .enum-told .given .1) in omega arith
 
--- src/write.rt:409:40
 array-share-prefix-starts : tie.Need-array-share-prefix-starts
-array-share-prefix-starts c = ?
+array-share-prefix-starts c =
+    let e = c .before .before .before in
+    table-room _ _ (e .before .before .check .ensures) (e .enum-told .given .1)
 
--- src/write.rt:409:40
 slice-aggregate-write-range-checked : tie.Need-slice-aggregate-write-range-checked
-slice-aggregate-write-range-checked c = ?
+slice-aggregate-write-range-checked c =
+    let e = c .before .before .before .before in
+    sym (length-take-le _ _ (table-room _ _ (e .before .before .check .ensures) (e .enum-told .given .1)))
 
--- src/write.rt:409:13
 write-range-checked-requires : tie.Need-write-range-checked-requires
-write-range-checked-requires c κs = ?
+write-range-checked-requires c κs = search needs
 
--- src/write.rt:391:1
 returns : tie.Need-returns
-returns c = ?
+returns c =
+    let o = c .before .before in
+    let k = o .before .before in
+    let a = k .before .before .before .args in
+    range-refusal _ _ _ _ _ (c .with-status .ensures) (table-refused (a .more) (a .table .now) (k .check .ensures) (o .outcome .given .1) (λ es. writeRangeOf es (a .s) (a .style) (a .x))) refl
 
--- src/write.rt:391:1
 same-length : tie.Need-same-length
-same-length c = ?
+same-length c = search needs
 
--- src/write.rt:391:1
 returns-2 : tie.Need-returns-2
-returns-2 c = ?
+returns-2 c =
+    let w = c .before .before in
+    let e = w .before .before .before .before .before .before in
+    let k = e .before .before in
+    let a = k .before .before .before .args in
+    range-same (w .write-range-checked .ensures) (table-next (a .more) (a .table .now) (k .check .ensures) (e .enum-told .given .1) (λ es. writeRangeOf es (a .s) (a .style) (a .x)))
 
 pub write-range-spec : {M : Type 1} → statement M
 write-range-spec =
