@@ -1,6 +1,7 @@
 pub mod SubjectLaws
 pub mod WriteLaws
 pub mod RoomLaws
+pub mod PartLaws
 pub mod ReadLaws
 pub mod NameLaws
 pub mod RoundLaws

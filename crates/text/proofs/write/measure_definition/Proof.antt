@@ -1,55 +1,62 @@
 use borrow.Author.Needs.{needs}
+use mathlib.Core.Bool.{and-false}
+use native.Mathlib.Omega.{arith}
+use Rattle.label.specs.Label.{zeroLabel}
+use Rattle.hexline.specs.declared.entry.Value.the-variants.{Hierarchy}
+use Rattle.alias.specs.Lines.{entriesBy}
+use Rattle.text.specs.Write.{definitionNamed, definitionText, named}
+use Rattle.text.proofs.PartLaws.{joined}
+use Rattle.text.proofs.WriteLaws.{counted, counts, missed, misses}
 use Rattle.text.proofs.write.measure_definition.Statement.{statement}
 use Rattle.text.proofs.write.measure_definition.Tie as tie
-use Rattle.text.proofs.write.measure_definition.Reads as reads
-use Rattle.text.proofs.write.measure_definition.Lts as lts
-use Rattle.label.proofs.zero.Reads as zero-reads
-use Rattle.text.proofs.name.measure_name.Reads as measure-name-reads
-use Rattle.text.proofs.write.measure_categories.Reads as measure-categories-reads
 
--- src/write.rt:139:9
 zero-requires : tie.Need-zero-requires
 zero-requires c κs = search needs
 
--- src/write.rt:134:9
 measure-name-requires : tie.Need-measure-name-requires
 measure-name-requires c κs = search needs
 
--- src/write.rt:141:24
 enum-known-hierarchy : tie.Need-enum-known-hierarchy
 enum-known-hierarchy c = search needs
 
--- src/write.rt:142:9
 enum-told : tie.Need-enum-told
 enum-told c = search needs
 
--- src/write.rt:142:9
 returns : tie.Need-returns
-returns c = ?
+unfolding definitionNamed
+returns c = let x = c .before .before in misses (rw (missed (rw (x .before .zero .ensures) at (x .measure-name .ensures)) (c .enum-told .given .1)))
 
--- src/write.rt:145:9
 measure-categories-requires : tie.Need-measure-categories-requires
 measure-categories-requires c κs = search needs
 
--- src/write.rt:146:24
 enum-known-categories : tie.Need-enum-known-categories
 enum-known-categories c = search needs
 
--- src/write.rt:147:9
 enum-told-2 : tie.Need-enum-told-2
 enum-told-2 c = search needs
 
--- src/write.rt:147:9
 returns-2 : tie.Need-returns-2
-returns-2 c = ?
+unfolding definitionNamed
+returns-2 c =
+    let m = c .before .before in
+    let a = m .before .before .before .before .before .before .before .before .before .args in
+    misses (rw (missed (m .measure-categories .ensures) (c .enum-told2 .given .1)) (and-false (named (entriesBy (a .table .now) (a .starts .now)) (Hierarchy (a .l .hierarchy)) zeroLabel)))
 
--- src/write.rt:149:20
 add-t12 : tie.Need-add-t12
-add-t12 c = ?
+add-t12 c =
+    let k = c .before .before .before in
+    let h = k .before .before .before in
+    let m = h .before .before .measure-name .ensures .at-most _ (h .hierarchy .given .1) in
+    let n = k .measure-categories .ensures .at-most _ (c .before .categories .given .1) in
+    omega arith
 
--- src/write.rt:131:1
 returns-3 : tie.Need-returns-3
-returns-3 c = ?
+unfolding definitionNamed definitionText
+returns-3 c =
+    let k = c .before .before .before in
+    let h = k .before .before .before in
+    let x = h .before .before in
+    counts (joined (counted (rw (x .before .zero .ensures) at (x .measure-name .ensures)) (h .hierarchy .given .1)) (counted (k .measure-categories .ensures) (c .before .categories .given .1)))
 
 pub measure-definition-spec : {M : Type 1} → statement M
 measure-definition-spec =

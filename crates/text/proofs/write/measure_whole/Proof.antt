@@ -1,57 +1,69 @@
 use borrow.Author.Needs.{needs}
+use mathlib.Core.Bool.{and-false}
+use native.Mathlib.Omega.{arith}
+use Rattle.alias.specs.Lines.{entriesBy}
+use Rattle.text.specs.Write.{labelNamed}
+use Rattle.text.proofs.PartLaws.{whole-counts}
+use Rattle.text.proofs.WriteLaws.{counted, counts, missed, misses}
 use Rattle.text.proofs.write.measure_whole.Statement.{statement}
 use Rattle.text.proofs.write.measure_whole.Tie as tie
-use Rattle.text.proofs.write.measure_whole.Reads as reads
-use Rattle.text.proofs.write.measure_whole.Lts as lts
-use Rattle.text.proofs.write.measure_label.Reads as measure-label-reads
 
--- src/write.rt:294:9
 measure-label-requires : tie.Need-measure-label-requires
 measure-label-requires c κs = search needs
 
--- src/write.rt:295:24
 enum-known-low : tie.Need-enum-known-low
 enum-known-low c = search needs
 
--- src/write.rt:296:9
 enum-told : tie.Need-enum-told
 enum-told c = search needs
 
--- src/write.rt:296:9
 returns : tie.Need-returns
-returns c = ?
+returns c = misses (rw (missed (c .before .before .measure-label .ensures) (c .enum-told .given .1)))
 
--- src/write.rt:298:9
 measure-label-requires-2 : tie.Need-measure-label-requires-2
 measure-label-requires-2 c κs = search needs
 
--- src/write.rt:299:24
 enum-known-high : tie.Need-enum-known-high
 enum-known-high c = search needs
 
--- src/write.rt:300:9
 enum-told-2 : tie.Need-enum-told-2
 enum-told-2 c = search needs
 
--- src/write.rt:300:9
 returns-2 : tie.Need-returns-2
-returns-2 c = ?
+returns-2 c =
+    let m = c .before .before in
+    let a = m .before .before .before .before .before .before .before .args in
+    misses (rw (missed (m .measure-label2 .ensures) (c .enum-told2 .given .1)) (and-false (labelNamed (entriesBy (a .table .now) (a .starts .now)) (a .style) (a .x .low))))
 
--- src/write.rt:302:20
 add-t9 : tie.Need-add-t9
-add-t9 c = ?
+add-t9 c =
+    let h = c .before .before .before in
+    let l = h .before .before in
+    let m = l .before .before .measure-label .ensures .at-most _ (l .low .given .1) in
+    let n = h .measure-label2 .ensures .at-most _ (c .before .high .given .1) in
+    omega arith
 
--- src/write.rt:302:20
 add-t10 : tie.Need-add-t10
-add-t10 c = ?
+add-t10 c =
+    let h = c .before .before .before in
+    let l = h .before .before in
+    let m = l .before .before .measure-label .ensures .at-most _ (l .low .given .1) in
+    let n = h .measure-label2 .ensures .at-most _ (c .before .high .given .1) in
+    omega arith
 
--- src/write.rt:302:20
 add-t11 : tie.Need-add-t11
-add-t11 c = ?
+add-t11 c =
+    let h = c .before .before .before in
+    let l = h .before .before in
+    let m = l .before .before .measure-label .ensures .at-most _ (l .low .given .1) in
+    let n = h .measure-label2 .ensures .at-most _ (c .before .high .given .1) in
+    omega arith
 
--- src/write.rt:291:1
 returns-3 : tie.Need-returns-3
-returns-3 c = ?
+returns-3 c =
+    let h = c .before .before .before in
+    let l = h .before .before in
+    counts (whole-counts _ _ _ (counted (l .before .before .measure-label .ensures) (l .low .given .1)) (counted (h .measure-label2 .ensures) (c .before .high .given .1)))
 
 pub measure-whole-spec : {M : Type 1} → statement M
 measure-whole-spec =

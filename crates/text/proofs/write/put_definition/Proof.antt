@@ -1,33 +1,57 @@
 use borrow.Author.Needs.{needs}
+use native.Mathlib.Omega.{arith}
+use Rattle.alias.specs.Lines.{entriesBy}
+use Rattle.octets.proofs.ByteLaws.{put-same-length, then-put}
+use Rattle.text.specs.Write.{definitionText}
+use Rattle.text.proofs.PartLaws.{definition-length}
 use Rattle.text.proofs.write.put_definition.Statement.{statement}
 use Rattle.text.proofs.write.put_definition.Tie as tie
-use Rattle.text.proofs.write.put_definition.Reads as reads
-use Rattle.text.proofs.write.put_definition.Lts as lts
-use Rattle.label.proofs.zero.Reads as zero-reads
-use Rattle.text.proofs.name.put_name.Reads as put-name-reads
-use Rattle.text.proofs.write.put_categories.Reads as put-categories-reads
 
--- src/write.rt:168:9
 zero-requires : tie.Need-zero-requires
 zero-requires c κs = search needs
 
--- src/write.rt:163:9
 put-name-requires : tie.Need-put-name-requires
-put-name-requires c κs = ?
+put-name-requires c κs =
+    let z = c .before in
+    let s = z .before .before .before .before in
+    let a = s .args in
+    let n = definition-length (entriesBy (a .table .now) (a .starts .now)) (a .v) (a .l) in
+    rw (z .zero .ensures) (omega (arith, s .pre))
 
--- src/write.rt:173:5
 put-categories-requires : tie.Need-put-categories-requires
-put-categories-requires c κs = ?
+put-categories-requires c κs =
+    let p = c .before .before .before .before in
+    let z = p .before .before in
+    let s = z .before .before .before .before in
+    let a = s .args in
+    let n = definition-length (entriesBy (a .table .now) (a .starts .now)) (a .v) (a .l) in
+    let h = rw (z .zero .ensures) at (p .put-name .ensures) in
+    let q = h .past in
+    let l = put-same-length (omega (arith, s .pre)) h in
+    omega (arith, s .pre)
 
--- src/write.rt:152:1
 same-length : tie.Need-same-length
 same-length c = search needs
 
--- src/write.rt:152:1
 returns : tie.Need-returns
-returns c = ?
+unfolding definitionText
+returns c =
+    let k = c .before .before in
+    let p = k .before .before .before .before .before in
+    let z = p .before .before in
+    let s = z .before .before .before .before in
+    let a = s .args in
+    let n = definition-length (entriesBy (a .table .now) (a .starts .now)) (a .v) (a .l) in
+    let h = rw (z .zero .ensures) at (p .put-name .ensures) in
+    let q = h .past in
+    then-put (omega (arith, s .pre)) h (k .put-categories .ensures)
 
 pub put-definition-spec : {M : Type 1} → statement M
 put-definition-spec =
     tie.close
-    (tie.spec zero-requires put-name-requires put-categories-requires same-length returns)
+    (tie.spec
+    zero-requires
+    put-name-requires
+    put-categories-requires
+    same-length
+    returns)

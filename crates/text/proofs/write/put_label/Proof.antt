@@ -1,67 +1,78 @@
 use borrow.Author.Needs.{needs}
+use mathlib.Core.Path.{sym, ap, _∙_}
+use native.Mathlib.Omega.{arith}
+use Rattle.alias.specs.Lookup.{foundOf}
+use Rattle.text.specs.Write.{textIn}
+use Rattle.text.proofs.PartLaws.{alias-text, definition-instead}
 use Rattle.text.proofs.write.put_label.Statement.{statement}
 use Rattle.text.proofs.write.put_label.Tie as tie
-use Rattle.text.proofs.write.put_label.Reads as reads
-use Rattle.text.proofs.write.put_label.Lts as lts
-use Rattle.alias.proofs.lookup.last.Reads as last-reads
-use Rattle.text.proofs.name.put_name.Reads as put-name-reads
-use Rattle.text.proofs.write.put_definition.Reads as put-definition-reads
 
--- src/write.rt:209:65
 enum-told : tie.Need-enum-told
 enum-told c = search needs
 
--- src/write.rt:209:29
 put-definition-requires : tie.Need-put-definition-requires
-put-definition-requires c κs = ?
+unfolding textIn
+put-definition-requires c κs =
+    let t = c .before in
+    let s = t .before .before .before .before .before in
+    rw (t .enum-told .given .1) at (s .pre)
 
--- src/write.rt:211:53
 enum-told-2 : tie.Need-enum-told-2
 enum-told-2 c = search needs
 
--- src/write.rt:211:17
 last-requires : tie.Need-last-requires
 last-requires c κs = search needs
 
--- src/write.rt:213:67
 enum-told-3 : tie.Need-enum-told-3
 enum-told-3 c = search needs
 
--- src/write.rt:213:40
 put-name-requires : tie.Need-put-name-requires
-put-name-requires c κs = ?
+put-name-requires c κs =
+    let t = c .before in
+    let l = t .before .before in
+    let f = l .before in
+    let s = f .before .before .before .before .before in
+    rw (f .enum-told2 .given .1, alias-text _ _ _ (sym (l .last .ensures) ∙ ap foundOf (t .enum-told3 .given .1))) at (s .pre)
 
--- src/write.rt:214:78
 enum-told-4 : tie.Need-enum-told-4
 enum-told-4 c = search needs
 
--- src/write.rt:214:42
 put-definition-requires-2 : tie.Need-put-definition-requires-2
-put-definition-requires-2 c κs = ?
+put-definition-requires-2 c κs =
+    let t = c .before in
+    let l = t .before .before in
+    let f = l .before in
+    let s = f .before .before .before .before .before in
+    rw (f .enum-told2 .given .1, definition-instead _ _ _ (sym (l .last .ensures) ∙ ap foundOf (t .enum-told4 .given .1))) at (s .pre)
 
--- src/write.rt:195:1
 same-length : tie.Need-same-length
 same-length c = search needs
 
--- src/write.rt:195:1
 returns : tie.Need-returns
-returns c = ?
+unfolding textIn
+returns c =
+    let p = c .before .before in
+    rw (p .before .before .enum-told .given .1) (p .put-definition .ensures)
 
--- src/write.rt:195:1
 same-length-2 : tie.Need-same-length-2
 same-length-2 c = search needs
 
--- src/write.rt:195:1
 returns-2 : tie.Need-returns-2
-returns-2 c = ?
+returns-2 c =
+    let p = c .before .before in
+    let t = p .before .before in
+    let l = t .before .before in
+    rw (l .before .enum-told2 .given .1, alias-text _ _ _ (sym (l .last .ensures) ∙ ap foundOf (t .enum-told3 .given .1))) (p .put-name .ensures)
 
--- src/write.rt:195:1
 same-length-3 : tie.Need-same-length-3
 same-length-3 c = search needs
 
--- src/write.rt:195:1
 returns-3 : tie.Need-returns-3
-returns-3 c = ?
+returns-3 c =
+    let p = c .before .before in
+    let t = p .before .before in
+    let l = t .before .before in
+    rw (l .before .enum-told2 .given .1, definition-instead _ _ _ (sym (l .last .ensures) ∙ ap foundOf (t .enum-told4 .given .1))) (p .put-definition2 .ensures)
 
 pub put-label-spec : {M : Type 1} → statement M
 put-label-spec =

@@ -1,42 +1,75 @@
 use borrow.Author.Needs.{needs}
+use native.Mathlib.Omega.{arith}
+use Rattle.alias.specs.Lines.{entriesBy}
+use Rattle.octets.proofs.ByteLaws.{appended-put, put-same-length, then-appended, then-put}
+use Rattle.text.specs.Write.{labelText, wholeText}
+use Rattle.text.proofs.PartLaws.{low-front, whole-front, whole-length}
 use Rattle.text.proofs.write.put_whole.Statement.{statement}
 use Rattle.text.proofs.write.put_whole.Tie as tie
-use Rattle.text.proofs.write.put_whole.Reads as reads
-use Rattle.text.proofs.write.put_whole.Lts as lts
-use Rattle.octets.proofs.append.Reads as append-reads
-use Rattle.text.proofs.write.put_label.Reads as put-label-reads
 
--- src/write.rt:309:38
 slice-aggregate-append : tie.Need-slice-aggregate-append
 slice-aggregate-append c = search needs
 
--- src/write.rt:309:9
 append-requires : tie.Need-append-requires
 append-requires c κs = search needs
 
--- src/write.rt:310:9
 put-label-requires : tie.Need-put-label-requires
-put-label-requires c κs = ?
+put-label-requires c κs =
+    let p = c .before .before .before in
+    let s = p .before .before .before .before .before .before in
+    let a = s .args in
+    let n = whole-length (entriesBy (a .table .now) (a .starts .now)) (a .style) (a .x) in
+    let h = appended-put (omega (arith, s .pre)) (p .append .ensures) in
+    let q = h .past in
+    let l = put-same-length (omega (arith, s .pre)) h in
+    omega (arith, s .pre)
 
--- src/write.rt:311:44
 slice-aggregate-append-2 : tie.Need-slice-aggregate-append-2
 slice-aggregate-append-2 c = search needs
 
--- src/write.rt:311:9
 append-requires-2 : tie.Need-append-requires-2
 append-requires-2 c κs = search needs
 
--- src/write.rt:312:5
 put-label-requires-2 : tie.Need-put-label-requires-2
-put-label-requires-2 c κs = ?
+put-label-requires-2 c κs =
+    let q = c .before .before .before .before .before .before .before .before .before .before .before .before in
+    let p = c .before .before .before .before .before .before .before .before in
+    let s = c .before .before .before .before .before .before .before .before .before .before .before .before .before .before .before .before .before .before in
+    let a = s .args in
+    let es = entriesBy (a .table .now) (a .starts .now) in
+    let n = whole-length es (a .style) (a .x) in
+    let f = low-front (labelText es (a .style) (a .x .low)) in
+    let g = whole-front (labelText es (a .style) (a .x .low)) in
+    let h = appended-put (omega (arith, s .pre)) (q .append .ensures) in
+    let i = h .past in
+    let k = then-put (omega (arith, s .pre)) h (p .put-label .ensures) in
+    let j = k .past in
+    let m = then-appended (omega (arith, s .pre)) k (c .before .before .before .append2 .ensures) in
+    let o = m .past in
+    let l = put-same-length (omega (arith, s .pre)) m in
+    omega (arith, s .pre)
 
--- src/write.rt:305:1
 same-length : tie.Need-same-length
 same-length c = search needs
 
--- src/write.rt:305:1
 returns : tie.Need-returns
-returns c = ?
+unfolding wholeText
+returns c =
+    let q = c .before .before .before .before .before .before .before .before .before .before .before .before .before .before .before in
+    let p = c .before .before .before .before .before .before .before .before .before .before .before in
+    let s = c .before .before .before .before .before .before .before .before .before .before .before .before .before .before .before .before .before .before .before .before .before in
+    let a = s .args in
+    let es = entriesBy (a .table .now) (a .starts .now) in
+    let n = whole-length es (a .style) (a .x) in
+    let f = low-front (labelText es (a .style) (a .x .low)) in
+    let g = whole-front (labelText es (a .style) (a .x .low)) in
+    let h = appended-put (omega (arith, s .pre)) (q .append .ensures) in
+    let i = h .past in
+    let k = then-put (omega (arith, s .pre)) h (p .put-label .ensures) in
+    let j = k .past in
+    let m = then-appended (omega (arith, s .pre)) k (c .before .before .before .before .before .before .append2 .ensures) in
+    let o = m .past in
+    then-put (omega (arith, s .pre)) m (c .before .before .put-label2 .ensures)
 
 pub put-whole-spec : {M : Type 1} → statement M
 put-whole-spec =
