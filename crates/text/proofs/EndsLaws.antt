@@ -3,10 +3,8 @@ use mathlib.Core.Bool.{Bool, true, false, cond, _&&_}
 use mathlib.Core.List.{List, [], _∷_, _++_, append-assoc}
 use mathlib.Core.Option.{Option}
 use mathlib.Core.Path.{_≡_, refl, sym, ap, _∙_}
-use Prim.Native.Nat.{ℕ, zero, suc, _+_}
-use native.Mathlib.Nat.{add-zero}
+use Prim.Native.Nat.{ℕ, _+_}
 use native.Mathlib.Omega.{arith}
-use lib.ListN.{length}
 use lib.Seq.{drop-append-seam, take-append-seam}
 use Rattle.label.specs.Answer.{Answer, andThen, granted, refused, require}
 use Rattle.label.specs.Label
@@ -17,7 +15,7 @@ use Rattle.label.proofs.BoolLaws.{first-true, second-true}
 use Rattle.range.specs.Range
 use Rattle.range.specs.declared.Range.{Range}
 use Rattle.range.proofs.RangeLaws.{valid-parts}
-use Rattle.octets.specs.Bytes.{blank, indexOf}
+use Rattle.octets.specs.Bytes.{blank}
 use Rattle.octets.proofs.ByteLaws.{Without, index-behind, same-self, without-append, without-cons}
 use Rattle.hexline.specs.Entry.{isLetter, isNameByte}
 use Rattle.hexline.specs.declared.entry.Entry.{Entry}
@@ -25,8 +23,7 @@ use Rattle.hexline.specs.declared.entry.Value.the-variants.{Hierarchy, Category
 use Rattle.alias.proofs.TableLaws.{Good}
 use Rattle.text.specs.Read.{endsOf, entryNamed, foundEntry, labelBy, labelIn, labelNamed, labelSeen, plain, rangeFrom, readLabelOf, readRangeOf}
 use Rattle.text.specs.Subject.{seesOf, subjectValid}
-use Rattle.text.specs.Write.{Shown, categoriesNamed, categoriesText, colon, comma, definitionNamed, definitionText, hiddenHigh, highMarker, labelText, lowMarker, lowText, nameFor, named, namedIn, shown, textIn, wholeText, writeLabelOf, writeRangeOf}
-use Rattle.text.specs.Write as writing
+use Rattle.text.specs.Write.{Shown, allNamed, categoriesNamed, categoriesText, colon, comma, definitionNamed, definitionText, hiddenHigh, highMarker, labelText, lowMarker, lowText, nameFor, named, namedIn, shown, textIn, wholeText, writeLabelOf, writeRangeOf}
 use Rattle.text.specs.declared.Form.{Form}
 use Rattle.text.specs.declared.Form.the-variants.{Definition, Alias}
 use Rattle.text.specs.declared.Style.{Style}
@@ -71,7 +68,7 @@ module _ (es : List Entry) (good : Good es) where
 
   -- ---- labels
 
-  seen-back : (s : Subject) (style : Style) (l : Label) → Label.Typed l → seesOf s l ≡ true → writing.labelNamed es style l ≡ true → labelSeen es s (labelText es style l) ≡ granted l
+  seen-back : (s : Subject) (style : Style) (l : Label) → Label.Typed l → seesOf s l ≡ true → allNamed es style l ≡ true → labelSeen es s (labelText es style l) ≡ granted l
   unfolding labelSeen
   seen-back s style l t e n =
       ap (λ (a : Answer Label). andThen a (λ (l : Label). require (seesOf s l) 22 (granted l))) (label-back es good (style .variant) (style .form) l t n) ∙ rw e
@@ -81,7 +78,7 @@ module _ (es : List Entry) (good : Good es) where
   label-reads s style l text t e =
       let p = grant-passed (Label.validOf l && subjectValid s) 22 text _ (sym e) in
       let q = grant-passed (seesOf s l) 13 text _ (p .1) in
-      let r = grant-passed (writing.labelNamed es style l) 2 text _ (q .1) in
+      let r = grant-passed (allNamed es style l) 2 text _ (q .1) in
       let same : text ≡ labelText es style l = grants-same text (labelText es style l) (r .1) in
       rw (second-true (Label.validOf l) (subjectValid s) (p .0), same) (seen-back s style l t (q .0) (r .0))
 
@@ -105,7 +102,7 @@ module _ (es : List Entry) (good : Good es) where
     subject : subjectValid s ≡ true
     low : seesOf s (x .low) ≡ true
     high-is : seesOf s (x .high) ≡ high
-    text : granted t ≡ cond high (shown (writing.labelNamed es style (x .low) && writing.labelNamed es style (x .high)) 0 (wholeText es style x)) (shown (writing.labelNamed es style (x .low)) 1 (lowText es style x))
+    text : granted t ≡ cond high (shown (allNamed es style (x .low) && allNamed es style (x .high)) 0 (wholeText es style x)) (shown (allNamed es style (x .low)) 1 (lowText es style x))
 
   range-grant : (s : Subject) (style : Style) (x : Range) (t : Shown) → writeRangeOf es s style x ≡ granted t → RangeGrant s style x t (seesOf s (x .high))
   unfolding writeRangeOf
@@ -124,8 +121,8 @@ module _ (es : List Entry) (good : Good es) where
   whole-back : (s : Subject) (style : Style) (x : Range) (t : Shown) → Range.TypedRange x → RangeGrant s style x t true → readRangeOf es s (t .text) ≡ granted x
   unfolding wholeText rangeFrom isNameByte isLetter
   whole-back s style x t ty g =
-      let a = writing.labelNamed es style (x .low) in
-      let b = writing.labelNamed es style (x .high) in
+      let a = allNamed es style (x .low) in
+      let b = allNamed es style (x .high) in
       let p = grant-told (a && b) 2 t _ (g .text) in
       let na = first-true a b (p .0) in
       let nb = second-true a b (p .0) in
@@ -142,7 +139,7 @@ module _ (es : List Entry) (good : Good es) where
   hidden-refused : (s : Subject) (style : Style) (x : Range) (t : Shown) → Range.TypedRange x → RangeGrant s style x t false → readRangeOf es s (t .text) ≡ plain
   unfolding lowText rangeFrom labelSeen labelNamed entryNamed isNameByte isLetter
   hidden-refused s style x t ty g =
-      let a = writing.labelNamed es style (x .low) in
+      let a = allNamed es style (x .low) in
       let p = grant-told a 2 t _ (g .text) in
       let low = seen-back s style (x .low) (ty .low) (g .low) (p .0) in
       let w = text-without blank refl (style .variant) (style .form) (x .low) (λ f. omega arith) (λ f. omega arith) (p .0) in
@@ -161,7 +158,7 @@ module _ (es : List Entry) (good : Good es) where
     where
       go : (high : Bool) → RangeGrant s style x t high → readRangeOf es s (t .text) ≡ granted x
       go true g = whole-back s style x t ty g
-      go false g = let p = grant-told (writing.labelNamed es style (x .low)) 2 t _ (g .text) in let q = ap (λ (t : Shown). t .status) (p .1) in absurd (omega arith)
+      go false g = let p = grant-told (allNamed es style (x .low)) 2 t _ (g .text) in let q = ap (λ (t : Shown). t .status) (p .1) in absurd (omega arith)
 
   pub range-refused : (s : Subject) (style : Style) (x : Range) (t : Shown) → Range.TypedRange x → writeRangeOf es s style x ≡ granted t → t .status ≡ 1
       → readRangeOf es s (t .text) ≡ plain
@@ -169,6 +166,6 @@ module _ (es : List Entry) (good : Good es) where
     where
       go : (high : Bool) → RangeGrant s style x t high → readRangeOf es s (t .text) ≡ plain
       go true g =
-          let p = grant-told (writing.labelNamed es style (x .low) && writing.labelNamed es style (x .high)) 2 t _ (g .text) in
+          let p = grant-told (allNamed es style (x .low) && allNamed es style (x .high)) 2 t _ (g .text) in
           let q = ap (λ (t : Shown). t .status) (p .1) in absurd (omega arith)
       go false g = hidden-refused s style x t ty g

@@ -1,9 +1,9 @@
 -- Texts that are made of parts: how they are measured, and put in a buffer part by part. Assumes nothing.
-use mathlib.Core.Bool.{Bool, true, false, cond, _&&_, and-false}
+use mathlib.Core.Bool.{Bool, _&&_}
 use mathlib.Core.List.{List, _++_}
 use mathlib.Core.Option.{none, some}
-use mathlib.Core.Path.{_≡_, refl, sym, ap, _∙_}
-use Prim.Native.Nat.{ℕ, _+_, _≤_}
+use mathlib.Core.Path.{_≡_, ap, _∙_}
+use Prim.Native.Nat.{ℕ, _+_}
 use native.Mathlib.Omega.{arith}
 use lib.ListN.{length, length-append}
 use Rattle.label.specs.Label.{zeroLabel}
@@ -15,9 +15,8 @@ use Rattle.hexline.specs.Entry.{maxName}
 use Rattle.hexline.specs.declared.entry.Entry.{Entry}
 use Rattle.hexline.specs.declared.entry.Value.the-variants.{Hierarchy, WholeLabel}
 use Rattle.alias.specs.Lookup.{lastOf}
-use Rattle.text.specs.Measure.{Counted, maxLabel, measureOf}
-use Rattle.text.specs.Write.{categoriesText, colon, definitionNamed, definitionText, hiddenHigh, highMarker, labelNamed, labelText, lowMarker, lowText, nameFor, named, namedIn, textIn, wholeText}
-use Rattle.text.specs.declared.Form.{Form}
+use Rattle.text.specs.Measure.{Counted, maxLabel}
+use Rattle.text.specs.Write.{categoriesText, colon, definitionNamed, definitionText, highMarker, allNamed, labelText, lowMarker, lowText, nameFor, named, namedIn, textIn, wholeText}
 use Rattle.text.specs.declared.Form.the-variants.{Alias}
 use Rattle.text.specs.declared.Style.{Style}
 use Rattle.text.specs.declared.Variant.{Variant}
@@ -58,8 +57,8 @@ module _ (es : List Entry) (style : Style) (x : Range) where
   low-length = simp length-append (omega arith)
 
   -- both ends of a range, and the low end alone, with the markers
-  pub whole-counts : {m n k l : ℕ} → Whole (labelNamed es style (x .low)) (labelText es style (x .low)) m k → Whole (labelNamed es style (x .high)) (labelText es style (x .high)) n l
-      → Whole (labelNamed es style (x .low) && labelNamed es style (x .high)) (wholeText es style x) (7 + m + n) (3 + k + 4 + l)
+  pub whole-counts : {m n k l : ℕ} → Whole (allNamed es style (x .low)) (labelText es style (x .low)) m k → Whole (allNamed es style (x .high)) (labelText es style (x .high)) n l
+      → Whole (allNamed es style (x .low) && allNamed es style (x .high)) (wholeText es style x) (7 + m + n) (3 + k + 4 + l)
   whole-counts p q =
       let s = whole-length in
       let pc = p .count in
@@ -68,7 +67,7 @@ module _ (es : List Entry) (style : Style) (x : Range) where
       let qm = q .at-most in
       record { named = both (p .named) (q .named); count = omega arith; at-most = omega arith }
 
-  pub low-counts : {m k : ℕ} → Whole (labelNamed es style (x .low)) (labelText es style (x .low)) m k → Whole (labelNamed es style (x .low)) (lowText es style x) (8 + m) (3 + k + 5)
+  pub low-counts : {m k : ℕ} → Whole (allNamed es style (x .low)) (labelText es style (x .low)) m k → Whole (allNamed es style (x .low)) (lowText es style x) (8 + m) (3 + k + 5)
   low-counts p =
       let s = low-length in
       let pc = p .count in

@@ -1,13 +1,13 @@
 -- How a writer ends that has measured its text: it has written it all, or nothing. Assumes nothing.
 use mathlib.Core.Bool.{Bool, true, false, cond}
-use mathlib.Core.List.{List, [], _++_}
-use mathlib.Core.Option.{none, some}
+use mathlib.Core.List.{List, _++_}
+use mathlib.Core.Option.{some}
 use mathlib.Core.Path.{_≡_, refl, sym, ap, _∙_}
 use Prim.Native.Nat.{ℕ, _+_, _≤_}
 use native.Mathlib.Nat.{zero-add}
 use native.Mathlib.Omega.{arith}
 use lib.Dec.{leb}
-use lib.ListN.{drop, length, take}
+use lib.ListN.{drop, length}
 use borrow.Author.Tests.{le-leb, leb-true}
 use Rattle.label.specs.Answer.{Answer, granted, isGranted, refused, refusedBy, require}
 use Rattle.label.specs.Buffer.{WrittenTo, bufferOf, lengthOf, overlay, writtenOf}

@@ -4,12 +4,12 @@ use mathlib.Core.List.{List, [], _∷_, _++_, map, map-append, append-nil, List�
 use mathlib.Core.Logic.{⊎-elim}
 use mathlib.Core.Path.{_≡_, refl, sym, ap, ap₂, _∙_}
 use Prim.Native.Nat.{ℕ, zero, suc, _+_, _*_, _^_, _≤_, _<_}
-use native.Mathlib.Nat.{add-zero, eq-or-lt-of-le, le-of-suc-le-suc}
+use native.Mathlib.Nat.{eq-or-lt-of-le, le-of-suc-le-suc}
 use native.Mathlib.Omega.{arith}
 use lib.Dec.{eqb, ltb}
 use lib.ListN.{length, length-append}
 use lib.Seq.{drop-append-add, take-append-seam}
-use borrow.Author.Tests.{eq-eqb, eqb-true, le-ltb, lt-ltb, ltb-true, ne-eqb}
+use borrow.Author.Tests.{eq-eqb, eqb-true, le-ltb, lt-ltb, ltb-true}
 use Rattle.label.specs.Answer.{Answer, andThen, granted, refused, require}
 use Rattle.label.specs.Label
 use Rattle.label.specs.Label.{upperBoundOf}
@@ -20,7 +20,7 @@ use Rattle.label.proofs.BoolLaws.{both, either, first-true, or-first, or-second
 use Rattle.label.proofs.LabelLaws.{upper-typed}
 use Rattle.label.proofs.ListingLaws.{has-within, members-exact}
 use Rattle.label.proofs.WordLaws.{has-union, includes-antisym, includes-exact}
-use Rattle.octets.specs.Bytes.{indexOf, split}
+use Rattle.octets.specs.Bytes.{split}
 use Rattle.octets.proofs.ByteLaws.{Without, index-behind, index-without, split-behind, split-without}
 use Rattle.hexline.specs.Entry.{isLetter, isNameByte}
 use Rattle.hexline.specs.declared.entry.Entry.{Entry}

@@ -104,14 +104,14 @@ namedIn es Alias l = cond (named es WholeLabel l) true (definitionNamed es l)
 abbrev pub labelText : List Entry → Style → Label → List ℕ
 labelText es style l = textIn es (style .form) (style .variant) l
 
-abbrev pub labelNamed : List Entry → Style → Label → Bool
-labelNamed es style l = namedIn es (style .form) l
+abbrev pub allNamed : List Entry → Style → Label → Bool
+allNamed es style l = namedIn es (style .form) l
 
 -- ---- writing a label: bad label or subject 22; out of sight 13; a number that has no name 2
 
 unfoldable pub writeLabelOf : List Entry → Subject → Style → Label → Answer (List ℕ)
 writeLabelOf es s style l =
-    require (Label.validOf l && subjectValid s) 22 (require (seesOf s l) 13 (require (labelNamed es style l) 2 (granted (labelText es style l))))
+    require (Label.validOf l && subjectValid s) 22 (require (seesOf s l) 13 (require (allNamed es style l) 2 (granted (labelText es style l))))
 
 -- ---- writing a range
 
@@ -137,8 +137,8 @@ writeRangeOf es s style x =
     require (Range.validOf x && subjectValid s) 22
     (require (seesOf s (x .low)) 13
     (cond (seesOf s (x .high))
-    (shown (labelNamed es style (x .low) && labelNamed es style (x .high)) 0 (wholeText es style x))
-    (shown (labelNamed es style (x .low)) 1 (lowText es style x))))
+    (shown (allNamed es style (x .low) && allNamed es style (x .high)) 0 (wholeText es style x))
+    (shown (allNamed es style (x .low)) 1 (lowText es style x))))
 
 abbrev pub textOf : Answer Shown → Answer (List ℕ)
 textOf x = andThen x (λ (t : Shown). granted (t .text))

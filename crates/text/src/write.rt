@@ -32,7 +32,7 @@ ghost use Rattle.octets.specs.Bytes.{Put};
 ghost use Rattle.alias.specs.Lines.{entriesBy};
 ghost use Rattle.text.specs.Measure.{Counted, maxCategories, maxLabel, measureOf, roomOf};
 ghost use Rattle.text.specs.Subject.{withTable};
-ghost use Rattle.text.specs.Write.{RangeWrittenTo, categoriesNamed, categoriesText, colon, definitionNamed, definitionText, labelNamed, labelText, lowText, nameFor, wholeText, writeLabelOf, writeRangeOf};
+ghost use Rattle.text.specs.Write.{RangeWrittenTo, categoriesNamed, categoriesText, colon, definitionNamed, definitionText, allNamed, labelText, lowText, nameFor, wholeText, writeLabelOf, writeRangeOf};
 
 // One past the last category.
 const CATEGORIES: u64 = 256;
@@ -175,7 +175,7 @@ fn put_definition(
 
 // How long the text of a label is.
 fn measure_label(table: &[u8], starts: &[usize], style: Style, l: Label) -> Measure
-    ensures { λ r. ⌜ Counted (labelNamed (entriesBy (now (table .entry)) (now (starts .entry))) style l) (labelText (entriesBy (now (table .entry)) (now (starts .entry))) style l) maxLabel r ⌝ }
+    ensures { λ r. ⌜ Counted (allNamed (entriesBy (now (table .entry)) (now (starts .entry))) style l) (labelText (entriesBy (now (table .entry)) (now (starts .entry))) style l) maxLabel r ⌝ }
 {
     let form = style.form;
     let v = style.variant;
@@ -234,7 +234,7 @@ fn room(m: Measure, size: usize) -> Written
 
 // Writes the text of a label that the subject may see.
 fn write_text(table: &[u8], starts: &[usize], style: Style, l: Label, out: &mut [u8]) -> Written
-    ensures { λ r. ⌜ WrittenTo r (require (labelNamed (entriesBy (now (table .entry)) (now (starts .entry))) style l) 2 (granted (labelText (entriesBy (now (table .entry)) (now (starts .entry))) style l))) (now (out .entry)) (now (out .exit)) ⌝ }
+    ensures { λ r. ⌜ WrittenTo r (require (allNamed (entriesBy (now (table .entry)) (now (starts .entry))) style l) 2 (granted (labelText (entriesBy (now (table .entry)) (now (starts .entry))) style l))) (now (out .entry)) (now (out .exit)) ⌝ }
 {
     let w = room(measure_label(table, starts, style, l), out.len());
     if let Written::Length(_) = w {
@@ -289,7 +289,7 @@ pub fn write_label(
 
 // How long the text of a range with both ends is.
 fn measure_whole(table: &[u8], starts: &[usize], style: Style, x: Range) -> Measure
-    ensures { λ r. ⌜ Counted (labelNamed (entriesBy (now (table .entry)) (now (starts .entry))) style (x .low) && labelNamed (entriesBy (now (table .entry)) (now (starts .entry))) style (x .high)) (wholeText (entriesBy (now (table .entry)) (now (starts .entry))) style x) (7 + maxLabel + maxLabel) r ⌝ }
+    ensures { λ r. ⌜ Counted (allNamed (entriesBy (now (table .entry)) (now (starts .entry))) style (x .low) && allNamed (entriesBy (now (table .entry)) (now (starts .entry))) style (x .high)) (wholeText (entriesBy (now (table .entry)) (now (starts .entry))) style x) (7 + maxLabel + maxLabel) r ⌝ }
 {
     let low = measure_label(table, starts, style, x.low);
     let Measure::Bytes(m) = low else {
@@ -314,7 +314,7 @@ fn put_whole(table: &[u8], starts: &[usize], style: Style, x: Range, out: &mut [
 
 // Writes a range with both ends.
 fn write_whole(table: &[u8], starts: &[usize], style: Style, x: Range, out: &mut [u8]) -> Written
-    ensures { λ r. ⌜ WrittenTo r (require (labelNamed (entriesBy (now (table .entry)) (now (starts .entry))) style (x .low) && labelNamed (entriesBy (now (table .entry)) (now (starts .entry))) style (x .high)) 2 (granted (wholeText (entriesBy (now (table .entry)) (now (starts .entry))) style x))) (now (out .entry)) (now (out .exit)) ⌝ }
+    ensures { λ r. ⌜ WrittenTo r (require (allNamed (entriesBy (now (table .entry)) (now (starts .entry))) style (x .low) && allNamed (entriesBy (now (table .entry)) (now (starts .entry))) style (x .high)) 2 (granted (wholeText (entriesBy (now (table .entry)) (now (starts .entry))) style x))) (now (out .entry)) (now (out .exit)) ⌝ }
 {
     let w = room(measure_whole(table, starts, style, x), out.len());
     if let Written::Length(_) = w {
@@ -325,7 +325,7 @@ fn write_whole(table: &[u8], starts: &[usize], style: Style, x: Range, out: &mut
 
 // How long the text of a range whose high end is not shown is.
 fn measure_low(table: &[u8], starts: &[usize], style: Style, x: Range) -> Measure
-    ensures { λ r. ⌜ Counted (labelNamed (entriesBy (now (table .entry)) (now (starts .entry))) style (x .low)) (lowText (entriesBy (now (table .entry)) (now (starts .entry))) style x) (8 + maxLabel) r ⌝ }
+    ensures { λ r. ⌜ Counted (allNamed (entriesBy (now (table .entry)) (now (starts .entry))) style (x .low)) (lowText (entriesBy (now (table .entry)) (now (starts .entry))) style x) (8 + maxLabel) r ⌝ }
 {
     let low = measure_label(table, starts, style, x.low);
     let Measure::Bytes(n) = low else {
@@ -345,7 +345,7 @@ fn put_low(table: &[u8], starts: &[usize], style: Style, x: Range, out: &mut [u8
 
 // Writes a range whose high end is not shown.
 fn write_low(table: &[u8], starts: &[usize], style: Style, x: Range, out: &mut [u8]) -> Written
-    ensures { λ r. ⌜ WrittenTo r (require (labelNamed (entriesBy (now (table .entry)) (now (starts .entry))) style (x .low)) 2 (granted (lowText (entriesBy (now (table .entry)) (now (starts .entry))) style x))) (now (out .entry)) (now (out .exit)) ⌝ }
+    ensures { λ r. ⌜ WrittenTo r (require (allNamed (entriesBy (now (table .entry)) (now (starts .entry))) style (x .low)) 2 (granted (lowText (entriesBy (now (table .entry)) (now (starts .entry))) style x))) (now (out .entry)) (now (out .exit)) ⌝ }
 {
     let w = room(measure_low(table, starts, style, x), out.len());
     if let Written::Length(_) = w {

@@ -1,6 +1,5 @@
 use borrow.Author.Needs.{needs}
-use mathlib.Core.Option.{none, some}
-use mathlib.Core.Path.{_≡_, sym, ap, _∙_}
+use mathlib.Core.Path.{sym, ap, _∙_}
 use Rattle.alias.specs.Lookup.{foundOf}
 use Rattle.text.proofs.WriteLaws.{name-counted, name-missing}
 use Rattle.text.proofs.name.measure_name.Statement.{statement}

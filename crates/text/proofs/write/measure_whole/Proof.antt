@@ -2,7 +2,7 @@ use borrow.Author.Needs.{needs}
 use mathlib.Core.Bool.{and-false}
 use native.Mathlib.Omega.{arith}
 use Rattle.alias.specs.Lines.{entriesBy}
-use Rattle.text.specs.Write.{labelNamed}
+use Rattle.text.specs.Write.{allNamed}
 use Rattle.text.proofs.PartLaws.{whole-counts}
 use Rattle.text.proofs.WriteLaws.{counted, counts, missed, misses}
 use Rattle.text.proofs.write.measure_whole.Statement.{statement}
@@ -33,7 +33,7 @@ returns-2 : tie.Need-returns-2
 returns-2 c =
     let m = c .before .before in
     let a = m .before .before .before .before .before .before .before .args in
-    misses (rw (missed (m .measure-label2 .ensures) (c .enum-told2 .given .1)) (and-false (labelNamed (entriesBy (a .table .now) (a .starts .now)) (a .style) (a .x .low))))
+    misses (rw (missed (m .measure-label2 .ensures) (c .enum-told2 .given .1)) (and-false (allNamed (entriesBy (a .table .now) (a .starts .now)) (a .style) (a .x .low))))
 
 add-t9 : tie.Need-add-t9
 add-t9 c =

@@ -1,6 +1,5 @@
 use borrow.Author.Needs.{needs}
 use mathlib.Core.Path.{sym, ap, _∙_}
-use native.Mathlib.Omega.{arith}
 use Rattle.alias.specs.Lookup.{foundOf}
 use Rattle.text.specs.Write.{textIn}
 use Rattle.text.proofs.PartLaws.{alias-text, definition-instead}

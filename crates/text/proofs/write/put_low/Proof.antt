@@ -2,7 +2,7 @@ use borrow.Author.Needs.{needs}
 use native.Mathlib.Omega.{arith}
 use Rattle.alias.specs.Lines.{entriesBy}
 use Rattle.octets.proofs.ByteLaws.{appended-put, put-same-length, then-appended, then-put}
-use Rattle.text.specs.Write.{labelText, lowMarker, lowText}
+use Rattle.text.specs.Write.{labelText, lowText}
 use Rattle.text.proofs.PartLaws.{low-front, low-length}
 use Rattle.text.proofs.write.put_low.Statement.{statement}
 use Rattle.text.proofs.write.put_low.Tie as tie

@@ -5,7 +5,7 @@ use mathlib.Core.Path.{refl, sym, ap₂, _∙_}
 use Rattle.label.specs.declared.errno.Errno.the-variants.{Access, Invalid}
 use Rattle.label.proofs.AnswerLaws.{passed, stopped}
 use Rattle.alias.specs.Lines.{entriesBy}
-use Rattle.text.specs.Write.{labelNamed, lowText, wholeText, writeRangeOf}
+use Rattle.text.specs.Write.{allNamed, lowText, wholeText, writeRangeOf}
 use Rattle.text.proofs.RoomLaws.{range-refusal, range-same, range-written}
 use Rattle.text.proofs.write.write_range_checked.Statement.{statement}
 use Rattle.text.proofs.write.write_range_checked.Tie as tie
@@ -66,7 +66,7 @@ returns-3 c =
     let v = e .before in
     let a = v .before .before .before .before .before .args in
     let es = entriesBy (a .table .now) (a .starts .now) in
-    range-same (range-written _ _ _ (labelNamed es (a .style) (a .x .low) && labelNamed es (a .style) (a .x .high)) (wholeText es (a .style) (a .x)) 0 (c .with-status3 .ensures) (w .write-whole .ensures))
+    range-same (range-written _ _ _ (allNamed es (a .style) (a .x .low) && allNamed es (a .style) (a .x .high)) (wholeText es (a .style) (a .x)) 0 (c .with-status3 .ensures) (w .write-whole .ensures))
     (passed _ 22 _ (ap₂ _&&_ (sym (v .before .valid .ensures)) (sym (v .valid2 .ensures)) ∙ not-false _ (e .if1 .left))
     ∙ passed _ 13 _ (sym (f .before .sees .ensures) ∙ not-false _ (f .if2 .left))
     ∙ rw (← t .before .sees2 .ensures, t .if3 .taken))
@@ -90,7 +90,7 @@ returns-4 c =
     let v = e .before in
     let a = v .before .before .before .before .before .args in
     let es = entriesBy (a .table .now) (a .starts .now) in
-    range-same (range-written _ _ _ (labelNamed es (a .style) (a .x .low)) (lowText es (a .style) (a .x)) 1 (c .with-status4 .ensures) (w .write-low .ensures))
+    range-same (range-written _ _ _ (allNamed es (a .style) (a .x .low)) (lowText es (a .style) (a .x)) 1 (c .with-status4 .ensures) (w .write-low .ensures))
     (passed _ 22 _ (ap₂ _&&_ (sym (v .before .valid .ensures)) (sym (v .valid2 .ensures)) ∙ not-false _ (e .if1 .left))
     ∙ passed _ 13 _ (sym (f .before .sees .ensures) ∙ not-false _ (f .if2 .left))
     ∙ rw (← t .before .sees2 .ensures, t .if3 .left))
