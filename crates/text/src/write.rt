@@ -32,10 +32,10 @@ ghost use Rattle.octets.specs.Bytes.{Put};
 ghost use Rattle.alias.specs.Lines.{entriesBy};
 ghost use Rattle.text.specs.Measure.{Counted, maxCategories, maxLabel, measureOf, roomOf};
 ghost use Rattle.text.specs.Subject.{withTable};
-ghost use Rattle.text.specs.Write.{RangeWrittenTo, categoriesNamed, categoriesText, colon, definitionNamed, definitionText, allNamed, labelText, lowText, nameFor, wholeText, writeLabelOf, writeRangeOf};
+ghost use Rattle.text.specs.Write.{RangeWrittenTo, allNamed, categoriesNamed, categoriesText, colon, definitionNamed, definitionText, labelText, lowText, nameFor, wholeText, writeLabelOf, writeRangeOf};
 
 // One past the last category.
-const CATEGORIES: u64 = 256;
+const CATEGORIES: u64 = (WORDS * 64) as u64;
 
 // How long the names of categories are, each with its mark.
 fn measure_categories(
