@@ -8,7 +8,7 @@ use lib.Dec.{ltb}
 use lib.ListN.{length}
 use Rattle.label.specs.Errno.{detailOf, numberOf}
 use Rattle.label.specs.declared.errno.Errno.{Errno}
-use Rattle.octets.specs.Bytes.{blank, lf}
+use Rattle.octets.specs.Bytes.{ascii, blank, lf}
 
 -- the byte of a decimal digit
 abbrev pub digit : ℕ → ℕ
@@ -23,9 +23,8 @@ decimalIn (suc k) n = cond (ltb n 10) (digit n ∷ []) (decimalIn k (n / 10) ++ 
 unfoldable pub decimalOf : ℕ → List ℕ
 decimalOf n = decimalIn (suc n) n
 
--- `error `
 unfoldable pub errorWord : List ℕ
-errorWord = 101 ∷ 114 ∷ 114 ∷ 111 ∷ 114 ∷ blank ∷ []
+errorWord = ascii "error "
 
 -- a blank and the one more number that a refusal may carry
 unfoldable pub carriedText : Option ℕ → List ℕ

@@ -9,50 +9,37 @@ use Rattle.label.specs.Index.{every, tabulate}
 use Rattle.label.specs.Label
 use Rattle.label.specs.Label.{equalOf, labelOf, zeroLabel}
 use Rattle.label.specs.Words.{bit, has, includesOf, sameOf}
-use Rattle.range.specs.Tuple
-use Rattle.range.specs.Tuple.{emptyTuple, validAt}
 use Rattle.frame.specs.Frame.{bodyOf, bytesOf, checkOf, digitOf, digitsOf, frameOf, framedOf, isDigit, spelledOf, sumOf, valueOf}
+use Rattle.octets.specs.Bytes.{ascii}
 use Rattle.hexline.specs.Body.{categoryByte, labelBytes, lineWords, numberOf}
 use Rattle.hexline.specs.Entry
 use Rattle.hexline.specs.Entry.{abbreviationText, entryBytes, entryFrom, entryOf, isLetter, isNameByte, labelFrom, layoutOf, maxAbbreviation, nameByteOk, nameOf, nameText, textByte, textFrom, valueBytes, valueFrom, valueOk, valueSize}
-use Rattle.hexline.specs.Line.{contentsOf, entryBody, entryForm, entryLineOf, formOf, kindOf, readEntryOf, readTupleOf, tupleBody, tupleForm, tupleLineOf}
-use Rattle.hexline.specs.Regions.{presenceOf, presentBelow, regionAt, regionBytes, regionsBytes, tupleAt}
+use Rattle.hexline.specs.Line.{contentsOf, entryBody, entryForm, entryLineOf, formOf, kindOf, readEntryOf, readTupleOf, tupleForm}
+use Rattle.hexline.specs.Regions.{presentBelow}
 use Rattle.hexline.specs.declared.entry.Entry.{Entry}
 use Rattle.hexline.specs.declared.entry.Value.the-variants.{Category, Hierarchy}
 
--- `0300fd`, the empty tuple
-emptyLine : List ℕ
-emptyLine = 48 ∷ 51 ∷ 48 ∷ 48 ∷ 102 ∷ 100 ∷ 10 ∷ []
-
--- `040114036c6f770092`: "low" is hierarchy 20
+-- "low" is hierarchy 20
 lowLine : List ℕ
-lowLine = 48 ∷ 52 ∷ 48 ∷ 49 ∷ 49 ∷ 52 ∷ 48 ∷ 51 ∷ 54 ∷ 99 ∷ 54 ∷ 102 ∷ 55 ∷ 55 ∷ 48 ∷ 48 ∷ 57 ∷ 50 ∷ 10 ∷ []
+lowLine = ascii "040114036c6f770092\n"
 
 low : Entry
 low =
-    entryOf (Hierarchy 20) zeroLabel (nameText (108 ∷ 111 ∷ 119 ∷ [] ++ replicate 28 0) 3) (abbreviationText (replicate maxAbbreviation 0) 0)
+    entryOf (Hierarchy 20) zeroLabel (nameText (ascii "low" ++ replicate 28 0) 3) (abbreviationText (replicate maxAbbreviation 0) 0)
 
--- `04020704656173740165dc`: "east", short "e", is category 7
+-- "east", short "e", is category 7
 eastLine : List ℕ
-eastLine = 48 ∷ 52 ∷ 48 ∷ 50 ∷ 48 ∷ 55 ∷ 48 ∷ 52 ∷ 54 ∷ 53 ∷ 54 ∷ 49 ∷ 55 ∷ 51 ∷ 55 ∷ 52 ∷ 48 ∷ 49 ∷ 54 ∷ 53 ∷ 100 ∷ 99 ∷ 10 ∷ []
+eastLine = ascii "04020704656173740165dc\n"
 
 east : Entry
 east =
-    entryOf (Category 7) zeroLabel (nameText (101 ∷ 97 ∷ 115 ∷ 116 ∷ [] ++ replicate 27 0) 4) (abbreviationText (101 ∷ [] ++ replicate 14 0) 1)
+    entryOf (Category 7) zeroLabel (nameText (ascii "east" ++ replicate 27 0) 4) (abbreviationText (ascii "e" ++ replicate 14 0) 1)
 
 -- the same with its sum one too high
 eastWrong : List ℕ
-eastWrong = 48 ∷ 52 ∷ 48 ∷ 50 ∷ 48 ∷ 55 ∷ 48 ∷ 52 ∷ 54 ∷ 53 ∷ 54 ∷ 49 ∷ 55 ∷ 51 ∷ 55 ∷ 52 ∷ 48 ∷ 49 ∷ 54 ∷ 53 ∷ 100 ∷ 100 ∷ 10 ∷ []
+eastWrong = ascii "04020704656173740165dd\n"
 
 -- a line is written of its contents, and read as them
-empty-written : tupleLineOf emptyTuple ≡ granted emptyLine
-unfolding emptyLine Tuple.validOf validAt equalOf sameOf includesOf every tupleBody presenceOf numberOf regionsBytes regionBytes frameOf digitsOf digitOf checkOf sumOf
-empty-written = refl
-
-empty-read : readTupleOf emptyLine ≡ granted emptyTuple
-unfolding emptyLine Tuple.validOf validAt equalOf sameOf includesOf every tupleForm presentBelow tupleAt regionAt tabulate bit framedOf spelledOf bytesOf bodyOf valueOf isDigit sumOf contentsOf formOf
-empty-read = refl
-
 low-written : entryLineOf low ≡ granted lowLine
 unfolding lowLine low Label.validOf Entry.validOf valueOk nameOf nameByteOk isNameByte isLetter equalOf sameOf includesOf every entryBody entryBytes valueBytes frameOf digitsOf digitOf checkOf sumOf
 low-written = refl

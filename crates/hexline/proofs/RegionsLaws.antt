@@ -1,7 +1,7 @@
 -- The laws of tuples as bytes. Assumes nothing.
 use mathlib.Core.Bool.{Bool, true, false, cond}
 use mathlib.Core.List.{List, [], _++_}
-use mathlib.Core.Logic.{_⊎_, ⊎-elim}
+use mathlib.Core.Logic.{⊎-elim}
 use mathlib.Core.Path.{_≡_, refl, sym, ap, ap₂, _∙_}
 use Prim.Native.Nat.{ℕ, zero, suc, _+_, _*_, _/_, _%_, _^_, _≤_, _<_}
 use native.Mathlib.Nat.{add-mul, eq-or-lt-of-le, lt-of-lt-of-le, mod-lt, mul-le-mul-right, suc-mul, zero-lt-suc, zero-mul}
@@ -12,7 +12,6 @@ use lib.ListN.{length, length-append}
 use lib.Pow.{pow-mono}
 use lib.Seq.{ext-getD}
 use Rattle.label.specs.Index.{tabulate}
-use Rattle.label.specs.Label
 use Rattle.label.specs.Region.{regions}
 use Rattle.label.specs.Words.{bit, words}
 use Rattle.label.proofs.IndexLaws.{tabulate-at, tabulate-length}

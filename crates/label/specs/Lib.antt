@@ -5,3 +5,4 @@ pub mod Buffer
 pub mod Words
 pub mod Region
 pub mod Label
+pub mod Example

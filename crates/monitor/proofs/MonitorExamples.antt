@@ -11,7 +11,7 @@ use Rattle.label.specs.Label as labels
 use Rattle.label.specs.Region.{regionOf}
 use Rattle.label.specs.Words.{bit, includesOf, sameOf}
 use Rattle.label.specs.declared.Label.{Label}
-use Rattle.label.proofs.LabelExamples.{exampleOf}
+use Rattle.label.specs.Example.{exampleOf}
 use Rattle.range.specs.Range.{containsOf, rangeOf, validOf as rangeValid}
 use Rattle.range.specs.Tuple.{absent, containsAt, emptyTuple, present, tupleOf, validAt}
 use Rattle.range.specs.Tuple as tuples

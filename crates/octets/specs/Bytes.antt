@@ -3,9 +3,16 @@
 use mathlib.Core.Bool.{Bool, true, false, _&&_, cond}
 use mathlib.Core.List.{List, [], _∷_, _++_}
 use mathlib.Core.Path.{_≡_}
+use Prim.Native.Char.{code}
 use Prim.Native.Nat.{ℕ, zero, suc, _+_, _≤_, max, min}
+use Prim.Native.String.{String, [] as end, _∷_ as _then_}
 use lib.Dec.{eqb, leb}
 use lib.ListN.{drop, length, take}
+
+-- the bytes of an ASCII text
+abbrev pub ascii : String → List ℕ
+ascii end = []
+ascii (c then s) = code c ∷ ascii s
 
 abbrev pub lf : ℕ
 lf = 10

@@ -1,36 +1,17 @@
--- The examples of document 01 on ranges and tuples, by computation. Assumes nothing.
+-- Which ranges and tuples are valid, on examples, by computation. Assumes nothing.
 use mathlib.Core.Bool.{true, false}
 use mathlib.Core.List.{[], _∷_}
-use mathlib.Core.Option.{none}
 use mathlib.Core.Path.{_≡_, refl}
-use Rattle.label.specs.Answer.{granted, refused}
-use Rattle.label.specs.Index.{every, tabulate}
-use Rattle.label.specs.Label.{dominatesOf, equalOf, lowerBoundOf, upperBoundOf}
+use Rattle.label.specs.Index.{every}
+use Rattle.label.specs.Label.{dominatesOf, equalOf}
 use Rattle.label.specs.Label as labels
 use Rattle.label.specs.Region.{regionOf}
-use Rattle.label.specs.Words.{combine, includesOf, intersectionOf, sameOf, unionOf}
-use Rattle.label.proofs.LabelExamples.{exampleOf}
-use Rattle.range.specs.Range.{commonOf, meetAnswerOf, meetOf, rangeOf, validOf}
-use Rattle.range.specs.Tuple.{absent, cutOf, emptyOf, emptyTuple, present, splitOf, tupleOf, validAt}
+use Rattle.label.specs.Words.{includesOf, sameOf}
+use Rattle.label.specs.Example.{exampleOf}
+use Rattle.range.specs.Range.{rangeOf, validOf}
+use Rattle.range.specs.Tuple.{absent, emptyOf, emptyTuple, present, tupleOf, validAt}
 use Rattle.range.specs.Tuple as tuples
 use Rattle.range.specs.declared.tuple.Tuple.{Tuple}
-
--- [(20,{}),(40,{1,2})] meets [(30,{2}),(50,{2,3})] in [(30,{2}),(40,{2})]
-meeting : meetAnswerOf (rangeOf (exampleOf 20 []) (exampleOf 40 (1 ∷ 2 ∷ []))) (rangeOf (exampleOf 30 (2 ∷ [])) (exampleOf 50 (2 ∷ 3 ∷ [])))
-    ≡ granted (rangeOf (exampleOf 30 (2 ∷ [])) (exampleOf 40 (2 ∷ [])))
-unfolding validOf commonOf meetOf labels.validOf dominatesOf includesOf every upperBoundOf unionOf lowerBoundOf intersectionOf combine tabulate
-meeting = refl
-
--- [(20,{1}),(40,{1})] and [(20,{}),(40,{2})]: 33
-apart : meetAnswerOf (rangeOf (exampleOf 20 (1 ∷ [])) (exampleOf 40 (1 ∷ []))) (rangeOf (exampleOf 20 []) (exampleOf 40 (2 ∷ []))) ≡ refused 33 none
-unfolding validOf commonOf meetOf labels.validOf dominatesOf includesOf every upperBoundOf unionOf lowerBoundOf intersectionOf combine tabulate
-apart = refl
-
--- [(10,{}),(30,{4})] splits into [(10,{}),(19,{4})] and [(20,{}),(30,{4})]
-splitting : splitOf (rangeOf (exampleOf 10 []) (exampleOf 30 (4 ∷ [])))
-    ≡ tupleOf (present (rangeOf (exampleOf 10 []) (exampleOf 19 (4 ∷ []))) ∷ present (rangeOf (exampleOf 20 []) (exampleOf 30 (4 ∷ []))) ∷ absent ∷ [])
-unfolding splitOf cutOf tabulate
-splitting = refl
 
 -- an empty tuple is valid
 empty-valid : tuples.validOf emptyTuple ≡ true

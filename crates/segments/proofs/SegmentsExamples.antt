@@ -1,9 +1,10 @@
--- Document 01's example of the board, played call by call. Assumes nothing.
-use mathlib.Core.List.{List, [], _∷_, _++_, map}
+-- The calls of document 01's "The board" on examples, played one after another, by computation. Assumes nothing.
+use mathlib.Core.List.{List, [], _∷_, map}
 use mathlib.Core.Option.{none}
 use mathlib.Core.Path.{_≡_, refl}
 use Prim.Native.Nat.{ℕ}
 use Rattle.label.specs.Answer.{Answer, granted, refused}
+use Rattle.label.specs.Example.{exampleOf}
 use Rattle.label.specs.Index.{every, firstFrom, sumFrom, tabulate}
 use Rattle.label.specs.Label
 use Rattle.label.specs.Words
@@ -46,7 +47,7 @@ expected es = map (λ e. e .answer) es
 
 -- (20,{}), and the clearance that has it alone
 abbrev l : Label
-l = Label.labelOf 20 (0 ∷ 0 ∷ 0 ∷ 0 ∷ [])
+l = exampleOf 20 []
 
 abbrev clearance : Tuple
 clearance = Tuple.tupleOf (Tuple.absent ∷ Tuple.present (Range.rangeOf l l) ∷ Tuple.absent ∷ [])
@@ -56,7 +57,7 @@ stepped s (make pool) = Operator.makeOf pool
 stepped s (admit t n) = Operator.admitOf s (tenantId t) n clearance
 stepped s (ceiling t n) = Operator.setCeilingOf s (tenantId t) n
 stepped s (call t a) = Calls.stepOf s (Calls.callOf (tenantId t) l a)
-stepped s (callUnder h t a) = Calls.stepOf s (Calls.callOf (tenantId t) (Label.labelOf h (0 ∷ 0 ∷ 0 ∷ 0 ∷ [])) a)
+stepped s (callUnder h t a) = Calls.stepOf s (Calls.callOf (tenantId t) (exampleOf h []) a)
 
 abbrev answers : SegmentTable → List Request → List (Answer Grant)
 answers s [] = []
@@ -77,24 +78,16 @@ look p = Look (record { slot = slot p })
 abbrev close : ℕ → Action
 close p = Close (record { slot = slot p })
 
--- pool 100, ceilings 60 and 40: document 01's example, request by request with its answer
-abbrev example : List Example
-example =
+-- pool 100, ceilings 60 and 40, of which all is used: each call, and each refusal
+abbrev examples : List Example
+examples =
     asked (make 100) (granted done)
     ∷ asked (admit 0 60) (granted done)
     ∷ asked (admit 1 40) (granted done)
-    ∷ asked (admit 2 1) (refused 12 none)
-    ∷ asked (call 0 (openFor 60)) (granted (opened (slot 0)))
-    ∷ asked (call 0 (openFor 1)) (refused 12 none)
+    ∷ asked (call 0 (openFor 59)) (granted (opened (slot 0)))
     ∷ asked (call 1 (openFor 40)) (granted (opened (slot 8)))
-    ∷ asked (call 0 (size 0 59)) (granted done)
     ∷ asked (call 0 (openFor 1)) (granted (opened (slot 1)))
-    ∷ []
-
--- and on from there: the other calls, and each refusal
-abbrev others : List Example
-others =
-    asked (call 0 (post 0 7)) (granted done)
+    ∷ asked (call 0 (post 0 7)) (granted done)
     ∷ asked (call 1 (look 0)) (granted (shown (segmentOf l 59 7)))
     ∷ asked (call 1 (size 0 1)) (refused 13 none)
     ∷ asked (call 2 (look 0)) (refused 22 none)
@@ -125,6 +118,6 @@ others =
     ∷ asked (make 1048577) (refused 22 none)
     ∷ []
 
-examples-hold : answers (emptyTable 0) (requests (example ++ others)) ≡ expected (example ++ others)
+examples-hold : answers (emptyTable 0) (requests examples) ≡ expected examples
 unfolding every firstFrom sumFrom tabulate Label.validOf Label.dominatesOf Label.equalOf Words.includesOf Words.sameOf Region.regionOf Range.validOf Range.containsOf Tuple.validAt Tuple.validOf Tuple.containsAt Tuple.containsOf Tuple.emptyOf Slots.firstSlot Slots.slotCount Slots.owns Slots.filled Slots.lowestEmpty Slots.pagesOf Slots.ceilingsOf Sound.admitted Sound.tenantSound Sound.clearedBy Sound.zeros Sound.slotSound Sound.underCeiling Sound.sound Operator.makeAnswer Operator.makeOf Operator.admitAnswer Operator.admitOf Operator.setCeilingAnswer Operator.setCeilingOf Calls.callValid Calls.cleared Calls.writable Calls.visible Calls.accessOf Calls.answerOf Calls.stepOf
 examples-hold = refl

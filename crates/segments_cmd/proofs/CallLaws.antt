@@ -1,5 +1,5 @@
 -- What a request leaves of a call's outcome, and what an operand line that was read decides. Assumes nothing.
-use mathlib.Core.Bool.{Bool, true, false, true≢false}
+use mathlib.Core.Bool.{true, false, true≢false}
 use mathlib.Core.Path.{_≡_, sym, _∙_}
 use Rattle.label.specs.Answer.{Answer, Answered, granted, grantedOf, refusedBy}
 use Rattle.label.specs.declared.answer.Outcome.{Outcome}

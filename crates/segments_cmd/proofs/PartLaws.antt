@@ -1,6 +1,6 @@
 -- A line that is written to the rest of a buffer. Assumes nothing.
 use mathlib.Core.Bool.{true}
-use mathlib.Core.List.{List, [], _++_, append-assoc, append-nil}
+use mathlib.Core.List.{List, [], append-assoc, append-nil}
 use mathlib.Core.Option.{Option}
 use mathlib.Core.Path.{_≡_, refl, sym, ap, _∙_}
 use Prim.Native.Nat.{ℕ, _+_, _-_, _≤_}
@@ -17,7 +17,6 @@ use Rattle.hexline.proofs.KindLaws.{label-line-length}
 use Rattle.label.specs.declared.Label.{Label}
 use Rattle.label.specs.Answer.{Answer, granted, refused}
 use Rattle.label.specs.Buffer.{WrittenTo, bufferOf, lengthOf, overlay}
-use Rattle.label.specs.declared.answer.Written.{Written}
 use Rattle.label.specs.declared.answer.Written.the-variants.{Length, Refused}
 use Rattle.label.specs.Errno.{detailOf, numberOf}
 use Rattle.label.specs.declared.errno.Errno.{Errno}

@@ -1,7 +1,7 @@
 -- The answers of calls as text. Assumes nothing.
 use mathlib.Core.List.{List, [], _∷_, _++_}
 use Prim.Native.Nat.{ℕ, _≤_}
-use Rattle.octets.specs.Bytes.{Put, blank, lf}
+use Rattle.octets.specs.Bytes.{Put, ascii, blank, lf}
 use Rattle.console.specs.Text.{decimalOf, errorText}
 use Rattle.hexline.specs.Line.{labelLineOf}
 use Rattle.label.specs.Answer.{Answer, granted, refused}
@@ -37,15 +37,13 @@ pub record PutWithin (limit : ℕ) (out : List ℕ) (at : ℕ) (bs : List ℕ) (
 
 -- `ok` and LF
 unfoldable pub okLine : List ℕ
-okLine = 111 ∷ 107 ∷ lf ∷ []
+okLine = ascii "ok\n"
 
--- `place `
 unfoldable pub placeWord : List ℕ
-placeWord = 112 ∷ 108 ∷ 97 ∷ 99 ∷ 101 ∷ blank ∷ []
+placeWord = ascii "place "
 
--- `shown `
 unfoldable pub shownWord : List ℕ
-shownWord = 115 ∷ 104 ∷ 111 ∷ 119 ∷ 110 ∷ blank ∷ []
+shownWord = ascii "shown "
 
 unfoldable pub placeText : Slot → List ℕ
 placeText p = field placeWord (p .0) ++ (lf ∷ [])

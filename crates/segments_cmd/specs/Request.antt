@@ -4,7 +4,7 @@ use mathlib.Core.List.{List, [], _∷_}
 use Prim.Native.Nat.{ℕ}
 use lib.Dec.{eqb}
 use lib.ListN.{getD}
-use Rattle.octets.specs.Bytes.{sameBytes}
+use Rattle.octets.specs.Bytes.{ascii, sameBytes}
 use Rattle.console.specs.Command.{commandOf, wordOf}
 use Rattle.console.specs.declared.command.Command.{Command}
 use Rattle.segments.specs.Segments.{slot, tenantId}
@@ -14,41 +14,32 @@ use Rattle.segments.specs.declared.TenantId.{TenantId}
 use Rattle.segments_cmd.specs.declared.request.Request.{Request}
 use Rattle.segments_cmd.specs.declared.request.Request.the-variants.{Invalid, Make, Admit, SetCeiling, Call, Show}
 
--- `show`
 unfoldable pub showWord : List ℕ
-showWord = 115 ∷ 104 ∷ 111 ∷ 119 ∷ []
+showWord = ascii "show"
 
--- `make`
 unfoldable pub makeWord : List ℕ
-makeWord = 109 ∷ 97 ∷ 107 ∷ 101 ∷ []
+makeWord = ascii "make"
 
--- `admit`
 unfoldable pub admitWord : List ℕ
-admitWord = 97 ∷ 100 ∷ 109 ∷ 105 ∷ 116 ∷ []
+admitWord = ascii "admit"
 
--- `ceiling`
 unfoldable pub ceilingWord : List ℕ
-ceilingWord = 99 ∷ 101 ∷ 105 ∷ 108 ∷ 105 ∷ 110 ∷ 103 ∷ []
+ceilingWord = ascii "ceiling"
 
--- `open`
 unfoldable pub openWord : List ℕ
-openWord = 111 ∷ 112 ∷ 101 ∷ 110 ∷ []
+openWord = ascii "open"
 
--- `size`
 unfoldable pub sizeWord : List ℕ
-sizeWord = 115 ∷ 105 ∷ 122 ∷ 101 ∷ []
+sizeWord = ascii "size"
 
--- `post`
 unfoldable pub postWord : List ℕ
-postWord = 112 ∷ 111 ∷ 115 ∷ 116 ∷ []
+postWord = ascii "post"
 
--- `look`
 unfoldable pub lookWord : List ℕ
-lookWord = 108 ∷ 111 ∷ 111 ∷ 107 ∷ []
+lookWord = ascii "look"
 
--- `close`
 unfoldable pub closeWord : List ℕ
-closeWord = 99 ∷ 108 ∷ 111 ∷ 115 ∷ 101 ∷ []
+closeWord = ascii "close"
 
 -- ---- the requests by their words, with 0, 1, 2 and 3 numbers
 

@@ -1,7 +1,7 @@
 -- The state as text, a line at a time. Assumes nothing.
 use mathlib.Core.List.{List, [], _∷_, _++_}
 use Prim.Native.Nat.{ℕ, _+_, _*_}
-use Rattle.octets.specs.Bytes.{blank, lf}
+use Rattle.octets.specs.Bytes.{ascii, blank, lf}
 use Rattle.label.specs.Words.{membersOf, words}
 use Rattle.label.specs.declared.Label.{Label}
 use Rattle.segments.specs.declared.Segment.{Segment}
@@ -22,37 +22,29 @@ labelBytes = 42 + categoriesBytes
 abbrev pub lineBytes : ℕ
 lineBytes = 128 + categoriesBytes
 
--- `pool `
 unfoldable pub poolWord : List ℕ
-poolWord = 112 ∷ 111 ∷ 111 ∷ 108 ∷ blank ∷ []
+poolWord = ascii "pool "
 
--- `tenant `
 unfoldable pub tenantWord : List ℕ
-tenantWord = 116 ∷ 101 ∷ 110 ∷ 97 ∷ 110 ∷ 116 ∷ blank ∷ []
+tenantWord = ascii "tenant "
 
--- ` ceiling `
 unfoldable pub ceilingWord : List ℕ
-ceilingWord = blank ∷ 99 ∷ 101 ∷ 105 ∷ 108 ∷ 105 ∷ 110 ∷ 103 ∷ blank ∷ []
+ceilingWord = ascii " ceiling "
 
--- ` pages `
 unfoldable pub pagesWord : List ℕ
-pagesWord = blank ∷ 112 ∷ 97 ∷ 103 ∷ 101 ∷ 115 ∷ blank ∷ []
+pagesWord = ascii " pages "
 
--- ` edition `
 unfoldable pub editionWord : List ℕ
-editionWord = blank ∷ 101 ∷ 100 ∷ 105 ∷ 116 ∷ 105 ∷ 111 ∷ 110 ∷ blank ∷ []
+editionWord = ascii " edition "
 
--- ` hierarchy `
 unfoldable pub hierarchyWord : List ℕ
-hierarchyWord = blank ∷ 104 ∷ 105 ∷ 101 ∷ 114 ∷ 97 ∷ 114 ∷ 99 ∷ 104 ∷ 121 ∷ blank ∷ []
+hierarchyWord = ascii " hierarchy "
 
--- ` categories`
 unfoldable pub categoriesWord : List ℕ
-categoriesWord = blank ∷ 99 ∷ 97 ∷ 116 ∷ 101 ∷ 103 ∷ 111 ∷ 114 ∷ 105 ∷ 101 ∷ 115 ∷ []
+categoriesWord = ascii " categories"
 
--- ` -`
 unfoldable pub noneWord : List ℕ
-noneWord = blank ∷ 45 ∷ []
+noneWord = ascii " -"
 
 -- a blank and a number for each
 unfoldable pub listText : List ℕ → List ℕ

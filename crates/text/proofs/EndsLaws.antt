@@ -3,10 +3,10 @@ use mathlib.Core.Bool.{Bool, true, false, cond, _&&_}
 use mathlib.Core.List.{List, [], _∷_, _++_, append-assoc}
 use mathlib.Core.Option.{Option}
 use mathlib.Core.Path.{_≡_, refl, sym, ap, _∙_}
-use Prim.Native.Nat.{ℕ, _+_}
+use Prim.Native.Nat.{ℕ}
 use native.Mathlib.Omega.{arith}
 use lib.Seq.{drop-append-seam, take-append-seam}
-use Rattle.label.specs.Answer.{Answer, andThen, granted, refused, require}
+use Rattle.label.specs.Answer.{Answer, andThen, granted, require}
 use Rattle.label.specs.Label
 use Rattle.label.specs.Words.{membersOf}
 use Rattle.label.specs.declared.Label.{Label}

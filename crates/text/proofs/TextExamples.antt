@@ -1,21 +1,20 @@
--- Document 01's example of names and text, and texts and tables with a fault, computed from the definitions. Assumes nothing.
+-- Texts, and tables and texts with a fault, computed from the definitions. Assumes nothing.
 use mathlib.Core.Bool.{true, false}
 use mathlib.Core.List.{List, [], _∷_, _++_}
 use mathlib.Core.Option.{none, some}
 use mathlib.Core.Path.{_≡_, refl}
 use Prim.Native.Nat.{ℕ}
 use Rattle.label.specs.Answer.{granted, refused}
-use Rattle.label.specs.Buffer.{lengthOf}
 use Rattle.label.specs.Index.{every, firstFrom, lastBelow, tabulate}
 use Rattle.label.specs.Label
 use Rattle.label.specs.Label.{dominatesOf, equalOf}
 use Rattle.label.specs.Words.{bit, combine, has, includesOf, membersBelow, membersOf, sameOf, singleOf, unionOf}
 use Rattle.label.specs.declared.Label.{Label}
-use Rattle.label.proofs.LabelExamples.{exampleOf}
+use Rattle.label.specs.Example.{exampleOf}
 use Rattle.range.specs.Range
 use Rattle.range.specs.declared.Range.{Range}
 use Rattle.frame.specs.Frame.{bodyOf, bytesOf, framedOf, isDigit, spelledOf, sumOf, valueOf}
-use Rattle.octets.specs.Bytes.{indexOf, sameBytes, split}
+use Rattle.octets.specs.Bytes.{ascii, indexOf, sameBytes, split}
 use Rattle.hexline.specs.Entry as entries
 use Rattle.hexline.specs.Entry.{entryFrom, isLetter, isNameByte, labelFrom, layoutOf, nameByteOk, nameOf, textByte, textFrom, valueFrom, valueOk, valueSize}
 use Rattle.hexline.specs.declared.entry.Entry.{Entry}
@@ -31,16 +30,12 @@ use Rattle.text.specs.declared.Style.{Style}
 use Rattle.text.specs.declared.Subject.{Subject}
 use Rattle.text.specs.declared.Variant.the-variants.{Names}
 
--- `040114036c6f770092`: "low" is hierarchy 20
+-- document 01's table: "low" is hierarchy 20; "east", short "e", is category 7
 abbrev lowLine : List ℕ
-lowLine = 48 ∷ 52 ∷ 48 ∷ 49 ∷ 49 ∷ 52 ∷ 48 ∷ 51 ∷ 54 ∷ 99 ∷ 54 ∷ 102 ∷ 55 ∷ 55 ∷ 48 ∷ 48 ∷ 57 ∷ 50 ∷ 10 ∷ []
-
--- `04020704656173740165dc`: "east", short "e", is category 7
-abbrev eastLine : List ℕ
-eastLine = 48 ∷ 52 ∷ 48 ∷ 50 ∷ 48 ∷ 55 ∷ 48 ∷ 52 ∷ 54 ∷ 53 ∷ 54 ∷ 49 ∷ 55 ∷ 51 ∷ 55 ∷ 52 ∷ 48 ∷ 49 ∷ 54 ∷ 53 ∷ 100 ∷ 99 ∷ 10 ∷ []
+lowLine = ascii "040114036c6f770092\n"
 
 abbrev table : List ℕ
-table = lowLine ++ eastLine
+table = lowLine ++ ascii "04020704656173740165dc\n"
 
 abbrev low : Label
 low = exampleOf 20 []
@@ -54,30 +49,27 @@ subject l = record { label = l; «read_override» = false }
 abbrev style : Style
 style = record { form = Definition; variant = Names }
 
--- `low:east`
 abbrev lowEastText : List ℕ
-lowEastText = 108 ∷ 111 ∷ 119 ∷ 58 ∷ 101 ∷ 97 ∷ 115 ∷ 116 ∷ []
+lowEastText = ascii "low:east"
 
 -- ---- one claim about tables, and one about texts
 
 -- the whole table is good; the later of two repeats is bad, a line that does not end, and the one after the last where the table is cut off
 tables : (checkOf false table ≡ granted (indexedOf (linesOf table))) × (checkOf false (table ++ lowLine) ≡ refused 22 (some 2))
-    × (checkOf false (lowLine ++ (48 ∷ [])) ≡ refused 22 (some 1)) × (checkOf true table ≡ refused 22 (some 2))
+    × (checkOf false (lowLine ++ ascii "0") ≡ refused 22 (some 1)) × (checkOf true table ≡ refused 22 (some 2))
 unfolding checkOf judgedOf badAt repeatsAt sharesOf calledOf sameBytes linesOf entriesOf standingIn firstFrom every tabulate contentsOf entryForm formOf entryFrom layoutOf valueSize valueFrom labelFrom textFrom textByte entries.validOf valueOk nameOf nameByteOk isNameByte isLetter Label.validOf equalOf sameOf includesOf framedOf spelledOf bytesOf bodyOf valueOf isDigit sumOf
 tables = (refl, refl, refl, refl)
 
 abbrev entriesHere : List Entry
 entriesHere = entriesOf (linesOf table)
 
--- (20,{7}) is `low:east`, for which a buffer of 7 answers 7 with 8; for the subject (20,{}) it is out of sight, and [(20,{}),(20,{7})] is
--- `-L low -H ?` with status 1; category 9 has no name. The text reads back, and is refused for that subject, as is `low:east,e`
-texts : (writeLabelOf entriesHere (subject lowEast) style lowEast ≡ granted lowEastText)
-    × (lengthOf (writeLabelOf entriesHere (subject lowEast) style lowEast) 7 ≡ refused 7 (some 8))
-    × (writeLabelOf entriesHere (subject low) style lowEast ≡ refused 13 none)
+-- for the subject (20,{}) (20,{7}) is out of sight, and [(20,{}),(20,{7})] is `-L low -H ?` with status 1; category 9 has no name. The text
+-- reads back, and is refused for that subject, as is `low:east,e`
+texts : (writeLabelOf entriesHere (subject low) style lowEast ≡ refused 13 none)
     × (writeLabelOf entriesHere (subject (exampleOf 20 (9 ∷ []))) style (exampleOf 20 (9 ∷ [])) ≡ refused 2 none)
-    × (writeRangeOf entriesHere (subject low) style (Range.rangeOf low lowEast) ≡ granted (record { status = 1; text = 45 ∷ 76 ∷ 32 ∷ 108 ∷ 111 ∷ 119 ∷ 32 ∷ 45 ∷ 72 ∷ 32 ∷ 63 ∷ [] }))
+    × (writeRangeOf entriesHere (subject low) style (Range.rangeOf low lowEast) ≡ granted (record { status = 1; text = ascii "-L low -H ?" }))
     × (readLabelOf entriesHere (subject lowEast) lowEastText ≡ granted lowEast)
     × (readLabelOf entriesHere (subject low) lowEastText ≡ plain)
-    × (readLabelOf entriesHere (subject lowEast) (lowEastText ++ (44 ∷ 101 ∷ [])) ≡ plain)
-unfolding linesOf entriesOf standingIn calledOf sameBytes firstFrom lastBelow every tabulate entryFrom layoutOf valueSize valueFrom labelFrom textFrom textByte Label.validOf Range.validOf dominatesOf equalOf sameOf includesOf combine unionOf singleOf bit has membersBelow membersOf bytesOf bodyOf valueOf isDigit lengthOf findOf lastOf sameValue standsFor seesOf categoriesNamed categoriesText definitionNamed definitionText lowText nameFor named namedIn textIn writtenName writeLabelOf writeRangeOf indexOf split categoriesRead categoryNamed composedOf entryNamed hierarchyNamed labelIn labelNamed labelSeen readLabelOf
-texts = (refl, refl, refl, refl, refl, refl, refl, refl)
+    × (readLabelOf entriesHere (subject lowEast) (ascii "low:east,e") ≡ plain)
+unfolding linesOf entriesOf standingIn calledOf sameBytes firstFrom lastBelow every tabulate entryFrom layoutOf valueSize valueFrom labelFrom textFrom textByte Label.validOf Range.validOf dominatesOf equalOf sameOf includesOf combine unionOf singleOf bit has membersBelow membersOf bytesOf bodyOf valueOf isDigit findOf lastOf sameValue standsFor seesOf categoriesNamed categoriesText definitionNamed definitionText lowText nameFor named namedIn textIn writtenName writeLabelOf writeRangeOf indexOf split categoriesRead categoryNamed composedOf entryNamed hierarchyNamed labelIn labelNamed labelSeen readLabelOf
+texts = (refl, refl, refl, refl, refl, refl)

@@ -13,6 +13,7 @@ use Rattle.label.specs.Words.{membersOf}
 use Rattle.label.specs.declared.Label.{Label}
 use Rattle.range.specs.Range
 use Rattle.range.specs.declared.Range.{Range}
+use Rattle.octets.specs.Bytes.{ascii}
 use Rattle.hexline.specs.Entry.{abbreviationBytes, nameBytes}
 use Rattle.hexline.specs.declared.entry.Entry.{Entry}
 use Rattle.hexline.specs.declared.entry.Value.{Value}
@@ -38,17 +39,14 @@ colon = 58
 abbrev pub comma : ℕ
 comma = 44
 
--- `-L `
 abbrev pub lowMarker : List ℕ
-lowMarker = 45 ∷ 76 ∷ 32 ∷ []
+lowMarker = ascii "-L "
 
--- ` -H `
 abbrev pub highMarker : List ℕ
-highMarker = 32 ∷ 45 ∷ 72 ∷ 32 ∷ []
+highMarker = ascii " -H "
 
--- ` -H ?`
 abbrev pub hiddenHigh : List ℕ
-hiddenHigh = 32 ∷ 45 ∷ 72 ∷ 32 ∷ 63 ∷ []
+hiddenHigh = ascii " -H ?"
 
 -- ---- names
 

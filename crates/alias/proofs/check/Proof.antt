@@ -10,9 +10,6 @@ use Rattle.alias.proofs.WalkLaws.{check-granted, check-repeat, check-st
 use Rattle.alias.proofs.check.Statement.{statement}
 use Rattle.alias.proofs.check.Tie as tie
 
-walk-requires : tie.Need-walk-requires
-walk-requires c κs = search needs
-
 add-starts : tie.Need-add-starts
 add-starts c = let f = walk-few (c .before .before .walk .ensures) in omega arith
 
@@ -23,21 +20,6 @@ slice-aggregate-first : tie.Need-slice-aggregate-first
 slice-aggregate-first c =
     let w = c .before .before .before .walk in
     sym (length-take-le (w .result .lines .count + 1) (w .result .lines .starts) (walk-room (w .ensures)))
-
-first-requires : tie.Need-first-requires
-first-requires c κs = search needs
-
-enum-known-repeat : tie.Need-enum-known-repeat
-enum-known-repeat c = search needs
-
-bad-requires : tie.Need-bad-requires
-bad-requires c κs = search needs
-
-enum-told : tie.Need-enum-told
-enum-told c = search needs
-
-bad-requires-2 : tie.Need-bad-requires-2
-bad-requires-2 c κs = search needs
 
 returns : tie.Need-returns
 returns c =
@@ -59,17 +41,5 @@ returns-3 c =
 
 pub check-spec : {M : Type 1} → statement M
 check-spec =
-    tie.close
-    (tie.spec
-    walk-requires
-    add-starts
-    array-share-prefix-starts
-    slice-aggregate-first
-    first-requires
-    enum-known-repeat
-    bad-requires
-    enum-told
-    bad-requires-2
-    returns
-    returns-2
-    returns-3)
+    tie.close (tie.spec (search needs) add-starts array-share-prefix-starts slice-aggregate-first (search needs) (search needs)
+    (search needs) (search needs) (search needs) returns returns-2 returns-3)

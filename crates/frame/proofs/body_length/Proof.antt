@@ -5,9 +5,6 @@ use Rattle.frame.proofs.FrameLaws.{body-length}
 use Rattle.frame.proofs.body_length.Statement.{statement}
 use Rattle.frame.proofs.body_length.Tie as tie
 
-sub-result : tie.Need-sub-result
-sub-result c = search needs
-
 returns : tie.Need-returns
 returns c = let n = body-length (c .before .args .line .now) in omega arith
 
@@ -15,4 +12,4 @@ returns-2 : tie.Need-returns-2
 returns-2 c = sym (body-length _)
 
 pub body-length-spec : {M : Type 1} → statement M
-body-length-spec = tie.close (tie.spec sub-result returns returns-2)
+body-length-spec = tie.close (tie.spec (search needs) returns returns-2)

@@ -6,9 +6,6 @@ use Rattle.frame.proofs.FrameLaws.{high-value, low-value, no-digit}
 use Rattle.frame.proofs.digit_value.Statement.{statement}
 use Rattle.frame.proofs.digit_value.Tie as tie
 
-is-digit-requires : tie.Need-is-digit-requires
-is-digit-requires c κs = search needs
-
 returns : tie.Need-returns
 returns c = (sym (no-digit _ (sym (c .before .is-digit .ensures) ∙ not-true _ (c .if1 .taken))), search needs)
 
@@ -29,5 +26,4 @@ returns-3 c =
     (sym (v .2), omega arith)
 
 pub digit-value-spec : {M : Type 1} → statement M
-digit-value-spec =
-    tie.close (tie.spec is-digit-requires returns sub-result sub-result-2 returns-2 returns-3)
+digit-value-spec = tie.close (tie.spec (search needs) returns sub-result sub-result-2 returns-2 returns-3)

@@ -22,12 +22,6 @@ loop-holds : tie.Need-loop-holds Inv-loop μ-loop
 unfolding sumOf digitsOf
 loop-holds c = (search needs, refl, refl)
 
-mul-put : tie.Need-mul-put Inv-loop μ-loop
-mul-put c = search needs
-
-shared-slice-read-put : tie.Need-shared-slice-read-put Inv-loop μ-loop
-shared-slice-read-put c = search needs
-
 put-requires : tie.Need-put-requires Inv-loop μ-loop
 put-requires c κs =
     let h = c .before .before .before in
@@ -35,20 +29,11 @@ put-requires c κs =
     let l = ap length (h .loop .inv .1) ∙ digits-fit _ _ (h .loop .i) (omega arith) p in
     omega arith
 
-shared-slice-read-s : tie.Need-shared-slice-read-s Inv-loop μ-loop
-shared-slice-read-s c = search needs
-
 cast-s : tie.Need-cast-s Inv-loop μ-loop
 cast-s c = omega (arith, c .shared-slice-known3 .given (c .before .before .before .before .before .before .before .loop .i))
 
 add-s : tie.Need-add-s Inv-loop μ-loop
 add-s c = record { fits = omega (arith, c .shared-slice-known3 .given (c .before .before .before .before .before .before .before .loop .i)) }
-
-add-i : tie.Need-add-i Inv-loop μ-loop
-add-i c = search needs
-
-loop-less : tie.Need-loop-less Inv-loop μ-loop
-loop-less c = search needs
 
 loop-again : tie.Need-loop-again Inv-loop μ-loop
 loop-again c =
@@ -78,19 +63,5 @@ returns c =
 
 pub spell-spec : {M : Type 1} → statement M
 spell-spec =
-    tie.close
-    (tie.spec
-    Inv-loop
-    μ-loop
-    loop-holds
-    mul-put
-    shared-slice-read-put
-    put-requires
-    shared-slice-read-s
-    cast-s
-    add-s
-    add-i
-    loop-less
-    loop-again
-    same-length
-    returns)
+    tie.close (tie.spec Inv-loop μ-loop loop-holds (search needs) (search needs) put-requires (search needs) cast-s add-s (search needs)
+    (search needs) loop-again same-length returns)

@@ -19,24 +19,6 @@ abbrev μ-loop : tie.MeasureT-loop
 loop-holds : tie.Need-loop-holds Inv-loop μ-loop
 loop-holds c = (search needs, refl)
 
-add-loop : tie.Need-add-loop Inv-loop μ-loop
-add-loop c = search needs
-
-shared-slice-read-is-digit : tie.Need-shared-slice-read-is-digit Inv-loop μ-loop
-shared-slice-read-is-digit c = search needs
-
-is-digit-requires : tie.Need-is-digit-requires Inv-loop μ-loop
-is-digit-requires c κs = search needs
-
-add-is-digit : tie.Need-add-is-digit Inv-loop μ-loop
-add-is-digit c = search needs
-
-shared-slice-read-is-digit-2 : tie.Need-shared-slice-read-is-digit-2 Inv-loop μ-loop
-shared-slice-read-is-digit-2 c = search needs
-
-is-digit-requires-2 : tie.Need-is-digit-requires-2 Inv-loop μ-loop
-is-digit-requires-2 c κs = search needs
-
 returns : tie.Need-returns Inv-loop μ-loop
 returns c =
     let h = c .before .before .before .before .before .before in
@@ -46,12 +28,6 @@ returns c =
     ap₂ _&&_ (sym (c .before .before .before .is-digit .ensures)) (sym (c .before .is-digit2 .ensures)) ∙ not-true _ (c .if1 .taken) in
     sym (h .loop .inv .1 ∙ spelled-next line i (omega arith) ∙ ap (λ (p : Bool). p && spelledOf (drop (i + 2) line)) no)
 
-add-i : tie.Need-add-i Inv-loop μ-loop
-add-i c = search needs
-
-loop-less : tie.Need-loop-less Inv-loop μ-loop
-loop-less c = search needs
-
 loop-again : tie.Need-loop-again Inv-loop μ-loop
 loop-again c =
     let h = c .before .before .before .before .before .before in
@@ -60,9 +36,6 @@ loop-again c =
     let yes : (isDigit (getD line i 0) && isDigit (getD line (i + 1) 0)) ≡ true =
     ap₂ _&&_ (sym (c .before .before .before .is-digit .ensures)) (sym (c .before .is-digit2 .ensures)) ∙ not-false _ (c .if1 .left) in
     (search needs, h .loop .inv .1 ∙ spelled-next line i (omega arith) ∙ ap (λ (p : Bool). p && spelledOf (drop (i + 2) line)) yes)
-
-shared-slice-read-result : tie.Need-shared-slice-read-result Inv-loop μ-loop
-shared-slice-read-result c = search needs
 
 returns-2 : tie.Need-returns-2 Inv-loop μ-loop
 returns-2 c =
@@ -76,21 +49,5 @@ returns-3 c =
 
 pub spelled-spec : {M : Type 1} → statement M
 spelled-spec =
-    tie.close
-    (tie.spec
-    Inv-loop
-    μ-loop
-    loop-holds
-    add-loop
-    shared-slice-read-is-digit
-    is-digit-requires
-    add-is-digit
-    shared-slice-read-is-digit-2
-    is-digit-requires-2
-    returns
-    add-i
-    loop-less
-    loop-again
-    shared-slice-read-result
-    returns-2
-    returns-3)
+    tie.close (tie.spec Inv-loop μ-loop loop-holds (search needs) (search needs) (search needs) (search needs) (search needs)
+    (search needs) returns (search needs) (search needs) loop-again (search needs) returns-2 returns-3)

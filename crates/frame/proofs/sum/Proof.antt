@@ -19,21 +19,6 @@ loop-holds : tie.Need-loop-holds Inv-loop μ-loop
 unfolding sumOf
 loop-holds c = (search needs, refl)
 
-byte-at-requires : tie.Need-byte-at-requires Inv-loop μ-loop
-byte-at-requires c κs = search needs
-
-cast-s : tie.Need-cast-s Inv-loop μ-loop
-cast-s c = search needs
-
-add-s : tie.Need-add-s Inv-loop μ-loop
-add-s c = search needs
-
-add-i : tie.Need-add-i Inv-loop μ-loop
-add-i c = search needs
-
-loop-less : tie.Need-loop-less Inv-loop μ-loop
-loop-less c = search needs
-
 loop-again : tie.Need-loop-again Inv-loop μ-loop
 loop-again c =
     let h = c .before .before in
@@ -42,9 +27,6 @@ loop-again c =
       search needs,
       ap (λ (b : ℕ). (h .loop .s + b) % 256) (c .byte-at .ensures) ∙ sum-next bs (h .loop .i) (h .loop .s) (omega arith) (h .loop .inv .1),
     )
-
-cast-result : tie.Need-cast-result Inv-loop μ-loop
-cast-result c = search needs
 
 returns : tie.Need-returns Inv-loop μ-loop
 returns c =
@@ -56,16 +38,5 @@ returns c =
 
 pub sum-spec : {M : Type 1} → statement M
 sum-spec =
-    tie.close
-    (tie.spec
-    Inv-loop
-    μ-loop
-    loop-holds
-    byte-at-requires
-    cast-s
-    add-s
-    add-i
-    loop-less
-    loop-again
-    cast-result
-    returns)
+    tie.close (tie.spec Inv-loop μ-loop loop-holds (search needs) (search needs) (search needs) (search needs) (search needs) loop-again
+    (search needs) returns)

@@ -17,41 +17,11 @@ use Rattle.frame.proofs.write.Tie as tie
 returns : tie.Need-returns
 returns c = writes-nothing Invalid _ _ _ (stopped _ 22 _ (lt-leb _ maxBody (c .if1 .taken))) refl
 
-mul-length : tie.Need-mul-length
-mul-length c = search needs
-
-add-length : tie.Need-add-length
-add-length c = search needs
-
 returns-2 : tie.Need-returns-2
 returns-2 c =
     let body = c .before .before .before .before .args .body .now in
     let n = frame-length body in
     too-short (frameOf body) _ _ _ (passed _ 22 _ (le-leb (length body) maxBody (c .before .if1 .left))) _ (sym n) (omega arith) refl
-
-spell-requires : tie.Need-spell-requires
-spell-requires c κs = search needs
-
-mul-put : tie.Need-mul-put
-mul-put c = search needs
-
-sub-put : tie.Need-sub-put
-sub-put c = search needs
-
-cast-put : tie.Need-cast-put
-cast-put c = search needs
-
-put-requires : tie.Need-put-requires
-put-requires c κs = search needs
-
-mul-out : tie.Need-mul-out
-mul-out c = search needs
-
-add-out : tie.Need-add-out
-add-out c = search needs
-
-slice-write-out : tie.Need-slice-write-out
-slice-write-out c = search needs
 
 same-length : tie.Need-same-length
 same-length c =
@@ -82,19 +52,5 @@ returns-3 c =
 
 pub write-spec : {M : Type 1} → statement M
 write-spec =
-    tie.close
-    (tie.spec
-    returns
-    mul-length
-    add-length
-    returns-2
-    spell-requires
-    mul-put
-    sub-put
-    cast-put
-    put-requires
-    mul-out
-    add-out
-    slice-write-out
-    same-length
-    returns-3)
+    tie.close (tie.spec returns (search needs) (search needs) returns-2 (search needs) (search needs) (search needs) (search needs)
+    (search needs) (search needs) (search needs) (search needs) same-length returns-3)

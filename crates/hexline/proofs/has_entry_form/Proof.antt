@@ -15,9 +15,6 @@ add-end c =
     let small = layout-small lineWords (bodyOf line) 1 (body-small line) (omega arith) (omega arith) in
     record { fits = rw (start .pre) (omega (arith, small .abbreviation, small .length)) }
 
-has-form-requires : tie.Need-has-form-requires
-has-form-requires c κs = search needs
-
 returns : tie.Need-returns
 unfolding entryForm
 returns c =
@@ -26,4 +23,4 @@ returns c =
     rw (f .has-form .ensures, p)
 
 pub has-entry-form-spec : {M : Type 1} → statement M
-has-entry-form-spec = tie.close (tie.spec add-end has-form-requires returns)
+has-entry-form-spec = tie.close (tie.spec add-end (search needs) returns)

@@ -3,15 +3,9 @@ use Rattle.hexline.specs.Line.{formOf}
 use Rattle.hexline.proofs.has_form.Statement.{statement}
 use Rattle.hexline.proofs.has_form.Tie as tie
 
-body-length-requires : tie.Need-body-length-requires
-body-length-requires c κs = search needs
-
-byte-requires : tie.Need-byte-requires
-byte-requires c κs = search needs
-
 returns : tie.Need-returns
 unfolding formOf
 returns c = rw (c .before .body-length .ensures, c .byte .ensures)
 
 pub has-form-spec : {M : Type 1} → statement M
-has-form-spec = tie.close (tie.spec body-length-requires byte-requires returns)
+has-form-spec = tie.close (tie.spec (search needs) (search needs) returns)

@@ -7,14 +7,8 @@ use Rattle.hexline.proofs.LineLaws.{kind-is, kind-none}
 use Rattle.hexline.proofs.kind_of.Statement.{statement}
 use Rattle.hexline.proofs.kind_of.Tie as tie
 
-framed-requires : tie.Need-framed-requires
-framed-requires c κs = search needs
-
 returns : tie.Need-returns
 returns c = sym (kind-none _ (λ f l h. true≢false (sym f ∙ sym (c .before .framed .ensures) ∙ not-true _ (c .if1 .taken))))
-
-byte-requires : tie.Need-byte-requires
-byte-requires c κs = search needs
 
 returns-2 : tie.Need-returns-2
 returns-2 c =
@@ -43,14 +37,4 @@ returns-6 c =
     sym (kind-none _ (λ f l h. c .if5 .left (omega (arith, c .before .if4 .left, c .before .before .if3 .left, c .before .before .before .if2 .left))))
 
 pub kind-of-spec : {M : Type 1} → statement M
-kind-of-spec =
-    tie.close
-    (tie.spec
-    framed-requires
-    returns
-    byte-requires
-    returns-2
-    returns-3
-    returns-4
-    returns-5
-    returns-6)
+kind-of-spec = tie.close (tie.spec (search needs) returns (search needs) returns-2 returns-3 returns-4 returns-5 returns-6)

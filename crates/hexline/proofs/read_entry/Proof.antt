@@ -12,12 +12,6 @@ use Rattle.hexline.proofs.LineLaws.{bad-contents, bad-form, grants}
 use Rattle.hexline.proofs.read_entry.Statement.{statement}
 use Rattle.hexline.proofs.read_entry.Tie as tie
 
-layout-at-requires : tie.Need-layout-at-requires
-layout-at-requires c κs = search needs
-
-framed-requires : tie.Need-framed-requires
-framed-requires c κs = search needs
-
 has-entry-form-requires : tie.Need-has-entry-form-requires
 has-entry-form-requires c κs = c .before .layout-at .ensures
 
@@ -27,9 +21,6 @@ entry-from-requires c κs =
     let line = l .before .before .args .line .now in
     let small = layout-small lineWords (bodyOf line) 1 (body-small line) (omega arith) (omega arith) in
     rw (l .layout-at .ensures) (omega arith, omega (arith, small .name), omega (arith, small .abbreviation))
-
-valid-requires : tie.Need-valid-requires
-valid-requires c κs = search needs
 
 returns : tie.Need-returns
 returns c =
@@ -42,9 +33,6 @@ returns c =
     (ap₂ _&&_ (sym (f .before .framed .ensures)) (sym (f .has-entry-form .ensures)) ∙ t .if1 .taken)
     (x .entry-from .ensures ∙ ap (entryFrom lineWords (bodyOf line) 2) (l .layout-at .ensures)) (sym (c .before .valid .ensures) ∙ c .if2 .taken)
 
-zero-requires : tie.Need-zero-requires
-zero-requires c κs = search needs
-
 returns-2 : tie.Need-returns-2
 returns-2 c =
     let v = c .before .before in
@@ -53,9 +41,6 @@ returns-2 c =
     let line = l .before .before .args .line .now in
     bad-contents (entryForm 4 lineWords) (entryIn lineWords) validOf line zeroEntry _ _
     (x .entry-from .ensures ∙ ap (entryFrom lineWords (bodyOf line) 2) (l .layout-at .ensures)) (sym (v .valid .ensures) ∙ c .before .if2 .left) (c .zero .ensures)
-
-zero-requires-2 : tie.Need-zero-requires-2
-zero-requires-2 c κs = search needs
 
 returns-3 : tie.Need-returns-3
 returns-3 c =
@@ -66,15 +51,5 @@ returns-3 c =
 
 pub read-entry-spec : {M : Type 1} → statement M
 read-entry-spec =
-    tie.close
-    (tie.spec
-    layout-at-requires
-    framed-requires
-    has-entry-form-requires
-    entry-from-requires
-    valid-requires
-    returns
-    zero-requires
-    returns-2
-    zero-requires-2
-    returns-3)
+    tie.close (tie.spec (search needs) (search needs) has-entry-form-requires entry-from-requires (search needs) returns (search needs)
+    returns-2 (search needs) returns-3)

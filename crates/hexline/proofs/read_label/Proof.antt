@@ -8,18 +8,6 @@ use Rattle.hexline.proofs.LineLaws.{bad-contents, bad-form, grants}
 use Rattle.hexline.proofs.read_label.Statement.{statement}
 use Rattle.hexline.proofs.read_label.Tie as tie
 
-framed-requires : tie.Need-framed-requires
-framed-requires c κs = search needs
-
-has-form-requires : tie.Need-has-form-requires
-has-form-requires c κs = search needs
-
-label-at-requires : tie.Need-label-at-requires
-label-at-requires c κs = search needs
-
-valid-requires : tie.Need-valid-requires
-valid-requires c κs = search needs
-
 returns : tie.Need-returns
 unfolding labelForm
 returns c =
@@ -29,18 +17,12 @@ returns c =
     grants (labelForm 1 lineWords) (labelIn lineWords) validOf (f .before .before .before .args .line .now) zeroLabel _
     (ap₂ _&&_ (sym (f .before .framed .ensures)) (sym (f .has-form .ensures)) ∙ t .if1 .taken) (l .label-at .ensures) (sym (c .before .valid .ensures) ∙ c .if2 .taken)
 
-zero-requires : tie.Need-zero-requires
-zero-requires c κs = search needs
-
 returns-2 : tie.Need-returns-2
 returns-2 c =
     let v = c .before .before in
     let l = v .before in
     bad-contents (labelForm 1 lineWords) (labelIn lineWords) validOf (l .before .before .before .before .before .args .line .now) zeroLabel _ _
     (l .label-at .ensures) (sym (v .valid .ensures) ∙ c .before .if2 .left) (c .zero .ensures)
-
-zero-requires-2 : tie.Need-zero-requires-2
-zero-requires-2 c κs = search needs
 
 returns-3 : tie.Need-returns-3
 unfolding labelForm
@@ -52,14 +34,5 @@ returns-3 c =
 
 pub read-label-spec : {M : Type 1} → statement M
 read-label-spec =
-    tie.close
-    (tie.spec
-    framed-requires
-    has-form-requires
-    label-at-requires
-    valid-requires
-    returns
-    zero-requires
-    returns-2
-    zero-requires-2
+    tie.close (tie.spec (search needs) (search needs) (search needs) (search needs) returns (search needs) returns-2 (search needs)
     returns-3)

@@ -12,12 +12,6 @@ use Rattle.hexline.proofs.LineLaws.{bad-contents, bad-form, form-length
 use Rattle.hexline.proofs.read_range.Statement.{statement}
 use Rattle.hexline.proofs.read_range.Tie as tie
 
-framed-requires : tie.Need-framed-requires
-framed-requires c κs = search needs
-
-has-form-requires : tie.Need-has-form-requires
-has-form-requires c κs = search needs
-
 range-at-requires : tie.Need-range-at-requires
 range-at-requires c κs =
     let f = c .before in
@@ -25,9 +19,6 @@ range-at-requires c κs =
     let h = form-length (bodyOf line) 67 2 (sym (f .has-form .ensures) ∙ second-true (f .before .framed .result) (f .has-form .result) (c .if1 .taken)) in
     let n = body-length line in
     omega arith
-
-valid-requires : tie.Need-valid-requires
-valid-requires c κs = search needs
 
 returns : tie.Need-returns
 unfolding rangeForm
@@ -38,18 +29,12 @@ returns c =
     grants (rangeForm 2 lineWords) (rangeIn lineWords) validOf (f .before .before .before .args .line .now) zeroRange _
     (ap₂ _&&_ (sym (f .before .framed .ensures)) (sym (f .has-form .ensures)) ∙ t .if1 .taken) (l .range-at .ensures) (sym (c .before .valid .ensures) ∙ c .if2 .taken)
 
-zero-requires : tie.Need-zero-requires
-zero-requires c κs = search needs
-
 returns-2 : tie.Need-returns-2
 returns-2 c =
     let v = c .before .before in
     let l = v .before in
     bad-contents (rangeForm 2 lineWords) (rangeIn lineWords) validOf (l .before .before .before .before .before .args .line .now) zeroRange _ _
     (l .range-at .ensures) (sym (v .valid .ensures) ∙ c .before .if2 .left) (c .zero .ensures)
-
-zero-requires-2 : tie.Need-zero-requires-2
-zero-requires-2 c κs = search needs
 
 returns-3 : tie.Need-returns-3
 unfolding rangeForm
@@ -61,14 +46,5 @@ returns-3 c =
 
 pub read-range-spec : {M : Type 1} → statement M
 read-range-spec =
-    tie.close
-    (tie.spec
-    framed-requires
-    has-form-requires
-    range-at-requires
-    valid-requires
-    returns
-    zero-requires
-    returns-2
-    zero-requires-2
+    tie.close (tie.spec (search needs) (search needs) range-at-requires (search needs) returns (search needs) returns-2 (search needs)
     returns-3)

@@ -14,15 +14,6 @@ use Rattle.hexline.proofs.LineLaws.{bad-contents, bad-form, grants, tup
 use Rattle.hexline.proofs.read_tuple.Statement.{statement}
 use Rattle.hexline.proofs.read_tuple.Tie as tie
 
-framed-requires : tie.Need-framed-requires
-framed-requires c κs = search needs
-
-has-tuple-form-requires : tie.Need-has-tuple-form-requires
-has-tuple-form-requires c κs = search needs
-
-byte-requires : tie.Need-byte-requires
-byte-requires c κs = search needs
-
 tuple-at-requires : tie.Need-tuple-at-requires
 tuple-at-requires c κs =
     let f = c .before .before in
@@ -30,9 +21,6 @@ tuple-at-requires c κs =
     let form = tuple-form-parts 3 lineWords (bodyOf line) (sym (f .has-tuple-form .ensures) ∙ second-true (f .before .framed .result) (f .has-tuple-form .result) (c .before .if1 .taken)) in
     let n = body-length line in
     (search needs, rw (c .byte .ensures) (omega arith))
-
-valid-requires : tie.Need-valid-requires
-valid-requires c κs = search needs
 
 returns : tie.Need-returns
 returns c =
@@ -44,9 +32,6 @@ returns c =
     (ap₂ _&&_ (sym (f .before .framed .ensures)) (sym (f .has-tuple-form .ensures)) ∙ e .if1 .taken)
     (t .tuple-at .ensures ∙ ap (λ (p : ℕ). tupleAt lineWords (bodyOf line) p 2) (t .before .byte .ensures)) (sym (c .before .valid .ensures) ∙ c .if2 .taken)
 
-empty-requires : tie.Need-empty-requires
-empty-requires c κs = search needs
-
 returns-2 : tie.Need-returns-2
 returns-2 c =
     let v = c .before .before in
@@ -54,9 +39,6 @@ returns-2 c =
     let line = t .before .before .before .before .before .before .args .line .now in
     bad-contents (tupleForm 3 lineWords) (tupleIn lineWords) validOf line emptyTuple _ _
     (t .tuple-at .ensures ∙ ap (λ (p : ℕ). tupleAt lineWords (bodyOf line) p 2) (t .before .byte .ensures)) (sym (v .valid .ensures) ∙ c .before .if2 .left) (c .empty .ensures)
-
-empty-requires-2 : tie.Need-empty-requires-2
-empty-requires-2 c κs = search needs
 
 returns-3 : tie.Need-returns-3
 returns-3 c =
@@ -67,15 +49,5 @@ returns-3 c =
 
 pub read-tuple-spec : {M : Type 1} → statement M
 read-tuple-spec =
-    tie.close
-    (tie.spec
-    framed-requires
-    has-tuple-form-requires
-    byte-requires
-    tuple-at-requires
-    valid-requires
-    returns
-    empty-requires
-    returns-2
-    empty-requires-2
-    returns-3)
+    tie.close (tie.spec (search needs) (search needs) (search needs) tuple-at-requires (search needs) returns (search needs) returns-2
+    (search needs) returns-3)

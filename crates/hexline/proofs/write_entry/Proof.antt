@@ -12,32 +12,14 @@ use Rattle.hexline.proofs.LineLaws.{writes-line}
 use Rattle.hexline.proofs.write_entry.Statement.{statement}
 use Rattle.hexline.proofs.write_entry.Tie as tie
 
-valid-requires : tie.Need-valid-requires
-valid-requires c κs = search needs
-
 returns : tie.Need-returns
 returns c = writes-nothing Invalid _ _ _ (stopped _ 22 _ (sym (c .before .valid .ensures) ∙ not-true _ (c .if1 .taken))) refl
-
-array-write-bytes : tie.Need-array-write-bytes
-array-write-bytes c = search needs
-
-slice-aggregate-put-entry : tie.Need-slice-aggregate-put-entry
-slice-aggregate-put-entry c = search needs
 
 put-entry-requires : tie.Need-put-entry-requires
 put-entry-requires c κs = (search needs, search needs, sym (c .before .before .valid .ensures) ∙ not-false _ (c .before .if1 .left))
 
-array-share-prefix-bytes : tie.Need-array-share-prefix-bytes
-array-share-prefix-bytes c = search needs
-
 slice-aggregate-write : tie.Need-slice-aggregate-write
 slice-aggregate-write c = let p = c .before .before in appended-count (p .put-entry .ensures .0) (omega (arith, p .put-entry .ensures .1))
-
-write-requires : tie.Need-write-requires
-write-requires c κs = search needs
-
-same-length : tie.Need-same-length
-same-length c = search needs
 
 returns-2 : tie.Need-returns-2
 unfolding entryBody
@@ -52,15 +34,5 @@ returns-2 c =
 
 pub write-entry-spec : {M : Type 1} → statement M
 write-entry-spec =
-    tie.close
-    (tie.spec
-    valid-requires
-    returns
-    array-write-bytes
-    slice-aggregate-put-entry
-    put-entry-requires
-    array-share-prefix-bytes
-    slice-aggregate-write
-    write-requires
-    same-length
-    returns-2)
+    tie.close (tie.spec (search needs) returns (search needs) (search needs) put-entry-requires (search needs) slice-aggregate-write
+    (search needs) (search needs) returns-2)

@@ -13,20 +13,8 @@ use Rattle.hexline.proofs.LineLaws.{writes-line}
 use Rattle.hexline.proofs.write_range.Statement.{statement}
 use Rattle.hexline.proofs.write_range.Tie as tie
 
-valid-requires : tie.Need-valid-requires
-valid-requires c κs = search needs
-
 returns : tie.Need-returns
 returns c = writes-nothing Invalid _ _ _ (stopped _ 22 _ (sym (c .before .valid .ensures) ∙ not-true _ (c .if1 .taken))) refl
-
-array-write-bytes : tie.Need-array-write-bytes
-array-write-bytes c = search needs
-
-slice-aggregate-put-range : tie.Need-slice-aggregate-put-range
-slice-aggregate-put-range c = search needs
-
-put-range-requires : tie.Need-put-range-requires
-put-range-requires c κs = search needs
 
 array-share-prefix-bytes : tie.Need-array-share-prefix-bytes
 array-share-prefix-bytes c =
@@ -42,12 +30,6 @@ slice-aggregate-write c =
     let l = range-length lineWords (p .before .before .before .before .before .args .x) in
     appended-count (p .put-range .ensures) (omega arith)
 
-write-requires : tie.Need-write-requires
-write-requires c κs = search needs
-
-same-length : tie.Need-same-length
-same-length c = search needs
-
 returns-2 : tie.Need-returns-2
 unfolding rangeBody
 returns-2 c =
@@ -60,15 +42,5 @@ returns-2 c =
 
 pub write-range-spec : {M : Type 1} → statement M
 write-range-spec =
-    tie.close
-    (tie.spec
-    valid-requires
-    returns
-    array-write-bytes
-    slice-aggregate-put-range
-    put-range-requires
-    array-share-prefix-bytes
-    slice-aggregate-write
-    write-requires
-    same-length
-    returns-2)
+    tie.close (tie.spec (search needs) returns (search needs) (search needs) (search needs) array-share-prefix-bytes slice-aggregate-write
+    (search needs) (search needs) returns-2)

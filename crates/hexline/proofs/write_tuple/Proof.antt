@@ -17,26 +17,8 @@ use Rattle.hexline.proofs.LineLaws.{writes-line}
 use Rattle.hexline.proofs.write_tuple.Statement.{statement}
 use Rattle.hexline.proofs.write_tuple.Tie as tie
 
-valid-requires : tie.Need-valid-requires
-valid-requires c κs = search needs
-
 returns : tie.Need-returns
 returns c = writes-nothing Invalid _ _ _ (stopped _ 22 _ (sym (c .before .valid .ensures) ∙ not-true _ (c .if1 .taken))) refl
-
-array-write-bytes : tie.Need-array-write-bytes
-array-write-bytes c = search needs
-
-presence-requires : tie.Need-presence-requires
-presence-requires c κs = search needs
-
-array-write-bytes-2 : tie.Need-array-write-bytes-2
-array-write-bytes-2 c = search needs
-
-slice-aggregate-put-regions : tie.Need-slice-aggregate-put-regions
-slice-aggregate-put-regions c = search needs
-
-put-regions-requires : tie.Need-put-regions-requires
-put-regions-requires c κs = search needs
 
 array-share-prefix-bytes : tie.Need-array-share-prefix-bytes
 array-share-prefix-bytes c =
@@ -52,12 +34,6 @@ slice-aggregate-write c =
     let l = regions-size lineWords (p .before .before .before .before .before .before .args .t) regions in
     appended-count (p .put-regions .ensures) (omega arith)
 
-write-requires : tie.Need-write-requires
-write-requires c κs = search needs
-
-same-length : tie.Need-same-length
-same-length c = search needs
-
 returns-2 : tie.Need-returns-2
 unfolding tupleBody
 returns-2 c =
@@ -72,17 +48,5 @@ returns-2 c =
 
 pub write-tuple-spec : {M : Type 1} → statement M
 write-tuple-spec =
-    tie.close
-    (tie.spec
-    valid-requires
-    returns
-    array-write-bytes
-    presence-requires
-    array-write-bytes-2
-    slice-aggregate-put-regions
-    put-regions-requires
-    array-share-prefix-bytes
-    slice-aggregate-write
-    write-requires
-    same-length
-    returns-2)
+    tie.close (tie.spec (search needs) returns (search needs) (search needs) (search needs) (search needs) (search needs)
+    array-share-prefix-bytes slice-aggregate-write (search needs) (search needs) returns-2)

@@ -4,12 +4,6 @@ use Rattle.input.specs.Input.{readOf}
 use Rattle.input.proofs.after_read.Statement.{statement}
 use Rattle.input.proofs.after_read.Tie as tie
 
-empty-input-requires : tie.Need-empty-input-requires
-empty-input-requires c κs = search needs
-
-last-requires : tie.Need-last-requires
-last-requires c κs = search needs
-
 returns : tie.Need-returns
 unfolding readOf
 returns c =
@@ -21,4 +15,4 @@ unfolding readOf
 returns-2 c = rw (ne-eqb (c .before .args .n) 0 (c .if1 .left))
 
 pub after-read-spec : {M : Type 1} → statement M
-after-read-spec = tie.close (tie.spec empty-input-requires last-requires returns returns-2)
+after-read-spec = tie.close (tie.spec (search needs) (search needs) returns returns-2)

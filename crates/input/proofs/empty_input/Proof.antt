@@ -2,11 +2,8 @@ use borrow.Author.Needs.{needs}
 use Rattle.input.proofs.empty_input.Statement.{statement}
 use Rattle.input.proofs.empty_input.Tie as tie
 
-start-requires : tie.Need-start-requires
-start-requires c κs = search needs
-
 returns : tie.Need-returns
 returns c = rw (c .start .ensures)
 
 pub empty-input-spec : {M : Type 1} → statement M
-empty-input-spec = tie.close (tie.spec start-requires returns)
+empty-input-spec = tie.close (tie.spec (search needs) returns)

@@ -2,17 +2,11 @@ use borrow.Author.Needs.{needs}
 use Rattle.input.proofs.turns_left.Statement.{statement}
 use Rattle.input.proofs.turns_left.Tie as tie
 
-returns : tie.Need-returns
-returns c = search needs
-
 returns-2 : tie.Need-returns-2
 returns-2 c = record { turns-is = rw (c .before .if1 .left, c .if2 .taken); fewer = search needs }
-
-sub-result : tie.Need-sub-result
-sub-result c = search needs
 
 returns-3 : tie.Need-returns-3
 returns-3 c = record { turns-is = rw (c .before .if1 .left); fewer = search needs }
 
 pub turns-left-spec : {M : Type 1} → statement M
-turns-left-spec = tie.close (tie.spec returns returns-2 sub-result returns-3)
+turns-left-spec = tie.close (tie.spec (λ c. search needs) returns-2 (search needs) returns-3)

@@ -2,12 +2,6 @@ use borrow.Author.Needs.{needs}
 use Rattle.label.proofs.dominates.Statement.{statement}
 use Rattle.label.proofs.dominates.Tie as tie
 
-both-valid-requires : tie.Need-both-valid-requires
-both-valid-requires c κs = search needs
-
-dominates-requires : tie.Need-dominates-requires
-dominates-requires c κs = search needs
-
 returns : tie.Need-returns
 returns c = rw (← c .before .before .before .before .both-valid .ensures, c .before .before .before .if1 .taken, c .dominates .ensures)
 
@@ -15,4 +9,4 @@ returns-2 : tie.Need-returns-2
 returns-2 c = rw (← c .before .both-valid .ensures, c .if1 .left)
 
 pub dominates-spec : {M : Type 1} → statement M
-dominates-spec = tie.close (tie.spec both-valid-requires dominates-requires returns returns-2)
+dominates-spec = tie.close (tie.spec (search needs) (search needs) returns returns-2)

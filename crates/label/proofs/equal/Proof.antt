@@ -2,12 +2,6 @@ use borrow.Author.Needs.{needs}
 use Rattle.label.proofs.equal.Statement.{statement}
 use Rattle.label.proofs.equal.Tie as tie
 
-both-valid-requires : tie.Need-both-valid-requires
-both-valid-requires c κs = search needs
-
-equal-requires : tie.Need-equal-requires
-equal-requires c κs = search needs
-
 returns : tie.Need-returns
 returns c = rw (← c .before .before .before .before .both-valid .ensures, c .before .before .before .if1 .taken, c .equal .ensures)
 
@@ -15,4 +9,4 @@ returns-2 : tie.Need-returns-2
 returns-2 c = rw (← c .before .both-valid .ensures, c .if1 .left)
 
 pub equal-spec : {M : Type 1} → statement M
-equal-spec = tie.close (tie.spec both-valid-requires equal-requires returns returns-2)
+equal-spec = tie.close (tie.spec (search needs) (search needs) returns returns-2)

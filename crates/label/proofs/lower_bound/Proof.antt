@@ -6,19 +6,10 @@ use Rattle.label.proofs.AnswerLaws.{answers-grant, answers-refusal, pas
 use Rattle.label.proofs.lower_bound.Statement.{statement}
 use Rattle.label.proofs.lower_bound.Tie as tie
 
-both-valid-requires : tie.Need-both-valid-requires
-both-valid-requires c κs = search needs
-
-lower-bound-requires : tie.Need-lower-bound-requires
-lower-bound-requires c κs = search needs
-
 returns : tie.Need-returns
 returns c =
     let s = c .before .before .before in
     answers-grant _ zeroLabel _ _ (passed _ 22 _ (sym (s .before .both-valid .ensures) ∙ s .if1 .taken)) (c .lower-bound .ensures)
-
-zero-requires : tie.Need-zero-requires
-zero-requires c κs = search needs
 
 returns-2 : tie.Need-returns-2
 returns-2 c =
@@ -26,5 +17,4 @@ returns-2 c =
     answers-refusal Invalid _ zeroLabel _ (stopped _ 22 _ (sym (s .before .both-valid .ensures) ∙ s .if1 .left)) (c .zero .ensures)
 
 pub lower-bound-spec : {M : Type 1} → statement M
-lower-bound-spec =
-    tie.close (tie.spec both-valid-requires lower-bound-requires returns zero-requires returns-2)
+lower-bound-spec = tie.close (tie.spec (search needs) (search needs) returns (search needs) returns-2)

@@ -2,20 +2,12 @@ use borrow.Author.Needs.{needs}
 use mathlib.Core.Path.{sym, ap, _∙_}
 use Rattle.label.specs.Answer.{granted, testOf}
 use Rattle.label.specs.Errno.{detailOf, numberOf}
-use Rattle.label.specs.Label
 use Rattle.label.proofs.AnswerLaws.{grant-passed, grants-same, refusal-stopped, stopped}
-use Rattle.range.specs.Tuple
 use Rattle.monitor.specs.Monitor.{underTuple}
 use Rattle.monitor.proofs.ValidLaws.{implies-first, tested, tuple-refused}
 use Rattle.monitor.proofs.NeedsLaws.{decide-needed}
 use Rattle.monitor.proofs.check.Statement.{statement}
 use Rattle.monitor.proofs.check.Tie as tie
-
-contained-requires : tie.Need-contained-requires
-contained-requires c κs = search needs
-
-enum-known-t : tie.Need-enum-known-t
-enum-known-t c = search needs
 
 check-tested-requires : tie.Need-check-tested-requires
 check-tested-requires c κs =
@@ -24,12 +16,6 @@ check-tested-requires c κs =
     let inside = underTuple (r .credentials .label) (r .object) in
     let h = grant-passed (tested (r .credentials .label) (r .object)) 22 (c .before .t .given .0 .0) (granted inside) (ap testOf (sym (c .before .t .given .1)) ∙ k .contained .ensures) in
     (implies-first (r .object .present .tuple) _ _ (h .0), grants-same _ inside (h .1))
-
-enum-told : tie.Need-enum-told
-enum-told c = search needs
-
-returns : tie.Need-returns
-returns c = search needs
 
 returns-2 : tie.Need-returns-2
 returns-2 c =
@@ -40,4 +26,4 @@ returns-2 c =
     sym (decide-needed r ∙ stopped _ 22 _ (tuple-refused r h))
 
 pub check-spec : {M : Type 1} → statement M
-check-spec = tie.close (tie.spec contained-requires enum-known-t check-tested-requires enum-told returns returns-2)
+check-spec = tie.close (tie.spec (search needs) (search needs) check-tested-requires (search needs) (λ c. search needs) returns-2)

@@ -8,17 +8,8 @@ use Rattle.monitor.proofs.NeedsLaws.{decide-needed}
 use Rattle.monitor.proofs.check_tested.Statement.{statement}
 use Rattle.monitor.proofs.check_tested.Tie as tie
 
-valid-requires : tie.Need-valid-requires
-valid-requires c κs = search needs
-
 returns : tie.Need-returns
 returns c = sym (decide-needed _ ∙ stopped _ 22 _ (sym (c .before .valid .ensures) ∙ not-true _ (c .if1 .taken)))
-
-needed-requires : tie.Need-needed-requires
-needed-requires c κs = search needs
-
-answer-requires : tie.Need-answer-requires
-answer-requires c κs = search needs
 
 returns-2 : tie.Need-returns-2
 returns-2 c =
@@ -29,4 +20,4 @@ returns-2 c =
     ∙ sym (decide-needed r ∙ passed _ 22 _ (sym (e .before .valid .ensures) ∙ not-false _ (e .if1 .left)))
 
 pub check-tested-spec : {M : Type 1} → statement M
-check-tested-spec = tie.close (tie.spec valid-requires returns needed-requires answer-requires returns-2)
+check-tested-spec = tie.close (tie.spec (λ c. search needs) returns (λ c. search needs) (search needs) returns-2)

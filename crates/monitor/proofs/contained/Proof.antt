@@ -3,9 +3,6 @@ use Rattle.monitor.proofs.ValidLaws.{tested-absent, tested-there}
 use Rattle.monitor.proofs.contained.Statement.{statement}
 use Rattle.monitor.proofs.contained.Tie as tie
 
-contains-requires : tie.Need-contains-requires
-contains-requires c κs = search needs
-
 returns : tie.Need-returns
 returns c = tested-there _ _ _ _ (c .before .if1 .taken) (c .contains .ensures)
 
@@ -13,4 +10,4 @@ returns-2 : tie.Need-returns-2
 returns-2 c = tested-absent _ _ _ (c .if1 .left)
 
 pub contained-spec : {M : Type 1} → statement M
-contained-spec = tie.close (tie.spec contains-requires returns returns-2)
+contained-spec = tie.close (tie.spec (search needs) returns returns-2)

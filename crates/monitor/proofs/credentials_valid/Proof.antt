@@ -20,15 +20,6 @@ made x t t′ e h =
     value-of-test t t′ (Range.validOf (x .range) && Label.validOf (x .label)) (Range.containsOf (x .range) (x .label)) 22 e h
     ∙ credentials-tested x
 
-contains-requires : tie.Need-contains-requires
-contains-requires c κs = search needs
-
-enum-known-t : tie.Need-enum-known-t
-enum-known-t c = search needs
-
-enum-told : tie.Need-enum-told
-enum-told c = search needs
-
 returns : tie.Need-returns
 returns c = made _ _ _ (c .before .t .given .1) (c .before .before .before .contains .ensures)
 
@@ -36,4 +27,4 @@ returns-2 : tie.Need-returns-2
 returns-2 c = made _ _ _ (c .enum-told .given .1) (c .before .before .contains .ensures)
 
 pub credentials-valid-spec : {M : Type 1} → statement M
-credentials-valid-spec = tie.close (tie.spec contains-requires enum-known-t enum-told returns returns-2)
+credentials-valid-spec = tie.close (tie.spec (search needs) (search needs) (search needs) returns returns-2)

@@ -3,9 +3,6 @@ use Rattle.monitor.specs.Monitor.{metOf}
 use Rattle.monitor.proofs.met.Statement.{statement}
 use Rattle.monitor.proofs.met.Tie as tie
 
-under-label-requires : tie.Need-under-label-requires
-under-label-requires c κs = search needs
-
 returns : tie.Need-returns
 unfolding metOf
 returns c = rw (c .before .if1 .taken, c .under-label .ensures)
@@ -15,4 +12,4 @@ unfolding metOf
 returns-2 c = search needs
 
 pub met-spec : {M : Type 1} → statement M
-met-spec = tie.close (tie.spec under-label-requires returns returns-2)
+met-spec = tie.close (tie.spec (search needs) returns returns-2)

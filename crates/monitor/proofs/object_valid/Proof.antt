@@ -5,12 +5,9 @@ use mathlib.Core.Path.{sym}
 use Rattle.monitor.proofs.object_valid.Statement.{statement}
 use Rattle.monitor.proofs.object_valid.Tie as tie
 
-valid-requires : tie.Need-valid-requires
-valid-requires c κs = search needs
-
 returns : tie.Need-returns
 unfolding objectValid
 returns c = rw (c .valid .ensures, c .before .before .before .pre) (sym (and-true _))
 
 pub object-valid-spec : {M : Type 1} → statement M
-object-valid-spec = tie.close (tie.spec valid-requires returns)
+object-valid-spec = tie.close (tie.spec (search needs) returns)

@@ -11,14 +11,8 @@ tested : (s : tie.After-fits2)
     (length (s .before .before .before .args .text .now)) (s .fits2 .result)
 tested s = record { count = refl; room = s .fits2 .ensures }
 
-fits-requires : tie.Need-fits-requires
-fits-requires c κs = search needs
-
 put-requires : tie.Need-put-requires
 put-requires c κs = room-for (tested (c .before .before)) (c .before .if1 .taken)
-
-same-length : tie.Need-same-length
-same-length c = search needs
 
 returns : tie.Need-returns
 returns c = let t = c .before .before .before .before in appended (tested (t .before)) (t .if1 .taken) (c .before .before .put .ensures)
@@ -27,4 +21,4 @@ returns-2 : tie.Need-returns-2
 returns-2 c = left-out (tested (c .before)) (c .if1 .left)
 
 pub append-spec : {M : Type 1} → statement M
-append-spec = tie.close (tie.spec fits-requires put-requires same-length returns returns-2)
+append-spec = tie.close (tie.spec (search needs) put-requires (search needs) returns returns-2)

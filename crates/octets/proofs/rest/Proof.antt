@@ -7,22 +7,10 @@ use lib.Seq.{take-all}
 use Rattle.octets.proofs.rest.Statement.{statement}
 use Rattle.octets.proofs.rest.Tie as tie
 
-sub-result : tie.Need-sub-result
-sub-result c = search needs
-
-part-result-start : tie.Need-part-result-start
-part-result-start c = search needs
-
-part-result-end : tie.Need-part-result-end
-part-result-end c = search needs
-
 returns : tie.Need-returns
 returns c =
     let a = c .before .before .args in
     let xs = a .xs .now in take-all (length xs - a .from) (drop (a .from) xs) (omega (arith, length-drop (a .from) xs))
-
-slice-aggregate-result : tie.Need-slice-aggregate-result
-slice-aggregate-result c = search needs
 
 returns-2 : tie.Need-returns-2
 returns-2 c =
@@ -30,12 +18,4 @@ returns-2 c =
     let h : length (a .xs .now) ≤ a .from = omega arith in sym (drop-of-length-le (a .xs .now) h)
 
 pub rest-spec : {M : Type 1} → statement M
-rest-spec =
-    tie.close
-    (tie.spec
-    sub-result
-    part-result-start
-    part-result-end
-    returns
-    slice-aggregate-result
-    returns-2)
+rest-spec = tie.close (tie.spec (search needs) (search needs) (search needs) returns (search needs) returns-2)

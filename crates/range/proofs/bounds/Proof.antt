@@ -4,15 +4,9 @@ use Rattle.range.specs.Range.{meetOf, rangeOf}
 use Rattle.range.proofs.bounds.Statement.{statement}
 use Rattle.range.proofs.bounds.Tie as tie
 
-upper-bound-requires : tie.Need-upper-bound-requires
-upper-bound-requires c κs = search needs
-
-lower-bound-requires : tie.Need-lower-bound-requires
-lower-bound-requires c κs = search needs
-
 returns : tie.Need-returns
 unfolding meetOf
 returns c = ap₂ rangeOf (c .before .upper-bound .ensures) (c .lower-bound .ensures)
 
 pub bounds-spec : {M : Type 1} → statement M
-bounds-spec = tie.close (tie.spec upper-bound-requires lower-bound-requires returns)
+bounds-spec = tie.close (tie.spec (search needs) (search needs) returns)

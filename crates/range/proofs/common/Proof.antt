@@ -6,15 +6,9 @@ use Rattle.range.specs.declared.Range.{Range}
 use Rattle.range.proofs.common.Statement.{statement}
 use Rattle.range.proofs.common.Tie as tie
 
-bounds-requires : tie.Need-bounds-requires
-bounds-requires c κs = search needs
-
-dominates-requires : tie.Need-dominates-requires
-dominates-requires c κs = search needs
-
 returns : tie.Need-returns
 unfolding commonOf
 returns c = c .dominates .ensures ∙ ap₂ dominatesOf (ap (λ (m : Range). m .high) (c .before .bounds .ensures)) (ap (λ (m : Range). m .low) (c .before .bounds .ensures))
 
 pub common-spec : {M : Type 1} → statement M
-common-spec = tie.close (tie.spec bounds-requires dominates-requires returns)
+common-spec = tie.close (tie.spec (search needs) (search needs) returns)

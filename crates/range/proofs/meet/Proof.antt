@@ -10,33 +10,15 @@ use Rattle.range.proofs.meet.Tie as tie
 checked : (t : tie.Then1) → (validOf (t .before .before .before .args .x) && validOf (t .before .before .before .args .y)) ≡ true
 checked t = ap₂ _&&_ (sym (t .before .before .valid .ensures)) (sym (t .before .valid2 .ensures)) ∙ t .if1 .taken
 
-valid-requires : tie.Need-valid-requires
-valid-requires c κs = search needs
-
-valid-requires-2 : tie.Need-valid-requires-2
-valid-requires-2 c κs = search needs
-
-common-requires : tie.Need-common-requires
-common-requires c κs = search needs
-
-bounds-requires : tie.Need-bounds-requires
-bounds-requires c κs = search needs
-
 returns : tie.Need-returns
 returns c =
     let t = c .before .before .before in
     answers-grant _ zeroRange _ _ (passed _ 22 _ (checked t) ∙ passed _ 33 _ (sym (c .before .before .common .ensures) ∙ c .before .if2 .taken)) (c .bounds .ensures)
 
-zero-requires : tie.Need-zero-requires
-zero-requires c κs = search needs
-
 returns-2 : tie.Need-returns-2
 returns-2 c =
     let t = c .before .before .before in
     answers-refusal Domain _ zeroRange _ (passed _ 22 _ (checked t) ∙ stopped _ 33 _ (sym (c .before .before .common .ensures) ∙ c .before .if2 .left)) (c .zero .ensures)
-
-zero-requires-2 : tie.Need-zero-requires-2
-zero-requires-2 c κs = search needs
 
 returns-3 : tie.Need-returns-3
 returns-3 c =
@@ -45,14 +27,5 @@ returns-3 c =
 
 pub meet-spec : {M : Type 1} → statement M
 meet-spec =
-    tie.close
-    (tie.spec
-    valid-requires
-    valid-requires-2
-    common-requires
-    bounds-requires
-    returns
-    zero-requires
-    returns-2
-    zero-requires-2
+    tie.close (tie.spec (search needs) (search needs) (search needs) (search needs) returns (search needs) returns-2 (search needs)
     returns-3)

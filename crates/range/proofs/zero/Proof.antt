@@ -2,14 +2,8 @@ use borrow.Author.Needs.{needs}
 use Rattle.range.proofs.zero.Statement.{statement}
 use Rattle.range.proofs.zero.Tie as tie
 
-zero-requires : tie.Need-zero-requires
-zero-requires c κs = search needs
-
-zero-requires-2 : tie.Need-zero-requires-2
-zero-requires-2 c κs = search needs
-
 returns : tie.Need-returns
 returns c = cc
 
 pub zero-spec : {M : Type 1} → statement M
-zero-spec = tie.close (tie.spec zero-requires zero-requires-2 returns)
+zero-spec = tie.close (tie.spec (search needs) (search needs) returns)

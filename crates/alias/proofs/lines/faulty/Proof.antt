@@ -3,12 +3,9 @@ use Rattle.alias.specs.Walk.{faultyOf}
 use Rattle.alias.proofs.lines.faulty.Statement.{statement}
 use Rattle.alias.proofs.lines.faulty.Tie as tie
 
-accepted-requires : tie.Need-accepted-requires
-accepted-requires c κs = search needs
-
 returns : tie.Need-returns
 unfolding faultyOf
 returns c = rw (c .accepted .ensures)
 
 pub faulty-spec : {M : Type 1} → statement M
-faulty-spec = tie.close (tie.spec accepted-requires returns)
+faulty-spec = tie.close (tie.spec (search needs) returns)

@@ -7,18 +7,6 @@ use Rattle.alias.specs.Walk.{firstLength}
 use Rattle.alias.proofs.lines.line_end.Statement.{statement}
 use Rattle.alias.proofs.lines.line_end.Tie as tie
 
-rest-requires : tie.Need-rest-requires
-rest-requires c κs = search needs
-
-index-of-requires : tie.Need-index-of-requires
-index-of-requires c κs = search needs
-
-add-result : tie.Need-add-result
-add-result c = search needs
-
-add-result-2 : tie.Need-add-result-2
-add-result-2 c = search needs
-
 returns : tie.Need-returns
 unfolding firstLength
 returns c =
@@ -33,4 +21,4 @@ returns-2 c =
     omega (arith, ap length e, c .before .index-of .ensures .index ∙ ap (indexOf lf) e, length-drop (a .at) (a .table .now))
 
 pub line-end-spec : {M : Type 1} → statement M
-line-end-spec = tie.close (tie.spec rest-requires index-of-requires add-result add-result-2 returns returns-2)
+line-end-spec = tie.close (tie.spec (search needs) (search needs) (search needs) (search needs) returns returns-2)

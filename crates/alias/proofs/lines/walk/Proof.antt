@@ -26,9 +26,6 @@ here c =
 loop-holds : tie.Need-loop-holds Inv-loop μ-loop
 loop-holds c = walk-start (c .before .args .table .now)
 
-line-end-requires : tie.Need-line-end-requires Inv-loop μ-loop
-line-end-requires c κs = search needs
-
 sub-faulty : tie.Need-sub-faulty Inv-loop μ-loop
 sub-faulty c = let h = here c in omega arith
 
@@ -37,9 +34,6 @@ part-faulty-start c = let h = here c in omega arith
 
 part-faulty-end : tie.Need-part-faulty-end Inv-loop μ-loop
 part-faulty-end c = let h = here c in omega arith
-
-faulty-requires : tie.Need-faulty-requires Inv-loop μ-loop
-faulty-requires c κs = search needs
 
 returns : tie.Need-returns Inv-loop μ-loop
 returns c =
@@ -73,20 +67,5 @@ returns-2 c = walk-ends (c .before .loop .inv) (c .before .before .before .args 
 
 pub walk-spec : {M : Type 1} → statement M
 walk-spec =
-    tie.close
-    (tie.spec
-    Inv-loop
-    μ-loop
-    loop-holds
-    line-end-requires
-    sub-faulty
-    part-faulty-start
-    part-faulty-end
-    faulty-requires
-    returns
-    add-count
-    mul-starts
-    array-write-starts
-    loop-less
-    loop-again
-    returns-2)
+    tie.close (tie.spec Inv-loop μ-loop loop-holds (search needs) sub-faulty part-faulty-start part-faulty-end (search needs) returns
+    add-count mul-starts array-write-starts loop-less loop-again returns-2)

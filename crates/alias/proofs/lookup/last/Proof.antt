@@ -33,18 +33,9 @@ told c =
     let u = r .1 in
     (r .0 .above, omega arith, r .0 .there)
 
-count-requires : tie.Need-count-requires Inv-loop μ-loop
-count-requires c κs = search needs
-
 loop-holds : tie.Need-loop-holds Inv-loop μ-loop
 unfolding lastBelow
 loop-holds c = (search needs, refl)
-
-next-requires : tie.Need-next-requires Inv-loop μ-loop
-next-requires c κs = search needs
-
-enum-known-r : tie.Need-enum-known-r Inv-loop μ-loop
-enum-known-r c = search needs
 
 add-from : tie.Need-add-from Inv-loop μ-loop
 add-from c = let t = told c in omega arith
@@ -56,12 +47,6 @@ loop-again : tie.Need-loop-again Inv-loop μ-loop
 loop-again c =
     let t = told c in
     (omega arith, sym (last-hit _ _ (t .2)))
-
-enum-told : tie.Need-enum-told Inv-loop μ-loop
-enum-told c = search needs
-
-loop-less-2 : tie.Need-loop-less-2 Inv-loop μ-loop
-loop-less-2 c = search needs
 
 loop-again-2 : tie.Need-loop-again-2 Inv-loop μ-loop
 unfolding nextOf
@@ -82,18 +67,5 @@ returns c =
 
 pub last-spec : {M : Type 1} → statement M
 last-spec =
-    tie.close
-    (tie.spec
-    Inv-loop
-    μ-loop
-    count-requires
-    loop-holds
-    next-requires
-    enum-known-r
-    add-from
-    loop-less
-    loop-again
-    enum-told
-    loop-less-2
-    loop-again-2
-    returns)
+    tie.close (tie.spec Inv-loop μ-loop (search needs) loop-holds (search needs) (search needs) add-from loop-less loop-again
+    (search needs) (search needs) loop-again-2 returns)

@@ -7,19 +7,10 @@ use lib.Seq.{length-take-le, take-all}
 use Rattle.alias.proofs.lookup.part.Statement.{statement}
 use Rattle.alias.proofs.lookup.part.Tie as tie
 
-rest-requires : tie.Need-rest-requires
-rest-requires c κs = search needs
-
-slice-aggregate-result : tie.Need-slice-aggregate-result
-slice-aggregate-result c = search needs
-
 returns : tie.Need-returns
 returns c =
     let a = c .before .before .before .before .args in
     let e : a .to - a .from ≡ 0 = omega arith in rw e
-
-sub-n : tie.Need-sub-n
-sub-n c = search needs
 
 slice-aggregate-result-2 : tie.Need-slice-aggregate-result-2
 slice-aggregate-result-2 c = sym (length-take-le _ _ (c .before .if2 .taken))
@@ -34,13 +25,4 @@ returns-3 c =
     sym (take-all (a .to - a .from) (r .result .now) (omega arith)) ∙ ap (take (a .to - a .from)) (r .ensures)
 
 pub part-spec : {M : Type 1} → statement M
-part-spec =
-    tie.close
-    (tie.spec
-    rest-requires
-    slice-aggregate-result
-    returns
-    sub-n
-    slice-aggregate-result-2
-    returns-2
-    returns-3)
+part-spec = tie.close (tie.spec (search needs) (search needs) returns (search needs) slice-aggregate-result-2 returns-2 returns-3)

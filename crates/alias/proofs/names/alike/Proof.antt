@@ -24,18 +24,6 @@ returns c =
 loop-holds : tie.Need-loop-holds Inv-loop μ-loop
 loop-holds c = record { within = search needs; rest = refl }
 
-add-byte : tie.Need-add-byte Inv-loop μ-loop
-add-byte c = search needs
-
-byte-requires : tie.Need-byte-requires Inv-loop μ-loop
-byte-requires c κs = search needs
-
-add-byte-2 : tie.Need-add-byte-2 Inv-loop μ-loop
-add-byte-2 c = search needs
-
-byte-requires-2 : tie.Need-byte-requires-2 Inv-loop μ-loop
-byte-requires-2 c κs = search needs
-
 returns-2 : tie.Need-returns-2 Inv-loop μ-loop
 returns-2 c =
     let h = c .before .before .before .before .before .before .before in
@@ -44,12 +32,6 @@ returns-2 c =
     let l = h .before .if1 .left in
     span-stop (bodyOf (a .a .now)) (a .s) (spanBytes (bodyOf (a .b .now)) (a .t)) (l ∙ sym n) (h .loop .i) (h .loop .inv) (omega arith)
     (c .before .before .before .byte .ensures) (c .before .byte2 .ensures ∙ sym (span-at (bodyOf (a .b .now)) (a .t) (h .loop .i) (omega arith))) (c .if3 .taken)
-
-add-i : tie.Need-add-i Inv-loop μ-loop
-add-i c = search needs
-
-loop-less : tie.Need-loop-less Inv-loop μ-loop
-loop-less c = search needs
 
 loop-again : tie.Need-loop-again Inv-loop μ-loop
 loop-again c =
@@ -69,18 +51,5 @@ returns-3 c =
 
 pub alike-spec : {M : Type 1} → statement M
 alike-spec =
-    tie.close
-    (tie.spec
-    Inv-loop
-    μ-loop
-    returns
-    loop-holds
-    add-byte
-    byte-requires
-    add-byte-2
-    byte-requires-2
-    returns-2
-    add-i
-    loop-less
-    loop-again
-    returns-3)
+    tie.close (tie.spec Inv-loop μ-loop returns loop-holds (search needs) (search needs) (search needs) (search needs) returns-2
+    (search needs) (search needs) loop-again returns-3)

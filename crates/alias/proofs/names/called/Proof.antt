@@ -5,18 +5,6 @@ use Rattle.alias.proofs.LookupLaws.{named-by}
 use Rattle.alias.proofs.names.called.Statement.{statement}
 use Rattle.alias.proofs.names.called.Tie as tie
 
-abbreviation-requires : tie.Need-abbreviation-requires
-abbreviation-requires c κs = search needs
-
-name-requires : tie.Need-name-requires
-name-requires c κs = search needs
-
-spells-requires : tie.Need-spells-requires
-spells-requires c κs = search needs
-
-spells-requires-2 : tie.Need-spells-requires-2
-spells-requires-2 c κs = search needs
-
 returns : tie.Need-returns
 unfolding calledOf
 returns c =
@@ -25,6 +13,4 @@ returns c =
     named-by (λ xs. sameBytes xs (a .text .now)) (a .line .now) (d .name .ensures .0) (d .before .abbreviation .ensures .0) (c .before .before .spells .ensures) (c .spells2 .ensures)
 
 pub called-spec : {M : Type 1} → statement M
-called-spec =
-    tie.close
-    (tie.spec abbreviation-requires name-requires spells-requires spells-requires-2 returns)
+called-spec = tie.close (tie.spec (search needs) (search needs) (search needs) (search needs) returns)

@@ -6,18 +6,6 @@ use Rattle.alias.proofs.LookupLaws.{named-by}
 use Rattle.alias.proofs.names.shares.Statement.{statement}
 use Rattle.alias.proofs.names.shares.Tie as tie
 
-abbreviation-requires : tie.Need-abbreviation-requires
-abbreviation-requires c κs = search needs
-
-name-requires : tie.Need-name-requires
-name-requires c κs = search needs
-
-called-as-requires : tie.Need-called-as-requires
-called-as-requires c κs = search needs
-
-called-as-requires-2 : tie.Need-called-as-requires-2
-called-as-requires-2 c κs = search needs
-
 returns : tie.Need-returns
 unfolding sharesOf
 returns c =
@@ -26,6 +14,4 @@ returns c =
     named-by (calledOf (standingIn (a .a .now))) (a .b .now) (d .name .ensures .0) (d .before .abbreviation .ensures .0) (c .before .before .called-as .ensures) (c .called-as2 .ensures)
 
 pub shares-spec : {M : Type 1} → statement M
-shares-spec =
-    tie.close
-    (tie.spec abbreviation-requires name-requires called-as-requires called-as-requires-2 returns)
+shares-spec = tie.close (tie.spec (search needs) (search needs) (search needs) (search needs) returns)

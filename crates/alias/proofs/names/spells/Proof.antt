@@ -20,26 +20,11 @@ returns c =
 loop-holds : tie.Need-loop-holds Inv-loop μ-loop
 loop-holds c = record { within = search needs; rest = refl }
 
-add-byte : tie.Need-add-byte Inv-loop μ-loop
-add-byte c = search needs
-
-byte-requires : tie.Need-byte-requires Inv-loop μ-loop
-byte-requires c κs = search needs
-
-shared-slice-read-if3 : tie.Need-shared-slice-read-if3 Inv-loop μ-loop
-shared-slice-read-if3 c = search needs
-
 returns-2 : tie.Need-returns-2 Inv-loop μ-loop
 returns-2 c =
     let h = c .before .before .before .before .before .before in
     let a = h .before .before .before .before .before .args in
     span-stop (bodyOf (a .line .now)) (a .s) (a .text .now) (h .before .if1 .left) (h .loop .i) (h .loop .inv) (omega arith) (c .before .before .byte .ensures) refl (c .if3 .taken)
-
-add-i : tie.Need-add-i Inv-loop μ-loop
-add-i c = search needs
-
-loop-less : tie.Need-loop-less Inv-loop μ-loop
-loop-less c = search needs
 
 loop-again : tie.Need-loop-again Inv-loop μ-loop
 loop-again c =
@@ -55,17 +40,5 @@ returns-3 c =
 
 pub spells-spec : {M : Type 1} → statement M
 spells-spec =
-    tie.close
-    (tie.spec
-    Inv-loop
-    μ-loop
-    returns
-    loop-holds
-    add-byte
-    byte-requires
-    shared-slice-read-if3
-    returns-2
-    add-i
-    loop-less
-    loop-again
-    returns-3)
+    tie.close (tie.spec Inv-loop μ-loop returns loop-holds (search needs) (search needs) (search needs) returns-2 (search needs)
+    (search needs) loop-again returns-3)

@@ -6,33 +6,6 @@ use Rattle.alias.proofs.LookupLaws.{other-class}
 use Rattle.alias.proofs.names.stands_for.Statement.{statement}
 use Rattle.alias.proofs.names.stands_for.Tie as tie
 
-value-requires : tie.Need-value-requires
-value-requires c κs = search needs
-
-enum-known-u : tie.Need-enum-known-u
-enum-known-u c = search needs
-
-enum-known-v : tie.Need-enum-known-v
-enum-known-v c = search needs
-
-enum-known-u-2 : tie.Need-enum-known-u-2
-enum-known-u-2 c = search needs
-
-enum-known-v-2 : tie.Need-enum-known-v-2
-enum-known-v-2 c = search needs
-
-enum-told : tie.Need-enum-told
-enum-told c = search needs
-
-enum-told-2 : tie.Need-enum-told-2
-enum-told-2 c = search needs
-
-label-requires : tie.Need-label-requires
-label-requires c κs = search needs
-
-same-label-requires : tie.Need-same-label-requires
-same-label-requires c κs = search needs
-
 returns : tie.Need-returns
 unfolding standsFor sameValue
 returns c =
@@ -68,20 +41,5 @@ returns-6 c =
 
 pub stands-for-spec : {M : Type 1} → statement M
 stands-for-spec =
-    tie.close
-    (tie.spec
-    value-requires
-    enum-known-u
-    enum-known-v
-    enum-known-u-2
-    enum-known-v-2
-    enum-told
-    enum-told-2
-    label-requires
-    same-label-requires
-    returns
-    returns-2
-    returns-3
-    returns-4
-    returns-5
-    returns-6)
+    tie.close (tie.spec (search needs) (search needs) (search needs) (search needs) (search needs) (search needs) (search needs)
+    (search needs) (search needs) returns returns-2 returns-3 returns-4 returns-5 returns-6)

@@ -16,28 +16,16 @@ Inv-loop table starts n k₀ k = firstRepeat (entriesBy table starts) ≡ firstF
 abbrev μ-loop : tie.MeasureT-loop
 μ-loop table starts n k₀ k = n - k
 
-count-requires : tie.Need-count-requires Inv-loop μ-loop
-count-requires c κs = search needs
-
 loop-holds : tie.Need-loop-holds Inv-loop μ-loop
 unfolding firstRepeat
 loop-holds c =
     let a = c .before .before .before .args in
     search-start (a .table .now) (a .starts .now) _ (c .count .ensures)
 
-repeats-requires : tie.Need-repeats-requires Inv-loop μ-loop
-repeats-requires c κs = search needs
-
 returns : tie.Need-returns Inv-loop μ-loop
 returns c =
     let h = c .before .before .before in
     sym (h .loop .inv ∙ search-hit _ (h .loop .k) _ (omega arith) (sym (c .before .repeats .ensures) ∙ c .if1 .taken))
-
-add-k : tie.Need-add-k Inv-loop μ-loop
-add-k c = search needs
-
-loop-less : tie.Need-loop-less Inv-loop μ-loop
-loop-less c = search needs
 
 loop-again : tie.Need-loop-again Inv-loop μ-loop
 loop-again c =
@@ -48,15 +36,4 @@ returns-2 c = let h = c .before in sym (h .loop .inv ∙ search-end _ (h .loop .
 
 pub first-spec : {M : Type 1} → statement M
 first-spec =
-    tie.close
-    (tie.spec
-    Inv-loop
-    μ-loop
-    count-requires
-    loop-holds
-    repeats-requires
-    returns
-    add-k
-    loop-less
-    loop-again
-    returns-2)
+    tie.close (tie.spec Inv-loop μ-loop (search needs) loop-holds (search needs) returns (search needs) (search needs) loop-again returns-2)

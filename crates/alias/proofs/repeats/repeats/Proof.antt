@@ -7,15 +7,6 @@ use Rattle.alias.proofs.LookupLaws.{entry-test}
 use Rattle.alias.proofs.repeats.repeats.Statement.{statement}
 use Rattle.alias.proofs.repeats.repeats.Tie as tie
 
-line-requires : tie.Need-line-requires
-line-requires c κs = search needs
-
-repeats-itself-requires : tie.Need-repeats-itself-requires
-repeats-itself-requires c κs = search needs
-
-shared-before-requires : tie.Need-shared-before-requires
-shared-before-requires c κs = search needs
-
 returns : tie.Need-returns
 unfolding repeatsAt
 returns c =
@@ -27,5 +18,4 @@ returns c =
     )
 
 pub repeats-spec : {M : Type 1} → statement M
-repeats-spec =
-    tie.close (tie.spec line-requires repeats-itself-requires shared-before-requires returns)
+repeats-spec = tie.close (tie.spec (search needs) (search needs) (search needs) returns)

@@ -32,30 +32,15 @@ told c =
     entry-test t s (sharesOf (entryAt (entriesBy t s) (h .loop .j))) (a .k) (omega arith) (h .before .line .ensures) refl
     ∙ entry-test t s (λ e. sharesOf e (standingIn (h .before .line .result .now))) (h .loop .j) (omega arith) (c .before .line2 .ensures) (c .shares .ensures)
 
-line-requires : tie.Need-line-requires Inv-loop μ-loop
-line-requires c κs = search needs
-
 loop-holds : tie.Need-loop-holds Inv-loop μ-loop
 unfolding every
 loop-holds c = (search needs, refl)
-
-line-requires-2 : tie.Need-line-requires-2 Inv-loop μ-loop
-line-requires-2 c κs = search needs
-
-shares-requires : tie.Need-shares-requires Inv-loop μ-loop
-shares-requires c κs = search needs
 
 returns : tie.Need-returns Inv-loop μ-loop
 returns c =
     let h = c .before .before .before .before in
     let a = h .before .before .before .before .args in
     sym (any-of (sharesAt (entriesBy (a .table .now) (a .starts .now)) (a .k)) (a .k) (h .loop .j) (omega arith) (told (c .before) ∙ c .if1 .taken))
-
-add-j : tie.Need-add-j Inv-loop μ-loop
-add-j c = search needs
-
-loop-less : tie.Need-loop-less Inv-loop μ-loop
-loop-less c = search needs
 
 loop-again : tie.Need-loop-again Inv-loop μ-loop
 loop-again c =
@@ -67,16 +52,5 @@ returns-2 c = let h = c .before in sym (ap not (every-done _ _ (h .loop .j) (ome
 
 pub shared-before-spec : {M : Type 1} → statement M
 shared-before-spec =
-    tie.close
-    (tie.spec
-    Inv-loop
-    μ-loop
-    line-requires
-    loop-holds
-    line-requires-2
-    shares-requires
-    returns
-    add-j
-    loop-less
-    loop-again
-    returns-2)
+    tie.close (tie.spec Inv-loop μ-loop (search needs) loop-holds (search needs) (search needs) returns (search needs) (search needs)
+    loop-again returns-2)

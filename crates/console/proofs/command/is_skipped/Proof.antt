@@ -24,11 +24,8 @@ by-first (b ∷ bs) h = refl
 returns : tie.Need-returns
 returns c = no-bytes (c .before .args .line .now) (c .if1 .taken)
 
-shared-slice-read-first : tie.Need-shared-slice-read-first
-shared-slice-read-first c = search needs
-
 returns-2 : tie.Need-returns-2
 returns-2 c = by-first (c .before .before .args .line .now) (c .before .if1 .left)
 
 pub is-skipped-spec : {M : Type 1} → statement M
-is-skipped-spec = tie.close (tie.spec returns shared-slice-read-first returns-2)
+is-skipped-spec = tie.close (tie.spec returns (search needs) returns-2)

@@ -9,22 +9,13 @@ use Rattle.console.proofs.CommandLaws.{word-from}
 use Rattle.console.proofs.command.is_word.Statement.{statement}
 use Rattle.console.proofs.command.is_word.Tie as tie
 
-index-of-requires : tie.Need-index-of-requires
-index-of-requires c κs = search needs
-
 slice-aggregate-body : tie.Need-slice-aggregate-body
 slice-aggregate-body c = let i = c .before .index-of in sym (length-take-le (i .result) (c .before .before .before .before .args .line .now) (i .ensures .within))
-
-index-of-requires-2 : tie.Need-index-of-requires-2
-index-of-requires-2 c κs = search needs
 
 slice-aggregate-same : tie.Need-slice-aggregate-same
 slice-aggregate-same c =
     let i = c .before .index-of2 in
     sym (length-take-le (i .result) (take (c .before .before .before .index-of .result) (c .before .before .before .before .before .before .args .line .now)) (i .ensures .within))
-
-same-requires : tie.Need-same-requires
-same-requires c κs = search needs
 
 returns : tie.Need-returns
 returns c =
@@ -34,12 +25,4 @@ returns c =
     c .same .ensures ∙ ap (λ (w : List ℕ). sameBytes w (a .word .now)) (word-from (a .line .now) (e .result) (i .result) (e .ensures .index) (i .ensures .index))
 
 pub is-word-spec : {M : Type 1} → statement M
-is-word-spec =
-    tie.close
-    (tie.spec
-    index-of-requires
-    slice-aggregate-body
-    index-of-requires-2
-    slice-aggregate-same
-    same-requires
-    returns)
+is-word-spec = tie.close (tie.spec (search needs) slice-aggregate-body (search needs) slice-aggregate-same (search needs) returns)

@@ -5,26 +5,14 @@ use Rattle.console.proofs.CommandLaws.{line-ended, line-invalid}
 use Rattle.console.proofs.command.parse.Statement.{statement}
 use Rattle.console.proofs.command.parse.Tie as tie
 
-index-of-requires : tie.Need-index-of-requires
-index-of-requires c κs = search needs
-
-add-if1 : tie.Need-add-if1
-add-if1 c = search needs
-
 slice-aggregate-parse-body : tie.Need-slice-aggregate-parse-body
 slice-aggregate-parse-body c = let i = c .before .before .index-of in sym (length-take-le (i .result) (c .before .before .before .before .args .line .now) (i .ensures .within))
-
-parse-body-requires : tie.Need-parse-body-requires
-parse-body-requires c κs = search needs
 
 returns : tie.Need-returns
 returns c =
     let t = c .before .before in
     let i = t .before .index-of in
     c .parse-body .ensures ∙ sym (line-ended (t .before .before .before .args .line .now) (i .result) (i .ensures .index) (t .if1 .taken))
-
-invalid-requires : tie.Need-invalid-requires
-invalid-requires c κs = search needs
 
 returns-2 : tie.Need-returns-2
 returns-2 c =
@@ -33,13 +21,4 @@ returns-2 c =
     c .invalid .ensures ∙ sym (line-invalid (t .before .before .before .args .line .now) (i .result) (i .ensures .index) (t .if1 .left))
 
 pub parse-spec : {M : Type 1} → statement M
-parse-spec =
-    tie.close
-    (tie.spec
-    index-of-requires
-    add-if1
-    slice-aggregate-parse-body
-    parse-body-requires
-    returns
-    invalid-requires
-    returns-2)
+parse-spec = tie.close (tie.spec (search needs) (search needs) slice-aggregate-parse-body (search needs) returns (search needs) returns-2)

@@ -23,16 +23,10 @@ rest-length : (s : tie.After-rest Inv-loop μ-loop)
     → length (s .rest .result .now) ≡ length (s .before .before .before .before .before .before .args .body .now) - (s .before .before .before .loop .at + 1)
 rest-length s = ap length (s .rest .ensures) ∙ length-drop (s .before .before .before .loop .at + 1) (s .before .before .before .before .before .before .args .body .now)
 
-index-of-requires : tie.Need-index-of-requires Inv-loop μ-loop
-index-of-requires c κs = search needs
-
 loop-holds : tie.Need-loop-holds Inv-loop μ-loop
 loop-holds c =
     let body = c .before .before .args .body .now in
     (c .index-of .ensures .within, omega arith, refl, refl, rw (c .index-of .ensures .index) (body-start body))
-
-invalid-requires : tie.Need-invalid-requires Inv-loop μ-loop
-invalid-requires c κs = search needs
 
 returns : tie.Need-returns Inv-loop μ-loop
 returns c =
@@ -41,29 +35,8 @@ returns c =
     let l : length (take (h .loop .count) (h .loop .numbers)) ≡ most = length-take-le (h .loop .count) (h .loop .numbers) (omega arith) ∙ c .before .if1 .taken in
     c .invalid .ensures ∙ sym (h .loop .inv .4 ∙ body-full body (h .loop .at) (omega arith) (take (h .loop .count) (h .loop .numbers)) l)
 
-add-rest : tie.Need-add-rest Inv-loop μ-loop
-add-rest c = search needs
-
-rest-requires : tie.Need-rest-requires Inv-loop μ-loop
-rest-requires c κs = search needs
-
-index-of-requires-2 : tie.Need-index-of-requires-2 Inv-loop μ-loop
-index-of-requires-2 c κs = search needs
-
 slice-aggregate-read-number : tie.Need-slice-aggregate-read-number Inv-loop μ-loop
 slice-aggregate-read-number c = let i = c .before .index-of2 in sym (length-take-le (i .result) (c .before .before .rest .result .now) (i .ensures .within))
-
-read-number-requires : tie.Need-read-number-requires Inv-loop μ-loop
-read-number-requires c κs = search needs
-
-enum-known-value : tie.Need-enum-known-value Inv-loop μ-loop
-enum-known-value c = search needs
-
-enum-told : tie.Need-enum-told Inv-loop μ-loop
-enum-told c = search needs
-
-invalid-requires-2 : tie.Need-invalid-requires-2 Inv-loop μ-loop
-invalid-requires-2 c κs = search needs
 
 returns-2 : tie.Need-returns-2 Inv-loop μ-loop
 returns-2 c =
@@ -77,18 +50,6 @@ returns-2 c =
     (h .loop .inv .4
     ∙ body-bad body (h .loop .at) (omega arith) (s .rest .result .now) (i .result) (s .rest .ensures) (i .ensures .index) (take (h .loop .count) (h .loop .numbers))
     (sym (r .read-number .ensures) ∙ ap numberAnswerOf (c .before .enum-told .given .1)))
-
-mul-numbers : tie.Need-mul-numbers Inv-loop μ-loop
-mul-numbers c = search needs
-
-array-write-numbers : tie.Need-array-write-numbers Inv-loop μ-loop
-array-write-numbers c = search needs
-
-add-count : tie.Need-add-count Inv-loop μ-loop
-add-count c = search needs
-
-add-at : tie.Need-add-at Inv-loop μ-loop
-add-at c = search needs
 
 add-at-2 : tie.Need-add-at-2 Inv-loop μ-loop
 add-at-2 c = omega (arith, rest-length (c .before .before .before .before .before .before))
@@ -125,28 +86,6 @@ returns-3 c =
 
 pub parse-body-spec : {M : Type 1} → statement M
 parse-body-spec =
-    tie.close
-    (tie.spec
-    Inv-loop
-    μ-loop
-    index-of-requires
-    loop-holds
-    invalid-requires
-    returns
-    add-rest
-    rest-requires
-    index-of-requires-2
-    slice-aggregate-read-number
-    read-number-requires
-    enum-known-value
-    enum-told
-    invalid-requires-2
-    returns-2
-    mul-numbers
-    array-write-numbers
-    add-count
-    add-at
-    add-at-2
-    loop-less
-    loop-again
-    returns-3)
+    tie.close (tie.spec Inv-loop μ-loop (search needs) loop-holds (search needs) returns (search needs) (search needs) (search needs)
+    slice-aggregate-read-number (search needs) (search needs) (search needs) (search needs) returns-2 (search needs) (search needs)
+    (search needs) (search needs) add-at-2 loop-less loop-again returns-3)

@@ -20,9 +20,6 @@ returns c = sym (number-none (c .before .args .text .now) (c .if1 .taken))
 loop-holds : tie.Need-loop-holds Inv-loop μ-loop
 loop-holds c = (search needs, search needs, number-start (c .before .args .text .now) (c .if1 .left))
 
-shared-slice-read-b : tie.Need-shared-slice-read-b Inv-loop μ-loop
-shared-slice-read-b c = search needs
-
 returns-2 : tie.Need-returns-2 Inv-loop μ-loop
 returns-2 c =
     let h = c .before .before .before in
@@ -55,12 +52,6 @@ mul-value c = omega arith
 add-value : tie.Need-add-value Inv-loop μ-loop
 add-value c = omega arith
 
-add-i : tie.Need-add-i Inv-loop μ-loop
-add-i c = search needs
-
-loop-less : tie.Need-loop-less Inv-loop μ-loop
-loop-less c = search needs
-
 loop-again : tie.Need-loop-again Inv-loop μ-loop
 loop-again c =
     let h = c .before .before .before .before .before in
@@ -74,21 +65,5 @@ returns-5 c =
 
 pub read-number-spec : {M : Type 1} → statement M
 read-number-spec =
-    tie.close
-    (tie.spec
-    Inv-loop
-    μ-loop
-    returns
-    loop-holds
-    shared-slice-read-b
-    returns-2
-    returns-3
-    cast-d
-    sub-if4
-    returns-4
-    mul-value
-    add-value
-    add-i
-    loop-less
-    loop-again
-    returns-5)
+    tie.close (tie.spec Inv-loop μ-loop returns loop-holds (search needs) returns-2 returns-3 cast-d sub-if4 returns-4 mul-value add-value
+    (search needs) (search needs) loop-again returns-5)

@@ -20,38 +20,11 @@ tested : (s : tie.After-fits2)
     (s .before .before .before .before .before .args .buffer .now) (s .before .before .before .before .before .args .partial) (Rest s) (N s) (s .fits2 .result)
 tested s = record { bytes = s .before .before .rest .ensures; index = s .before .index-of .ensures .index; room = search needs }
 
-rest-requires : tie.Need-rest-requires
-rest-requires c κs = search needs
-
-index-of-requires : tie.Need-index-of-requires
-index-of-requires c κs = search needs
-
-add-fits : tie.Need-add-fits
-add-fits c = search needs
-
-fits-requires : tie.Need-fits-requires
-fits-requires c κs = search needs
-
-add-end : tie.Need-add-end
-add-end c = search needs
-
 slice-aggregate-append : tie.Need-slice-aggregate-append
 slice-aggregate-append c = let s = c .before .before .before .before in sym (length-take-le (N s + 1) (Rest s) (omega arith))
 
-append-requires : tie.Need-append-requires
-append-requires c κs = search needs
-
 add-answer : tie.Need-add-answer
 add-answer c = omega (arith, bytes-length (tested (c .before .before .before .before .before .before .before)))
-
-start-requires : tie.Need-start-requires
-start-requires c κs = search needs
-
-answer-requires : tie.Need-answer-requires
-answer-requires c κs = search needs
-
-same-length : tie.Need-same-length
-same-length c = search needs
 
 returns : tie.Need-returns
 returns c =
@@ -62,31 +35,13 @@ returns c =
 add-answer-2 : tie.Need-add-answer-2
 add-answer-2 c = omega (arith, bytes-length (tested (c .before .before)))
 
-start-requires-2 : tie.Need-start-requires-2
-start-requires-2 c κs = search needs
-
-answer-requires-2 : tie.Need-answer-requires-2
-answer-requires-2 c κs = search needs
-
 returns-2 : tie.Need-returns-2
 returns-2 c =
     let t = c .before .before in
     taken-bad (tested (t .before .before)) (t .before .if1 .taken) (t .if2 .left) (c .answer2 .ensures) (c .before .start2 .ensures)
 
-append-requires-2 : tie.Need-append-requires-2
-append-requires-2 c κs = search needs
-
 add-answer-3 : tie.Need-add-answer-3
 add-answer-3 c = omega (arith, bytes-length (tested (c .before .before .before .before .before .before)))
-
-held-requires : tie.Need-held-requires
-held-requires c κs = search needs
-
-answer-requires-3 : tie.Need-answer-requires-3
-answer-requires-3 c κs = search needs
-
-same-length-2 : tie.Need-same-length-2
-same-length-2 c = search needs
 
 returns-3 : tie.Need-returns-3
 returns-3 c =
@@ -97,38 +52,11 @@ returns-3 c =
 add-answer-4 : tie.Need-add-answer-4
 add-answer-4 c = omega (arith, bytes-length (tested (c .before .before)))
 
-answer-requires-4 : tie.Need-answer-requires-4
-answer-requires-4 c κs = search needs
-
 returns-4 : tie.Need-returns-4
 returns-4 c = let t = c .before in taken-long (tested (t .before .before)) (t .before .if1 .left) (t .if3 .left) (c .answer4 .ensures)
 
 pub take-spec : {M : Type 1} → statement M
 take-spec =
-    tie.close
-    (tie.spec
-    rest-requires
-    index-of-requires
-    add-fits
-    fits-requires
-    add-end
-    slice-aggregate-append
-    append-requires
-    add-answer
-    start-requires
-    answer-requires
-    same-length
-    returns
-    add-answer-2
-    start-requires-2
-    answer-requires-2
-    returns-2
-    append-requires-2
-    add-answer-3
-    held-requires
-    answer-requires-3
-    same-length-2
-    returns-3
-    add-answer-4
-    answer-requires-4
-    returns-4)
+    tie.close (tie.spec (search needs) (search needs) (search needs) (search needs) (search needs) slice-aggregate-append (search needs)
+    add-answer (search needs) (search needs) (search needs) returns add-answer-2 (search needs) (search needs) returns-2 (search needs)
+    add-answer-3 (search needs) (search needs) (search needs) returns-3 add-answer-4 (search needs) returns-4)

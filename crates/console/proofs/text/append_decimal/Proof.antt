@@ -10,17 +10,8 @@ tested : (s : tie.After-fits2)
     (s .before .decimal-length .result) (s .fits2 .result)
 tested s = record { count = s .before .decimal-length .ensures .count; room = s .fits2 .ensures }
 
-decimal-length-requires : tie.Need-decimal-length-requires
-decimal-length-requires c κs = search needs
-
-fits-requires : tie.Need-fits-requires
-fits-requires c κs = search needs
-
 put-decimal-requires : tie.Need-put-decimal-requires
 put-decimal-requires c κs = room-for (tested (c .before .before)) (c .before .if1 .taken)
-
-same-length : tie.Need-same-length
-same-length c = search needs
 
 returns : tie.Need-returns
 returns c = let t = c .before .before .before .before in appended (tested (t .before)) (t .if1 .taken) (c .before .before .put-decimal .ensures)
@@ -29,12 +20,4 @@ returns-2 : tie.Need-returns-2
 returns-2 c = left-out (tested (c .before)) (c .if1 .left)
 
 pub append-decimal-spec : {M : Type 1} → statement M
-append-decimal-spec =
-    tie.close
-    (tie.spec
-    decimal-length-requires
-    fits-requires
-    put-decimal-requires
-    same-length
-    returns
-    returns-2)
+append-decimal-spec = tie.close (tie.spec (search needs) (search needs) put-decimal-requires (search needs) returns returns-2)

@@ -26,38 +26,8 @@ tested s = record {
   room = search needs;
 }
 
-number-requires : tie.Need-number-requires
-number-requires c κs = search needs
-
-cast-number : tie.Need-cast-number
-cast-number c = search needs
-
-detail-requires : tie.Need-detail-requires
-detail-requires c κs = search needs
-
-decimal-length-requires : tie.Need-decimal-length-requires
-decimal-length-requires c κs = search needs
-
-add-size : tie.Need-add-size
-add-size c = search needs
-
-carried-length-requires : tie.Need-carried-length-requires
-carried-length-requires c κs = search needs
-
-add-size-2 : tie.Need-add-size-2
-add-size-2 c = search needs
-
-add-size-3 : tie.Need-add-size-3
-add-size-3 c = search needs
-
-fits-requires : tie.Need-fits-requires
-fits-requires c κs = search needs
-
 put-refusal-requires : tie.Need-put-refusal-requires
 put-refusal-requires c κs = room-for (tested (c .before .before)) (c .before .if1 .taken)
-
-same-length : tie.Need-same-length
-same-length c = search needs
 
 returns : tie.Need-returns
 returns c =
@@ -69,18 +39,5 @@ returns-2 c = rw (line-is (c .before)) (left-out (tested (c .before)) (c .if1 .l
 
 pub append-error-spec : {M : Type 1} → statement M
 append-error-spec =
-    tie.close
-    (tie.spec
-    number-requires
-    cast-number
-    detail-requires
-    decimal-length-requires
-    add-size
-    carried-length-requires
-    add-size-2
-    add-size-3
-    fits-requires
-    put-refusal-requires
-    same-length
-    returns
-    returns-2)
+    tie.close (tie.spec (search needs) (search needs) (search needs) (search needs) (search needs) (search needs) (search needs)
+    (search needs) (search needs) put-refusal-requires (search needs) returns returns-2)

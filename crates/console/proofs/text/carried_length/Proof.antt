@@ -4,18 +4,6 @@ use Rattle.console.specs.Text.{carriedText}
 use Rattle.console.proofs.text.carried_length.Statement.{statement}
 use Rattle.console.proofs.text.carried_length.Tie as tie
 
-enum-known-carried : tie.Need-enum-known-carried
-enum-known-carried c = search needs
-
-decimal-length-requires : tie.Need-decimal-length-requires
-decimal-length-requires c κs = search needs
-
-add-result : tie.Need-add-result
-add-result c = search needs
-
-enum-told : tie.Need-enum-told
-enum-told c = search needs
-
 returns : tie.Need-returns
 unfolding carriedText
 returns c = let e = c .decimal-length .ensures in record { count = rw (c .before .before .carried .given .1) (omega arith); at-most = omega arith }
@@ -25,6 +13,4 @@ unfolding carriedText
 returns-2 c = record { count = rw (c .enum-told .given .1); at-most = omega arith }
 
 pub carried-length-spec : {M : Type 1} → statement M
-carried-length-spec =
-    tie.close
-    (tie.spec enum-known-carried decimal-length-requires add-result enum-told returns returns-2)
+carried-length-spec = tie.close (tie.spec (search needs) (search needs) (search needs) (search needs) returns returns-2)

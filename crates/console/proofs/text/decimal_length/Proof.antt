@@ -17,12 +17,6 @@ abbrev μ-loop : tie.MeasureT-loop
 loop-holds : tie.Need-loop-holds Inv-loop μ-loop
 loop-holds c = (omega arith, omega arith)
 
-add-k : tie.Need-add-k Inv-loop μ-loop
-add-k c = search needs
-
-loop-less : tie.Need-loop-less Inv-loop μ-loop
-loop-less c = search needs
-
 loop-again : tie.Need-loop-again Inv-loop μ-loop
 loop-again c = let left = c .before .loop .left in (search needs, omega (arith, length-more left (omega arith)))
 
@@ -33,5 +27,4 @@ returns c =
     let l = decimal-length n 19 (omega arith) in record { count = omega arith; at-most = omega arith }
 
 pub decimal-length-spec : {M : Type 1} → statement M
-decimal-length-spec =
-    tie.close (tie.spec Inv-loop μ-loop loop-holds add-k loop-less loop-again returns)
+decimal-length-spec = tie.close (tie.spec Inv-loop μ-loop loop-holds (search needs) (search needs) loop-again returns)

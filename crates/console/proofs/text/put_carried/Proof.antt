@@ -14,27 +14,12 @@ text-length : (s : tie.After-carried) → length (carriedText (carriedOf (s .bef
 unfolding carriedText
 text-length s = rw (s .carried .given .1)
 
-enum-known-carried : tie.Need-enum-known-carried
-enum-known-carried c = search needs
-
-slice-aggregate-append : tie.Need-slice-aggregate-append
-slice-aggregate-append c = search needs
-
-append-requires : tie.Need-append-requires
-append-requires c κs = search needs
-
 put-decimal-requires : tie.Need-put-decimal-requires
 put-decimal-requires c κs =
     let w = c .before .before .before in
     let l = text-length (w .before .before .before .before) in
     let p = appended-put (omega arith) (w .append .ensures) in
     let e = p .past in omega arith
-
-enum-told : tie.Need-enum-told
-enum-told c = search needs
-
-same-length : tie.Need-same-length
-same-length c = search needs
 
 returns : tie.Need-returns
 unfolding carriedText
@@ -54,13 +39,4 @@ returns-2 c =
 
 pub put-carried-spec : {M : Type 1} → statement M
 put-carried-spec =
-    tie.close
-    (tie.spec
-    enum-known-carried
-    slice-aggregate-append
-    append-requires
-    put-decimal-requires
-    enum-told
-    same-length
-    returns
-    returns-2)
+    tie.close (tie.spec (search needs) (search needs) (search needs) put-decimal-requires (search needs) (search needs) returns returns-2)

@@ -16,29 +16,14 @@ Inv-loop out₀ at n end i₀ left₀ out i left = (length out ≡ length out₀
 abbrev μ-loop : tie.MeasureT-loop
 μ-loop out₀ at n end i₀ left₀ out i left = left
 
-decimal-length-requires : tie.Need-decimal-length-requires Inv-loop μ-loop
-decimal-length-requires c κs = search needs
-
-add-end : tie.Need-add-end Inv-loop μ-loop
-add-end c = search needs
-
 loop-holds : tie.Need-loop-holds Inv-loop μ-loop
 loop-holds c = (refl, search needs, search needs, refl)
 
 sub-i : tie.Need-sub-i Inv-loop μ-loop
 sub-i c = omega (arith, decimal-some (c .before .loop .left))
 
-cast-out : tie.Need-cast-out Inv-loop μ-loop
-cast-out c = search needs
-
-add-out : tie.Need-add-out Inv-loop μ-loop
-add-out c = search needs
-
 slice-write-out : tie.Need-slice-write-out Inv-loop μ-loop
 slice-write-out c = omega (arith, decimal-some (c .before .loop .left))
-
-loop-less : tie.Need-loop-less Inv-loop μ-loop
-loop-less c = search needs
 
 loop-again : tie.Need-loop-again Inv-loop μ-loop
 loop-again c =
@@ -53,12 +38,6 @@ loop-again c =
       e,
       rw e (sym (put-last out at (decimalOf (left / 10)) (digit (left % 10)) (omega arith))) ∙ ap (putAt out at) (sym (decimal-more left (omega arith))) ∙ h .loop .inv .3,
     )
-
-cast-out-2 : tie.Need-cast-out-2 Inv-loop μ-loop
-cast-out-2 c = search needs
-
-add-out-2 : tie.Need-add-out-2 Inv-loop μ-loop
-add-out-2 c = search needs
 
 slice-write-out-2 : tie.Need-slice-write-out-2 Inv-loop μ-loop
 slice-write-out-2 c = omega (arith, decimal-some (c .before .loop .left))
@@ -80,21 +59,5 @@ returns c =
 
 pub put-decimal-spec : {M : Type 1} → statement M
 put-decimal-spec =
-    tie.close
-    (tie.spec
-    Inv-loop
-    μ-loop
-    decimal-length-requires
-    add-end
-    loop-holds
-    sub-i
-    cast-out
-    add-out
-    slice-write-out
-    loop-less
-    loop-again
-    cast-out-2
-    add-out-2
-    slice-write-out-2
-    same-length
-    returns)
+    tie.close (tie.spec Inv-loop μ-loop (search needs) (search needs) loop-holds sub-i (search needs) (search needs) slice-write-out
+    (search needs) loop-again (search needs) (search needs) slice-write-out-2 same-length returns)

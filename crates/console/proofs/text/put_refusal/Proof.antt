@@ -16,12 +16,6 @@ word-past w =
     let l = refusal-length (a .number) (carriedOf (a .carried)) in
     let p = appended-put (omega arith) (w .append .ensures) in p .past
 
-slice-aggregate-append : tie.Need-slice-aggregate-append
-slice-aggregate-append c = search needs
-
-append-requires : tie.Need-append-requires
-append-requires c κs = search needs
-
 put-decimal-requires : tie.Need-put-decimal-requires
 put-decimal-requires c κs =
     let w = c .before .before .before in
@@ -31,15 +25,6 @@ put-carried-requires : tie.Need-put-carried-requires
 put-carried-requires c κs =
     let w = c .before .before .before .before .before .before .before in
     let a = w .before .before .before .before .args in omega (arith, word-past w, refusal-length (a .number) (carriedOf (a .carried)))
-
-slice-aggregate-append-2 : tie.Need-slice-aggregate-append-2
-slice-aggregate-append-2 c = search needs
-
-append-requires-2 : tie.Need-append-requires-2
-append-requires-2 c κs = search needs
-
-same-length : tie.Need-same-length
-same-length c = search needs
 
 returns : tie.Need-returns
 unfolding refusalText errorWord
@@ -59,13 +44,5 @@ returns c =
 
 pub put-refusal-spec : {M : Type 1} → statement M
 put-refusal-spec =
-    tie.close
-    (tie.spec
-    slice-aggregate-append
-    append-requires
-    put-decimal-requires
-    put-carried-requires
-    slice-aggregate-append-2
-    append-requires-2
-    same-length
-    returns)
+    tie.close (tie.spec (search needs) (search needs) put-decimal-requires put-carried-requires (search needs) (search needs)
+    (search needs) returns)

@@ -23,32 +23,11 @@ loop-holds : tie.Need-loop-holds Inv-loop μ-loop
 unfolding tabulate
 loop-holds c = (search needs, refl, refl)
 
-add-set-word : tie.Need-add-set-word Inv-loop μ-loop
-add-set-word c = search needs
-
-set-word-requires : tie.Need-set-word-requires Inv-loop μ-loop
-set-word-requires c κs = search needs
-
-mul-categories : tie.Need-mul-categories Inv-loop μ-loop
-mul-categories c = search needs
-
-array-write-categories : tie.Need-array-write-categories Inv-loop μ-loop
-array-write-categories c = search needs
-
-add-j : tie.Need-add-j Inv-loop μ-loop
-add-j c = search needs
-
-loop-less : tie.Need-loop-less Inv-loop μ-loop
-loop-less c = search needs
-
 loop-again : tie.Need-loop-again Inv-loop μ-loop
 loop-again c =
     let h = c .before .before in
     let a = h .before .before .args in
     (search needs, search needs, fill-step (wordFrom (a .words) (bodyOf (a .line .now)) (a .at + 1)) (h .loop .categories) (h .loop .j) (c .set-word .result) (omega arith) (c .set-word .ensures) (h .loop .inv .2))
-
-byte-requires : tie.Need-byte-requires Inv-loop μ-loop
-byte-requires c κs = search needs
 
 returns : tie.Need-returns Inv-loop μ-loop
 unfolding labelAt
@@ -59,17 +38,5 @@ returns c =
 
 pub label-at-spec : {M : Type 1} → statement M
 label-at-spec =
-    tie.close
-    (tie.spec
-    Inv-loop
-    μ-loop
-    loop-holds
-    add-set-word
-    set-word-requires
-    mul-categories
-    array-write-categories
-    add-j
-    loop-less
-    loop-again
-    byte-requires
-    returns)
+    tie.close (tie.spec Inv-loop μ-loop loop-holds (search needs) (search needs) (search needs) (search needs) (search needs)
+    (search needs) loop-again (search needs) returns)

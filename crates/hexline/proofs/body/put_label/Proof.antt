@@ -18,37 +18,16 @@ Inv-loop out₀ at words categories i₀ out i =
 abbrev μ-loop : tie.MeasureT-loop
 μ-loop out₀ at words categories i₀ out i = 8 * words - i
 
-slice-write-out : tie.Need-slice-write-out Inv-loop μ-loop
-slice-write-out c = search needs
-
 loop-holds : tie.Need-loop-holds Inv-loop μ-loop
 loop-holds c =
     let a = c .before .before .args in
     (search needs, fill-start (categoryByte (a .l .categories)) (set (a .out .now) (a .at) (a .l .hierarchy)) (a .at + 1), refl)
-
-mul-loop : tie.Need-mul-loop Inv-loop μ-loop
-mul-loop c = search needs
-
-category-byte-requires : tie.Need-category-byte-requires Inv-loop μ-loop
-category-byte-requires c κs = search needs
-
-add-out : tie.Need-add-out Inv-loop μ-loop
-add-out c = search needs
-
-add-out-2 : tie.Need-add-out-2 Inv-loop μ-loop
-add-out-2 c = search needs
 
 slice-write-out-2 : tie.Need-slice-write-out-2 Inv-loop μ-loop
 slice-write-out-2 c =
     let h = c .before .before in
     let n = simp length-set at (h .loop .inv .2) in
     omega arith
-
-add-i : tie.Need-add-i Inv-loop μ-loop
-add-i c = search needs
-
-loop-less : tie.Need-loop-less Inv-loop μ-loop
-loop-less c = search needs
 
 loop-again : tie.Need-loop-again Inv-loop μ-loop
 loop-again c =
@@ -63,12 +42,6 @@ loop-again c =
           (omega arith) (c .category-byte .ensures) (h .loop .inv .1),
       length-set (h .loop .out) (k + i) v ∙ h .loop .inv .2,
     )
-
-add-result : tie.Need-add-result Inv-loop μ-loop
-add-result c = search needs
-
-add-result-2 : tie.Need-add-result-2 Inv-loop μ-loop
-add-result-2 c = search needs
 
 same-length : tie.Need-same-length Inv-loop μ-loop
 same-length c = simp length-set at (c .before .loop .inv .2)
@@ -86,21 +59,5 @@ returns c =
 
 pub put-label-spec : {M : Type 1} → statement M
 put-label-spec =
-    tie.close
-    (tie.spec
-    Inv-loop
-    μ-loop
-    slice-write-out
-    loop-holds
-    mul-loop
-    category-byte-requires
-    add-out
-    add-out-2
-    slice-write-out-2
-    add-i
-    loop-less
-    loop-again
-    add-result
-    add-result-2
-    same-length
-    returns)
+    tie.close (tie.spec Inv-loop μ-loop (search needs) loop-holds (search needs) (search needs) (search needs) (search needs)
+    slice-write-out-2 (search needs) (search needs) loop-again (search needs) (search needs) same-length returns)

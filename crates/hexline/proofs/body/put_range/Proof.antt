@@ -6,9 +6,6 @@ use Rattle.hexline.proofs.BodyLoops.{appended-both}
 use Rattle.hexline.proofs.body.put_range.Statement.{statement}
 use Rattle.hexline.proofs.body.put_range.Tie as tie
 
-put-label-requires : tie.Need-put-label-requires
-put-label-requires c κs = search needs
-
 put-label-requires-2 : tie.Need-put-label-requires-2
 put-label-requires-2 c κs =
     let p = c .before .before .before in
@@ -18,9 +15,6 @@ put-label-requires-2 c κs =
     let size = p .put-label .ensures .size in
     (search needs, omega arith)
 
-same-length : tie.Need-same-length
-same-length c = search needs
-
 returns : tie.Need-returns
 unfolding rangeBytes
 returns c =
@@ -28,4 +22,4 @@ returns c =
     appended-both (q .before .before .before .before .put-label .ensures) (q .put-label2 .ensures)
 
 pub put-range-spec : {M : Type 1} → statement M
-put-range-spec = tie.close (tie.spec put-label-requires put-label-requires-2 same-length returns)
+put-range-spec = tie.close (tie.spec (search needs) put-label-requires-2 (search needs) returns)

@@ -4,15 +4,6 @@ use Rattle.hexline.proofs.BodyLaws.{word-from, word-past}
 use Rattle.hexline.proofs.body.set_word.Statement.{statement}
 use Rattle.hexline.proofs.body.set_word.Tie as tie
 
-mul-word-at : tie.Need-mul-word-at
-mul-word-at c = search needs
-
-add-word-at : tie.Need-add-word-at
-add-word-at c = search needs
-
-word-at-requires : tie.Need-word-at-requires
-word-at-requires c κs = search needs
-
 returns : tie.Need-returns
 returns c = c .word-at .ensures ∙ sym (word-from _ _ _ _ (c .before .if1 .taken))
 
@@ -20,4 +11,4 @@ returns-2 : tie.Need-returns-2
 returns-2 c = sym (word-past _ _ _ _ (c .if1 .left))
 
 pub set-word-spec : {M : Type 1} → statement M
-set-word-spec = tie.close (tie.spec mul-word-at add-word-at word-at-requires returns returns-2)
+set-word-spec = tie.close (tie.spec (search needs) (search needs) (search needs) returns returns-2)

@@ -20,23 +20,11 @@ loop-holds : tie.Need-loop-holds Inv-loop μ-loop
 unfolding numberOf
 loop-holds c = (search needs, refl)
 
-sub-k : tie.Need-sub-k Inv-loop μ-loop
-sub-k c = search needs
-
 mul-w : tie.Need-mul-w Inv-loop μ-loop
 mul-w c =
     let h = c .before in
     let room = word-room (bodyOf (h .before .before .args .line .now)) (body-small (h .before .before .args .line .now)) (h .before .before .args .at + h .loop .k) (8 - h .loop .k) (omega arith) in
     record { fits = omega (arith, h .loop .inv .1) }
-
-add-byte : tie.Need-add-byte Inv-loop μ-loop
-add-byte c = search needs
-
-byte-requires : tie.Need-byte-requires Inv-loop μ-loop
-byte-requires c κs = search needs
-
-cast-w : tie.Need-cast-w Inv-loop μ-loop
-cast-w c = search needs
 
 add-w : tie.Need-add-w Inv-loop μ-loop
 add-w c =
@@ -45,9 +33,6 @@ add-w c =
     let at = h .before .before .args .at in
     let room = word-room (bodyOf line) (body-small line) (at + h .loop .k) (8 - h .loop .k) (omega arith) in
     record { fits = omega (arith, h .loop .inv .1, c .byte .ensures, body-small line (at + (h .loop .k - 1))) }
-
-loop-less : tie.Need-loop-less Inv-loop μ-loop
-loop-less c = search needs
 
 loop-again : tie.Need-loop-again Inv-loop μ-loop
 loop-again c =
@@ -68,17 +53,5 @@ returns c =
 
 pub word-at-spec : {M : Type 1} → statement M
 word-at-spec =
-    tie.close
-    (tie.spec
-    Inv-loop
-    μ-loop
-    loop-holds
-    sub-k
-    mul-w
-    add-byte
-    byte-requires
-    cast-w
-    add-w
-    loop-less
-    loop-again
-    returns)
+    tie.close (tie.spec Inv-loop μ-loop loop-holds (search needs) mul-w (search needs) (search needs) (search needs) add-w (search needs)
+    loop-again returns)

@@ -21,23 +21,11 @@ loop-holds : tie.Need-loop-holds Inv-loop μ-loop
 unfolding every
 loop-holds c = (search needs, refl)
 
-shared-slice-read-name-byte-ok : tie.Need-shared-slice-read-name-byte-ok Inv-loop μ-loop
-shared-slice-read-name-byte-ok c = search needs
-
-name-byte-ok-requires : tie.Need-name-byte-ok-requires Inv-loop μ-loop
-name-byte-ok-requires c κs = search needs
-
 returns : tie.Need-returns Inv-loop μ-loop
 returns c =
     let h = c .before .before .before .before in
     let a = h .before .before .args in
     sym (every-stop (nameByteAt (a .bytes .now) (a .n)) _ (h .loop .i) (omega arith) (sym (c .before .name-byte-ok .ensures) ∙ not-true _ (c .if1 .taken)))
-
-add-i : tie.Need-add-i Inv-loop μ-loop
-add-i c = search needs
-
-loop-less : tie.Need-loop-less Inv-loop μ-loop
-loop-less c = search needs
 
 loop-again : tie.Need-loop-again Inv-loop μ-loop
 loop-again c =
@@ -53,15 +41,4 @@ returns-2 c =
 
 pub all-name-bytes-spec : {M : Type 1} → statement M
 all-name-bytes-spec =
-    tie.close
-    (tie.spec
-    Inv-loop
-    μ-loop
-    loop-holds
-    shared-slice-read-name-byte-ok
-    name-byte-ok-requires
-    returns
-    add-i
-    loop-less
-    loop-again
-    returns-2)
+    tie.close (tie.spec Inv-loop μ-loop loop-holds (search needs) (search needs) returns (search needs) (search needs) loop-again returns-2)

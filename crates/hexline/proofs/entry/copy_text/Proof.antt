@@ -24,15 +24,6 @@ loop-holds c = (search needs, refl, refl)
 text-byte-requires : tie.Need-text-byte-requires Inv-loop μ-loop
 text-byte-requires c κs = let n = c .before .loop .inv .1 in search needs
 
-slice-write-out : tie.Need-slice-write-out Inv-loop μ-loop
-slice-write-out c = search needs
-
-add-k : tie.Need-add-k Inv-loop μ-loop
-add-k c = search needs
-
-loop-less : tie.Need-loop-less Inv-loop μ-loop
-loop-less c = search needs
-
 loop-again : tie.Need-loop-again Inv-loop μ-loop
 loop-again c =
     let h = c .before .before in
@@ -51,15 +42,5 @@ returns c =
 
 pub copy-text-spec : {M : Type 1} → statement M
 copy-text-spec =
-    tie.close
-    (tie.spec
-    Inv-loop
-    μ-loop
-    loop-holds
-    text-byte-requires
-    slice-write-out
-    add-k
-    loop-less
-    loop-again
-    same-length
+    tie.close (tie.spec Inv-loop μ-loop loop-holds text-byte-requires (search needs) (search needs) (search needs) loop-again same-length
     returns)

@@ -4,14 +4,8 @@ use lib.ListN.{List·getD-eq-default}
 use Rattle.hexline.proofs.entry.first.Statement.{statement}
 use Rattle.hexline.proofs.entry.first.Tie as tie
 
-shared-slice-read-result : tie.Need-shared-slice-read-result
-shared-slice-read-result c = search needs
-
-returns : tie.Need-returns
-returns c = search needs
-
 returns-2 : tie.Need-returns-2
 returns-2 c = sym (List·getD-eq-default (c .before .args .bytes .now) 0 (c .if1 .left))
 
 pub first-spec : {M : Type 1} → statement M
-first-spec = tie.close (tie.spec shared-slice-read-result returns returns-2)
+first-spec = tie.close (tie.spec (search needs) (search needs) returns-2)

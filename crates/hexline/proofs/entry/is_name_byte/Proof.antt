@@ -3,12 +3,9 @@ use Rattle.hexline.specs.Entry.{isNameByte}
 use Rattle.hexline.proofs.entry.is_name_byte.Statement.{statement}
 use Rattle.hexline.proofs.entry.is_name_byte.Tie as tie
 
-is-letter-requires : tie.Need-is-letter-requires
-is-letter-requires c κs = search needs
-
 returns : tie.Need-returns
 unfolding isNameByte
 returns c = rw (c .is-letter .ensures)
 
 pub is-name-byte-spec : {M : Type 1} → statement M
-is-name-byte-spec = tie.close (tie.spec is-letter-requires returns)
+is-name-byte-spec = tie.close (tie.spec (search needs) returns)

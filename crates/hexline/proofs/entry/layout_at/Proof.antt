@@ -7,15 +7,6 @@ use Rattle.hexline.proofs.EntryLaws.{size-small}
 use Rattle.hexline.proofs.entry.layout_at.Statement.{statement}
 use Rattle.hexline.proofs.entry.layout_at.Tie as tie
 
-byte-requires : tie.Need-byte-requires
-byte-requires c κs = search needs
-
-add-span-at : tie.Need-add-span-at
-add-span-at c = search needs
-
-value-size-requires : tie.Need-value-size-requires
-value-size-requires c κs = search needs
-
 add-span-at-2 : tie.Need-add-span-at-2
 add-span-at-2 c =
     let a = c .before .before .before in
@@ -54,13 +45,5 @@ returns c =
 
 pub layout-at-spec : {M : Type 1} → statement M
 layout-at-spec =
-    tie.close
-    (tie.spec
-    byte-requires
-    add-span-at
-    value-size-requires
-    add-span-at-2
-    span-at-requires
-    add-span-at-3
-    span-at-requires-2
+    tie.close (tie.spec (search needs) (search needs) (search needs) add-span-at-2 span-at-requires add-span-at-3 span-at-requires-2
     returns)

@@ -4,9 +4,6 @@ use Rattle.hexline.specs.Entry.{nameByteOk}
 use Rattle.hexline.proofs.entry.name_byte_ok.Statement.{statement}
 use Rattle.hexline.proofs.entry.name_byte_ok.Tie as tie
 
-is-name-byte-requires : tie.Need-is-name-byte-requires
-is-name-byte-requires c κs = search needs
-
 returns : tie.Need-returns
 unfolding nameByteOk
 returns c = rw (lt-ltb _ _ (c .before .if1 .taken), c .is-name-byte .ensures)
@@ -16,4 +13,4 @@ unfolding nameByteOk
 returns-2 c = rw (le-ltb _ _ (c .if1 .left))
 
 pub name-byte-ok-spec : {M : Type 1} → statement M
-name-byte-ok-spec = tie.close (tie.spec is-name-byte-requires returns returns-2)
+name-byte-ok-spec = tie.close (tie.spec (search needs) returns returns-2)

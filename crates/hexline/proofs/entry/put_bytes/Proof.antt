@@ -13,15 +13,6 @@ slice-aggregate-copy c =
     let start = c .before .before .before in
     sym (length-take-le (start .args .n) (start .args .text .now) (start .pre .0))
 
-sub-copy : tie.Need-sub-copy
-sub-copy c = search needs
-
-part-copy-start : tie.Need-part-copy-start
-part-copy-start c = search needs
-
-part-copy-end : tie.Need-part-copy-end
-part-copy-end c = search needs
-
 copy-requires : tie.Need-copy-requires
 copy-requires c κs =
     let start = c .before .before .before .before in
@@ -30,12 +21,6 @@ copy-requires c κs =
     let d = length-drop (a .at) (a .out .now) in
     let l = length-take-le (length (a .out .now) - a .at) (drop (a .at) (a .out .now)) (omega arith) in
     omega arith
-
-add-result : tie.Need-add-result
-add-result c = search needs
-
-same-length : tie.Need-same-length
-same-length c = search needs
 
 returns : tie.Need-returns
 returns c =
@@ -51,13 +36,5 @@ returns c =
 
 pub put-bytes-spec : {M : Type 1} → statement M
 put-bytes-spec =
-    tie.close
-    (tie.spec
-    slice-aggregate-copy
-    sub-copy
-    part-copy-start
-    part-copy-end
-    copy-requires
-    add-result
-    same-length
+    tie.close (tie.spec slice-aggregate-copy (search needs) (search needs) (search needs) copy-requires (search needs) (search needs)
     returns)

@@ -4,12 +4,6 @@ use Rattle.hexline.proofs.EntryLaws.{entry-joined, valid-parts, value-l
 use Rattle.hexline.proofs.entry.put_entry.Statement.{statement}
 use Rattle.hexline.proofs.entry.put_entry.Tie as tie
 
-class-of-requires : tie.Need-class-of-requires
-class-of-requires c κs = search needs
-
-put-byte-requires : tie.Need-put-byte-requires
-put-byte-requires c κs = search needs
-
 put-value-requires : tie.Need-put-value-requires
 put-value-requires c κs =
     let p = c .before .before .before in
@@ -40,9 +34,6 @@ put-abbreviation-requires c κs =
       omega (arith, p .put-byte .ensures .next, p .put-byte .ensures .size, q .put-value .ensures .next, q .put-value .ensures .size, r .put-name .ensures .0 .size, r .put-name .ensures .1),
     )
 
-same-length : tie.Need-same-length
-same-length c = search needs
-
 returns : tie.Need-returns
 returns c =
     let s = c .before .before in
@@ -57,12 +48,4 @@ returns c =
 
 pub put-entry-spec : {M : Type 1} → statement M
 put-entry-spec =
-    tie.close
-    (tie.spec
-    class-of-requires
-    put-byte-requires
-    put-value-requires
-    put-name-requires
-    put-abbreviation-requires
-    same-length
-    returns)
+    tie.close (tie.spec (search needs) (search needs) put-value-requires put-name-requires put-abbreviation-requires (search needs) returns)

@@ -7,21 +7,12 @@ use Rattle.hexline.proofs.BodyLoops.{appended-both}
 use Rattle.hexline.proofs.entry.put_text.Statement.{statement}
 use Rattle.hexline.proofs.entry.put_text.Tie as tie
 
-cast-put-byte : tie.Need-cast-put-byte
-cast-put-byte c = search needs
-
-put-byte-requires : tie.Need-put-byte-requires
-put-byte-requires c κs = search needs
-
 put-bytes-requires : tie.Need-put-bytes-requires
 put-bytes-requires c κs =
     let p = c .before .before .before in
     let n = p .put-byte .ensures .next in
     let s = p .put-byte .ensures .size in
     (search needs, omega arith)
-
-same-length : tie.Need-same-length
-same-length c = search needs
 
 returns : tie.Need-returns
 returns c =
@@ -32,5 +23,4 @@ returns c =
     appended-both (rw e at (p .put-byte .ensures)) (q .put-bytes .ensures)
 
 pub put-text-spec : {M : Type 1} → statement M
-put-text-spec =
-    tie.close (tie.spec cast-put-byte put-byte-requires put-bytes-requires same-length returns)
+put-text-spec = tie.close (tie.spec (search needs) (search needs) put-bytes-requires (search needs) returns)

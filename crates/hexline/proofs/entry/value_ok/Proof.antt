@@ -6,24 +6,6 @@ use Rattle.hexline.specs.declared.entry.Value.{Value}
 use Rattle.hexline.proofs.entry.value_ok.Statement.{statement}
 use Rattle.hexline.proofs.entry.value_ok.Tie as tie
 
-enum-known-v : tie.Need-enum-known-v
-enum-known-v c = search needs
-
-is-zero-requires : tie.Need-is-zero-requires
-is-zero-requires c κs = search needs
-
-enum-known-v-2 : tie.Need-enum-known-v-2
-enum-known-v-2 c = search needs
-
-is-zero-requires-2 : tie.Need-is-zero-requires-2
-is-zero-requires-2 c κs = search needs
-
-enum-told : tie.Need-enum-told
-enum-told c = search needs
-
-valid-requires : tie.Need-valid-requires
-valid-requires c κs = search needs
-
 returns : tie.Need-returns
 unfolding valueOk validOf
 returns c =
@@ -44,14 +26,5 @@ returns-3 c =
 
 pub value-ok-spec : {M : Type 1} → statement M
 value-ok-spec =
-    tie.close
-    (tie.spec
-    enum-known-v
-    is-zero-requires
-    enum-known-v-2
-    is-zero-requires-2
-    enum-told
-    valid-requires
-    returns
-    returns-2
+    tie.close (tie.spec (search needs) (search needs) (search needs) (search needs) (search needs) (search needs) returns returns-2
     returns-3)

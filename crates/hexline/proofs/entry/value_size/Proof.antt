@@ -4,12 +4,6 @@ use Rattle.hexline.specs.Entry.{valueSize}
 use Rattle.hexline.proofs.entry.value_size.Statement.{statement}
 use Rattle.hexline.proofs.entry.value_size.Tie as tie
 
-mul-result : tie.Need-mul-result
-mul-result c = search needs
-
-add-result : tie.Need-add-result
-add-result c = search needs
-
 returns : tie.Need-returns
 unfolding valueSize
 returns c = rw (eq-eqb _ _ (c .if1 .taken))
@@ -19,4 +13,4 @@ unfolding valueSize
 returns-2 c = rw (ne-eqb _ _ (c .if1 .left))
 
 pub value-size-spec : {M : Type 1} → statement M
-value-size-spec = tie.close (tie.spec mul-result add-result returns returns-2)
+value-size-spec = tie.close (tie.spec (search needs) (search needs) returns returns-2)

@@ -2,11 +2,8 @@ use borrow.Author.Needs.{needs}
 use Rattle.hexline.proofs.entry.zero.Statement.{statement}
 use Rattle.hexline.proofs.entry.zero.Tie as tie
 
-zero-requires : tie.Need-zero-requires
-zero-requires c κs = search needs
-
 returns : tie.Need-returns
 returns c = rw (c .zero .ensures)
 
 pub zero-spec : {M : Type 1} → statement M
-zero-spec = tie.close (tie.spec zero-requires returns)
+zero-spec = tie.close (tie.spec (search needs) returns)

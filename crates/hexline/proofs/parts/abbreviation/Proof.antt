@@ -11,12 +11,6 @@ use Rattle.hexline.proofs.EntryLaws.{layout-small}
 use Rattle.hexline.proofs.parts.abbreviation.Statement.{statement}
 use Rattle.hexline.proofs.parts.abbreviation.Tie as tie
 
-layout-at-requires : tie.Need-layout-at-requires
-layout-at-requires c κs = search needs
-
-at-most-requires : tie.Need-at-most-requires
-at-most-requires c κs = search needs
-
 returns : tie.Need-returns
 unfolding abbreviationIn
 returns c =
@@ -27,4 +21,4 @@ returns c =
     (e, rw e (omega (arith, small .abbreviation)))
 
 pub abbreviation-spec : {M : Type 1} → statement M
-abbreviation-spec = tie.close (tie.spec layout-at-requires at-most-requires returns)
+abbreviation-spec = tie.close (tie.spec (search needs) (search needs) returns)

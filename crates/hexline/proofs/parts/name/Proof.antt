@@ -11,12 +11,6 @@ use Rattle.hexline.proofs.EntryLaws.{layout-small}
 use Rattle.hexline.proofs.parts.name.Statement.{statement}
 use Rattle.hexline.proofs.parts.name.Tie as tie
 
-layout-at-requires : tie.Need-layout-at-requires
-layout-at-requires c κs = search needs
-
-at-most-requires : tie.Need-at-most-requires
-at-most-requires c κs = search needs
-
 returns : tie.Need-returns
 unfolding nameIn
 returns c =
@@ -27,4 +21,4 @@ returns c =
     (e, rw e (omega (arith, small .name)))
 
 pub name-spec : {M : Type 1} → statement M
-name-spec = tie.close (tie.spec layout-at-requires at-most-requires returns)
+name-spec = tie.close (tie.spec (search needs) (search needs) returns)

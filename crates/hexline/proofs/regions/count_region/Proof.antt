@@ -2,9 +2,6 @@ use borrow.Author.Needs.{needs}
 use Rattle.hexline.proofs.regions.count_region.Statement.{statement}
 use Rattle.hexline.proofs.regions.count_region.Tie as tie
 
-has-region-requires : tie.Need-has-region-requires
-has-region-requires c κs = search needs
-
 returns : tie.Need-returns
 returns c = rw (← c .before .has-region .ensures, c .if1 .taken)
 
@@ -12,4 +9,4 @@ returns-2 : tie.Need-returns-2
 returns-2 c = rw (← c .before .has-region .ensures, c .if1 .left)
 
 pub count-region-spec : {M : Type 1} → statement M
-count-region-spec = tie.close (tie.spec has-region-requires returns returns-2)
+count-region-spec = tie.close (tie.spec (search needs) returns returns-2)

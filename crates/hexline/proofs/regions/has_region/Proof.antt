@@ -3,15 +3,9 @@ use Rattle.label.specs.Words.{bit}
 use Rattle.hexline.proofs.regions.has_region.Statement.{statement}
 use Rattle.hexline.proofs.regions.has_region.Tie as tie
 
-cast-result : tie.Need-cast-result
-cast-result c = search needs
-
-shr-result : tie.Need-shr-result
-shr-result c = search needs
-
 returns : tie.Need-returns
 unfolding bit
 returns c = search needs
 
 pub has-region-spec : {M : Type 1} → statement M
-has-region-spec = tie.close (tie.spec cast-result shr-result returns)
+has-region-spec = tie.close (tie.spec (search needs) (search needs) returns)

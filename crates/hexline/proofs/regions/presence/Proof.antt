@@ -20,17 +20,11 @@ loop-holds : tie.Need-loop-holds Inv-loop μ-loop
 unfolding numberOf
 loop-holds c = (search needs, refl)
 
-sub-r : tie.Need-sub-r Inv-loop μ-loop
-sub-r c = search needs
-
 mul-p : tie.Need-mul-p Inv-loop μ-loop
 mul-p c =
     let h = c .before in
     let room = presence-room (h .before .args .t) (h .loop .r) (regions - h .loop .r) (omega arith) in
     record { fits = omega (arith, h .loop .inv .1) }
-
-present-at-requires : tie.Need-present-at-requires Inv-loop μ-loop
-present-at-requires c κs = search needs
 
 add-p : tie.Need-add-p Inv-loop μ-loop
 add-p c =
@@ -38,9 +32,6 @@ add-p c =
     let t = h .before .args .t in
     let room = presence-room t (h .loop .r) (regions - h .loop .r) (omega arith) in
     record { fits = omega (arith, h .loop .inv .1, c .present-at .ensures, present-small t (h .loop .r - 1)) }
-
-loop-less : tie.Need-loop-less Inv-loop μ-loop
-loop-less c = search needs
 
 loop-again : tie.Need-loop-again Inv-loop μ-loop
 loop-again c =
@@ -60,16 +51,4 @@ returns c =
     h .loop .inv .1 ∙ ap₂ (numberOf 2 (presentAt (h .before .args .t))) (omega arith) (omega arith)
 
 pub presence-spec : {M : Type 1} → statement M
-presence-spec =
-    tie.close
-    (tie.spec
-    Inv-loop
-    μ-loop
-    loop-holds
-    sub-r
-    mul-p
-    present-at-requires
-    add-p
-    loop-less
-    loop-again
-    returns)
+presence-spec = tie.close (tie.spec Inv-loop μ-loop loop-holds (search needs) mul-p (search needs) add-p (search needs) loop-again returns)

@@ -2,12 +2,6 @@ use borrow.Author.Needs.{needs}
 use Rattle.hexline.proofs.regions.present_at.Statement.{statement}
 use Rattle.hexline.proofs.regions.present_at.Tie as tie
 
-mul-if1 : tie.Need-mul-if1
-mul-if1 c = search needs
-
-element-copy-out-if1 : tie.Need-element-copy-out-if1
-element-copy-out-if1 c = search needs
-
 returns : tie.Need-returns
 returns c = rw (c .if1 .taken)
 
@@ -15,4 +9,4 @@ returns-2 : tie.Need-returns-2
 returns-2 c = rw (c .if1 .left)
 
 pub present-at-spec : {M : Type 1} → statement M
-present-at-spec = tie.close (tie.spec mul-if1 element-copy-out-if1 returns returns-2)
+present-at-spec = tie.close (tie.spec (search needs) (search needs) returns returns-2)

@@ -18,20 +18,11 @@ loop-holds : tie.Need-loop-holds Inv-loop μ-loop
 unfolding presentBelow
 loop-holds c = (search needs, search needs, refl)
 
-count-region-requires : tie.Need-count-region-requires Inv-loop μ-loop
-count-region-requires c κs = search needs
-
 add-k : tie.Need-add-k Inv-loop μ-loop
 add-k c =
     let h = c .before .before in
     let one = one-of (bit (h .before .args .p) (h .loop .r)) in
     record { fits = omega (arith, c .count-region .ensures) }
-
-add-r : tie.Need-add-r Inv-loop μ-loop
-add-r c = search needs
-
-loop-less : tie.Need-loop-less Inv-loop μ-loop
-loop-less c = search needs
 
 loop-again : tie.Need-loop-again Inv-loop μ-loop
 loop-again c =
@@ -48,15 +39,4 @@ returns c =
     (h .loop .inv .2 ∙ ap (presentBelow (h .before .args .p)) e, omega arith)
 
 pub present-below-spec : {M : Type 1} → statement M
-present-below-spec =
-    tie.close
-    (tie.spec
-    Inv-loop
-    μ-loop
-    loop-holds
-    count-region-requires
-    add-k
-    add-r
-    loop-less
-    loop-again
-    returns)
+present-below-spec = tie.close (tie.spec Inv-loop μ-loop loop-holds (search needs) add-k (search needs) (search needs) loop-again returns)

@@ -4,12 +4,6 @@ use Rattle.hexline.proofs.RegionsLaws.{region-none, region-there}
 use Rattle.hexline.proofs.regions.put_region.Statement.{statement}
 use Rattle.hexline.proofs.regions.put_region.Tie as tie
 
-put-range-requires : tie.Need-put-range-requires
-put-range-requires c κs = search needs
-
-same-length : tie.Need-same-length
-same-length c = search needs
-
 returns : tie.Need-returns
 returns c =
     let p = c .before .before in
@@ -20,4 +14,4 @@ returns-2 : tie.Need-returns-2
 returns-2 c = let a = c .before .before .args in rw (region-none (a .words) (a .e) (c .if1 .left)) (appended-none _ _)
 
 pub put-region-spec : {M : Type 1} → statement M
-put-region-spec = tie.close (tie.spec put-range-requires same-length returns returns-2)
+put-region-spec = tie.close (tie.spec (search needs) (search needs) returns returns-2)

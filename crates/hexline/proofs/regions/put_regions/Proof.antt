@@ -20,12 +20,6 @@ loop-holds : tie.Need-loop-holds Inv-loop μ-loop
 unfolding regionsBytes
 loop-holds c = (search needs, appended-none _ _)
 
-mul-put-region : tie.Need-mul-put-region Inv-loop μ-loop
-mul-put-region c = search needs
-
-element-copy-out-put-region : tie.Need-element-copy-out-put-region Inv-loop μ-loop
-element-copy-out-put-region c = search needs
-
 put-region-requires : tie.Need-put-region-requires Inv-loop μ-loop
 put-region-requires c κs =
     let h = c .before .before .before in
@@ -34,12 +28,6 @@ put-region-requires c κs =
     let next = h .loop .inv .1 .next in
     let size = h .loop .inv .1 .size in
     (search needs, omega arith)
-
-add-r : tie.Need-add-r Inv-loop μ-loop
-add-r c = search needs
-
-loop-less : tie.Need-loop-less Inv-loop μ-loop
-loop-less c = search needs
 
 loop-again : tie.Need-loop-again Inv-loop μ-loop
 loop-again c =
@@ -59,16 +47,5 @@ returns c =
 
 pub put-regions-spec : {M : Type 1} → statement M
 put-regions-spec =
-    tie.close
-    (tie.spec
-    Inv-loop
-    μ-loop
-    loop-holds
-    mul-put-region
-    element-copy-out-put-region
-    put-region-requires
-    add-r
-    loop-less
-    loop-again
-    same-length
-    returns)
+    tie.close (tie.spec Inv-loop μ-loop loop-holds (search needs) (search needs) put-region-requires (search needs) (search needs)
+    loop-again same-length returns)

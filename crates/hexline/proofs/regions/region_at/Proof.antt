@@ -8,27 +8,6 @@ use Rattle.hexline.proofs.RegionsLaws.{present-room}
 use Rattle.hexline.proofs.regions.region_at.Statement.{statement}
 use Rattle.hexline.proofs.regions.region_at.Tie as tie
 
-has-region-requires : tie.Need-has-region-requires
-has-region-requires c κs = search needs
-
-mul-size : tie.Need-mul-size
-mul-size c = search needs
-
-add-size : tie.Need-add-size
-add-size c = search needs
-
-mul-size-2 : tie.Need-mul-size-2
-mul-size-2 c = search needs
-
-add-size-2 : tie.Need-add-size-2
-add-size-2 c = search needs
-
-add-size-3 : tie.Need-add-size-3
-add-size-3 c = search needs
-
-present-below-requires : tie.Need-present-below-requires
-present-below-requires c κs = search needs
-
 mul-range-at : tie.Need-mul-range-at
 mul-range-at c =
     let a = c .before .before .before .before .args in
@@ -59,27 +38,11 @@ returns c =
     let k = c .before in
     rw (← k .before .before .has-region .ensures, k .before .if1 .taken, c .range-at .ensures, k .present-below .ensures .0)
 
-no-range-requires : tie.Need-no-range-requires
-no-range-requires c κs = search needs
-
 returns-2 : tie.Need-returns-2
 unfolding regionAt
 returns-2 c = rw (← c .before .before .has-region .ensures, c .before .if1 .left, c .no-range .ensures)
 
 pub region-at-spec : {M : Type 1} → statement M
 region-at-spec =
-    tie.close
-    (tie.spec
-    has-region-requires
-    mul-size
-    add-size
-    mul-size-2
-    add-size-2
-    add-size-3
-    present-below-requires
-    mul-range-at
-    add-range-at
-    range-at-requires
-    returns
-    no-range-requires
-    returns-2)
+    tie.close (tie.spec (search needs) (search needs) (search needs) (search needs) (search needs) (search needs) (search needs)
+    mul-range-at add-range-at range-at-requires returns (search needs) returns-2)

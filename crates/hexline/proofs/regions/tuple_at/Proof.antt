@@ -19,27 +19,9 @@ Inv-loop line p at words ranges₀ r₀ ranges r =
 abbrev μ-loop : tie.MeasureT-loop
 μ-loop line p at words ranges₀ r₀ ranges r = regions - r
 
-no-range-requires : tie.Need-no-range-requires Inv-loop μ-loop
-no-range-requires c κs = search needs
-
 loop-holds : tie.Need-loop-holds Inv-loop μ-loop
 unfolding tabulate
 loop-holds c = (search needs, refl, refl)
-
-region-at-requires : tie.Need-region-at-requires Inv-loop μ-loop
-region-at-requires c κs = search needs
-
-mul-ranges : tie.Need-mul-ranges Inv-loop μ-loop
-mul-ranges c = search needs
-
-array-set-from-ranges : tie.Need-array-set-from-ranges Inv-loop μ-loop
-array-set-from-ranges c = search needs
-
-add-r : tie.Need-add-r Inv-loop μ-loop
-add-r c = search needs
-
-loop-less : tie.Need-loop-less Inv-loop μ-loop
-loop-less c = search needs
 
 loop-again : tie.Need-loop-again Inv-loop μ-loop
 loop-again c =
@@ -56,16 +38,5 @@ returns c =
 
 pub tuple-at-spec : {M : Type 1} → statement M
 tuple-at-spec =
-    tie.close
-    (tie.spec
-    Inv-loop
-    μ-loop
-    no-range-requires
-    loop-holds
-    region-at-requires
-    mul-ranges
-    array-set-from-ranges
-    add-r
-    loop-less
-    loop-again
-    returns)
+    tie.close (tie.spec Inv-loop μ-loop (search needs) loop-holds (search needs) (search needs) (search needs) (search needs)
+    (search needs) loop-again returns)

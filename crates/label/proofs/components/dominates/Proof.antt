@@ -3,12 +3,9 @@ use Rattle.label.specs.Label.{dominatesOf}
 use Rattle.label.proofs.components.dominates.Statement.{statement}
 use Rattle.label.proofs.components.dominates.Tie as tie
 
-includes-requires : tie.Need-includes-requires
-includes-requires c κs = search needs
-
 returns : tie.Need-returns
 unfolding dominatesOf
 returns c = cc
 
 pub dominates-spec : {M : Type 1} → statement M
-dominates-spec = tie.close (tie.spec includes-requires returns)
+dominates-spec = tie.close (tie.spec (search needs) returns)

@@ -4,15 +4,9 @@ use Rattle.label.specs.Label.{labelOf, lowerBoundOf}
 use Rattle.label.proofs.components.lower_bound.Statement.{statement}
 use Rattle.label.proofs.components.lower_bound.Tie as tie
 
-lower-requires : tie.Need-lower-requires
-lower-requires c κs = search needs
-
-intersection-requires : tie.Need-intersection-requires
-intersection-requires c κs = search needs
-
 returns : tie.Need-returns
 unfolding lowerBoundOf
 returns c = ap₂ labelOf (c .before .lower .ensures) (c .intersection .ensures)
 
 pub lower-bound-spec : {M : Type 1} → statement M
-lower-bound-spec = tie.close (tie.spec lower-requires intersection-requires returns)
+lower-bound-spec = tie.close (tie.spec (search needs) (search needs) returns)

@@ -4,15 +4,9 @@ use Rattle.label.specs.Label.{labelOf, upperBoundOf}
 use Rattle.label.proofs.components.upper_bound.Statement.{statement}
 use Rattle.label.proofs.components.upper_bound.Tie as tie
 
-higher-requires : tie.Need-higher-requires
-higher-requires c κs = search needs
-
-union-requires : tie.Need-union-requires
-union-requires c κs = search needs
-
 returns : tie.Need-returns
 unfolding upperBoundOf
 returns c = ap₂ labelOf (c .before .higher .ensures) (c .union .ensures)
 
 pub upper-bound-spec : {M : Type 1} → statement M
-upper-bound-spec = tie.close (tie.spec higher-requires union-requires returns)
+upper-bound-spec = tie.close (tie.spec (search needs) (search needs) returns)

@@ -6,12 +6,6 @@ use Rattle.label.specs.Region.{regions}
 use Rattle.label.proofs.region.entry.Statement.{statement}
 use Rattle.label.proofs.region.entry.Tie as tie
 
-array-read-result : tie.Need-array-read-result
-array-read-result c = search needs
-
-returns : tie.Need-returns
-returns c = search needs
-
 returns-2 : tie.Need-returns-2
 returns-2 c =
     let t = c .before .args .t1 in
@@ -19,4 +13,4 @@ returns-2 c =
     sym (List·getD-eq-default t 0 (omega arith))
 
 pub entry-spec : {M : Type 1} → statement M
-entry-spec = tie.close (tie.spec array-read-result returns returns-2)
+entry-spec = tie.close (tie.spec (search needs) (search needs) returns-2)

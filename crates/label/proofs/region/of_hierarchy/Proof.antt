@@ -4,15 +4,9 @@ use Rattle.label.specs.Region.{regionOf}
 use Rattle.label.proofs.region.of_hierarchy.Statement.{statement}
 use Rattle.label.proofs.region.of_hierarchy.Tie as tie
 
-array-read-if1 : tie.Need-array-read-if1
-array-read-if1 c = search needs
-
 returns : tie.Need-returns
 unfolding regionOf
 returns c = simp (le-leb _ _ (c .if1 .taken))
-
-array-read-if2 : tie.Need-array-read-if2
-array-read-if2 c = search needs
 
 returns-2 : tie.Need-returns-2
 unfolding regionOf
@@ -23,4 +17,4 @@ unfolding regionOf
 returns-3 c = simp (lt-leb _ _ (c .before .if1 .left), lt-leb _ _ (c .if2 .left))
 
 pub of-hierarchy-spec : {M : Type 1} → statement M
-of-hierarchy-spec = tie.close (tie.spec array-read-if1 returns array-read-if2 returns-2 returns-3)
+of-hierarchy-spec = tie.close (tie.spec (search needs) returns (search needs) returns-2 returns-3)

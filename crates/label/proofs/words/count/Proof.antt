@@ -21,12 +21,6 @@ loop-holds : tie.Need-loop-holds Inv-loop μ-loop
 unfolding membersBelow
 loop-holds c = (search needs, search needs, refl)
 
-mul-n : tie.Need-mul-n Inv-loop μ-loop
-mul-n c = search needs
-
-array-read-n : tie.Need-array-read-n Inv-loop μ-loop
-array-read-n c = search needs
-
 cast-n : tie.Need-cast-n Inv-loop μ-loop
 cast-n c =
     let fits : Fits w64 (wordAt (c .before .before .args .t1) (c .before .loop .i)) = search needs in
@@ -36,12 +30,6 @@ add-n : tie.Need-add-n Inv-loop μ-loop
 add-n c =
     let fits : Fits w64 (wordAt (c .before .before .args .t1) (c .before .loop .i)) = search needs in
     omega (arith, ones-le 64 _ (fits .fits))
-
-add-i : tie.Need-add-i Inv-loop μ-loop
-add-i c = search needs
-
-loop-less : tie.Need-loop-less Inv-loop μ-loop
-loop-less c = search needs
 
 loop-again : tie.Need-loop-again Inv-loop μ-loop
 loop-again c =
@@ -60,16 +48,5 @@ returns c =
 
 pub count-spec : {M : Type 1} → statement M
 count-spec =
-    tie.close
-    (tie.spec
-    Inv-loop
-    μ-loop
-    loop-holds
-    mul-n
-    array-read-n
-    cast-n
-    add-n
-    add-i
-    loop-less
-    loop-again
+    tie.close (tie.spec Inv-loop μ-loop loop-holds (search needs) (search needs) cast-n add-n (search needs) (search needs) loop-again
     returns)

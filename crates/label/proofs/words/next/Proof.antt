@@ -21,18 +21,6 @@ abbrev μ-loop : tie.MeasureT-loop
 loop-holds : tie.Need-loop-holds Inv-loop μ-loop
 loop-holds c = refl
 
-mul-loop : tie.Need-mul-loop Inv-loop μ-loop
-mul-loop c = search needs
-
-mul-w : tie.Need-mul-w Inv-loop μ-loop
-mul-w c = search needs
-
-array-read-w : tie.Need-array-read-w Inv-loop μ-loop
-array-read-w c = search needs
-
-shr-w : tie.Need-shr-w Inv-loop μ-loop
-shr-w c = search needs
-
 cast-t15 : tie.Need-cast-t15 Inv-loop μ-loop
 cast-t15 c = omega (arith, trailing-le 64 (shifted (c .before .before .before .args .t1) (c .before .before .loop .c)))
 
@@ -46,15 +34,6 @@ returns c =
     let l : length a ≡ words = search needs in
     let fits : Fits w64 (wordAt a (h .loop .c / 64)) = search needs in
     next-hit a (h .loop .c) (omega arith) (fits .fits) (pos-of-ne-zero (c .if1 .taken)) ∙ sym (h .loop .inv)
-
-add-c : tie.Need-add-c Inv-loop μ-loop
-add-c c = search needs
-
-mul-c : tie.Need-mul-c Inv-loop μ-loop
-mul-c c = search needs
-
-loop-less : tie.Need-loop-less Inv-loop μ-loop
-loop-less c = search needs
 
 loop-again : tie.Need-loop-again Inv-loop μ-loop
 loop-again c =
@@ -72,20 +51,5 @@ returns-2 c =
 
 pub next-spec : {M : Type 1} → statement M
 next-spec =
-    tie.close
-    (tie.spec
-    Inv-loop
-    μ-loop
-    loop-holds
-    mul-loop
-    mul-w
-    array-read-w
-    shr-w
-    cast-t15
-    add-t16
-    returns
-    add-c
-    mul-c
-    loop-less
-    loop-again
-    returns-2)
+    tie.close (tie.spec Inv-loop μ-loop loop-holds (search needs) (search needs) (search needs) (search needs) cast-t15 add-t16 returns
+    (search needs) (search needs) (search needs) loop-again returns-2)

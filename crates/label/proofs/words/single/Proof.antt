@@ -14,15 +14,6 @@ use Rattle.label.proofs.words.single.Tie as tie
 shifted-one : (c : ℕ) → 1 * 2 ^ (c % 64) % 2 ^ 64 ≡ 2 ^ (c % 64)
 shifted-one c = shl-exact 1 (c % 64) 64 (omega arith) (omega arith) ∙ one-mul (2 ^ (c % 64))
 
-shl-r : tie.Need-shl-r
-shl-r c = search needs
-
-mul-r : tie.Need-mul-r
-mul-r c = search needs
-
-array-write-r : tie.Need-array-write-r
-array-write-r c = search needs
-
 returns : tie.Need-returns
 unfolding singleOf
 returns c = ap (set (replicate words 0) (c .before .args .c / 64)) (shifted-one (c .before .args .c))
@@ -32,4 +23,4 @@ unfolding singleOf
 returns-2 c = sym (set-out (replicate words 0) (c .before .args .c / 64) (2 ^ (c .before .args .c % 64)) (omega arith))
 
 pub single-spec : {M : Type 1} → statement M
-single-spec = tie.close (tie.spec shl-r mul-r array-write-r returns returns-2)
+single-spec = tie.close (tie.spec (search needs) (search needs) (search needs) returns returns-2)

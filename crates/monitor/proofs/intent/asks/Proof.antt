@@ -3,12 +3,9 @@ use Rattle.label.specs.Words.{bit}
 use Rattle.monitor.proofs.intent.asks.Statement.{statement}
 use Rattle.monitor.proofs.intent.asks.Tie as tie
 
-shr-result : tie.Need-shr-result
-shr-result c = search needs
-
 returns : tie.Need-returns
 unfolding bit
 returns c = search needs
 
 pub asks-spec : {M : Type 1} → statement M
-asks-spec = tie.close (tie.spec shr-result returns)
+asks-spec = tie.close (tie.spec (search needs) returns)

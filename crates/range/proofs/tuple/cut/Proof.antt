@@ -9,18 +9,6 @@ use Rattle.range.specs.Tuple.{cutOf, present}
 use Rattle.range.proofs.tuple.cut.Statement.{statement}
 use Rattle.range.proofs.tuple.cut.Tie as tie
 
-first-requires : tie.Need-first-requires
-first-requires c κs = search needs
-
-last-requires : tie.Need-last-requires
-last-requires c κs = search needs
-
-higher-requires : tie.Need-higher-requires
-higher-requires c κs = search needs
-
-lower-requires : tie.Need-lower-requires
-lower-requires c κs = search needs
-
 returns : tie.Need-returns
 unfolding cutOf
 returns c =
@@ -32,9 +20,6 @@ returns c =
     let high = c .lower .ensures ∙ ap (min (x .high .hierarchy)) (s .last .ensures) in
     rw there (ap₂ (λ (a b : ℕ). present (rangeOf (labelOf a (x .low .categories)) (labelOf b (x .high .categories)))) low high)
 
-no-range-requires : tie.Need-no-range-requires
-no-range-requires c κs = search needs
-
 returns-2 : tie.Need-returns-2
 unfolding cutOf
 returns-2 c =
@@ -45,13 +30,4 @@ returns-2 c =
     rw none (c .no-range .ensures)
 
 pub cut-spec : {M : Type 1} → statement M
-cut-spec =
-    tie.close
-    (tie.spec
-    first-requires
-    last-requires
-    higher-requires
-    lower-requires
-    returns
-    no-range-requires
-    returns-2)
+cut-spec = tie.close (tie.spec (search needs) (search needs) (search needs) (search needs) returns (search needs) returns-2)

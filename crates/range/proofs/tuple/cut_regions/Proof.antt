@@ -16,27 +16,9 @@ Inv-loop x ranges₀ r₀ ranges r = (r ≤ regions) × (length ranges ≡ regio
 abbrev μ-loop : tie.MeasureT-loop
 μ-loop x ranges₀ r₀ ranges r = regions - r
 
-no-range-requires : tie.Need-no-range-requires Inv-loop μ-loop
-no-range-requires c κs = search needs
-
 loop-holds : tie.Need-loop-holds Inv-loop μ-loop
 unfolding tabulate
 loop-holds c = (search needs, refl, refl)
-
-cut-requires : tie.Need-cut-requires Inv-loop μ-loop
-cut-requires c κs = search needs
-
-mul-ranges : tie.Need-mul-ranges Inv-loop μ-loop
-mul-ranges c = search needs
-
-array-set-from-ranges : tie.Need-array-set-from-ranges Inv-loop μ-loop
-array-set-from-ranges c = search needs
-
-add-r : tie.Need-add-r Inv-loop μ-loop
-add-r c = search needs
-
-loop-less : tie.Need-loop-less Inv-loop μ-loop
-loop-less c = search needs
 
 loop-again : tie.Need-loop-again Inv-loop μ-loop
 loop-again c =
@@ -53,16 +35,5 @@ returns c =
 
 pub cut-regions-spec : {M : Type 1} → statement M
 cut-regions-spec =
-    tie.close
-    (tie.spec
-    Inv-loop
-    μ-loop
-    no-range-requires
-    loop-holds
-    cut-requires
-    mul-ranges
-    array-set-from-ranges
-    add-r
-    loop-less
-    loop-again
-    returns)
+    tie.close (tie.spec Inv-loop μ-loop (search needs) loop-holds (search needs) (search needs) (search needs) (search needs)
+    (search needs) loop-again returns)

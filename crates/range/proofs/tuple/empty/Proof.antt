@@ -7,11 +7,8 @@ use Rattle.range.specs.declared.tuple.RegionRange.{RegionRange}
 use Rattle.range.proofs.tuple.empty.Statement.{statement}
 use Rattle.range.proofs.tuple.empty.Tie as tie
 
-no-range-requires : tie.Need-no-range-requires
-no-range-requires c κs = search needs
-
 returns : tie.Need-returns
 returns c = ap (λ (e : RegionRange). tupleOf (replicate regions e)) (c .no-range .ensures)
 
 pub empty-spec : {M : Type 1} → statement M
-empty-spec = tie.close (tie.spec no-range-requires returns)
+empty-spec = tie.close (tie.spec (search needs) returns)

@@ -8,17 +8,11 @@ use Rattle.range.specs.Tuple.{containsAt, containsOf, rangeAt}
 use Rattle.range.proofs.tuple.holds.Statement.{statement}
 use Rattle.range.proofs.tuple.holds.Tie as tie
 
-of-hierarchy-requires : tie.Need-of-hierarchy-requires
-of-hierarchy-requires c κs = search needs
-
 mul-e : tie.Need-mul-e
 mul-e c = omega (arith, region-within (c .before .args .l .hierarchy) .known)
 
 element-copy-out-e : tie.Need-element-copy-out-e
 element-copy-out-e c = omega (arith, region-within (c .before .args .l .hierarchy) .known)
-
-holds-requires : tie.Need-holds-requires
-holds-requires c κs = search needs
 
 returns : tie.Need-returns
 unfolding containsAt containsOf
@@ -30,5 +24,4 @@ returns c =
     ∙ ap (λ (r : ℕ). containsAt (rangeAt t r) (s .before .args .l)) (s .of-hierarchy .ensures)
 
 pub holds-spec : {M : Type 1} → statement M
-holds-spec =
-    tie.close (tie.spec of-hierarchy-requires mul-e element-copy-out-e holds-requires returns)
+holds-spec = tie.close (tie.spec (search needs) mul-e element-copy-out-e (search needs) returns)

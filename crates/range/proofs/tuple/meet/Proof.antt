@@ -7,22 +7,10 @@ use Rattle.label.proofs.AnswerLaws.{answers-grant, answers-refusal, passed, sto
 use Rattle.range.proofs.tuple.meet.Statement.{statement}
 use Rattle.range.proofs.tuple.meet.Tie as tie
 
-valid-requires : tie.Need-valid-requires
-valid-requires c κs = search needs
-
-valid-requires-2 : tie.Need-valid-requires-2
-valid-requires-2 c κs = search needs
-
-meet-regions-requires : tie.Need-meet-regions-requires
-meet-regions-requires c κs = search needs
-
 returns : tie.Need-returns
 returns c =
     let t = c .before in
     answers-grant _ emptyTuple _ _ (passed _ 22 _ (ap₂ _&&_ (sym (t .before .before .valid .ensures)) (sym (t .before .valid2 .ensures)) ∙ t .if1 .taken)) (c .meet-regions .ensures)
-
-empty-requires : tie.Need-empty-requires
-empty-requires c κs = search needs
 
 returns-2 : tie.Need-returns-2
 returns-2 c =
@@ -30,12 +18,4 @@ returns-2 c =
     answers-refusal Invalid _ emptyTuple _ (stopped _ 22 _ (ap₂ _&&_ (sym (e .before .before .valid .ensures)) (sym (e .before .valid2 .ensures)) ∙ e .if1 .left)) (c .empty .ensures)
 
 pub meet-spec : {M : Type 1} → statement M
-meet-spec =
-    tie.close
-    (tie.spec
-    valid-requires
-    valid-requires-2
-    meet-regions-requires
-    returns
-    empty-requires
-    returns-2)
+meet-spec = tie.close (tie.spec (search needs) (search needs) (search needs) returns (search needs) returns-2)

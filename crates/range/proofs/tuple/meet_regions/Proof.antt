@@ -16,39 +16,9 @@ Inv-loop t u ranges₀ r₀ ranges r = (r ≤ regions) × (length ranges ≡ reg
 abbrev μ-loop : tie.MeasureT-loop
 μ-loop t u ranges₀ r₀ ranges r = regions - r
 
-no-range-requires : tie.Need-no-range-requires Inv-loop μ-loop
-no-range-requires c κs = search needs
-
 loop-holds : tie.Need-loop-holds Inv-loop μ-loop
 unfolding tabulate
 loop-holds c = (search needs, refl, refl)
-
-mul-meet-at : tie.Need-mul-meet-at Inv-loop μ-loop
-mul-meet-at c = search needs
-
-element-copy-out-meet-at : tie.Need-element-copy-out-meet-at Inv-loop μ-loop
-element-copy-out-meet-at c = search needs
-
-mul-meet-at-2 : tie.Need-mul-meet-at-2 Inv-loop μ-loop
-mul-meet-at-2 c = search needs
-
-element-copy-out-meet-at-2 : tie.Need-element-copy-out-meet-at-2 Inv-loop μ-loop
-element-copy-out-meet-at-2 c = search needs
-
-meet-at-requires : tie.Need-meet-at-requires Inv-loop μ-loop
-meet-at-requires c κs = search needs
-
-mul-ranges : tie.Need-mul-ranges Inv-loop μ-loop
-mul-ranges c = search needs
-
-array-set-from-ranges : tie.Need-array-set-from-ranges Inv-loop μ-loop
-array-set-from-ranges c = search needs
-
-add-r : tie.Need-add-r Inv-loop μ-loop
-add-r c = search needs
-
-loop-less : tie.Need-loop-less Inv-loop μ-loop
-loop-less c = search needs
 
 loop-again : tie.Need-loop-again Inv-loop μ-loop
 loop-again c =
@@ -67,20 +37,5 @@ returns c =
 
 pub meet-regions-spec : {M : Type 1} → statement M
 meet-regions-spec =
-    tie.close
-    (tie.spec
-    Inv-loop
-    μ-loop
-    no-range-requires
-    loop-holds
-    mul-meet-at
-    element-copy-out-meet-at
-    mul-meet-at-2
-    element-copy-out-meet-at-2
-    meet-at-requires
-    mul-ranges
-    array-set-from-ranges
-    add-r
-    loop-less
-    loop-again
-    returns)
+    tie.close (tie.spec Inv-loop μ-loop (search needs) loop-holds (search needs) (search needs) (search needs) (search needs)
+    (search needs) (search needs) (search needs) (search needs) (search needs) loop-again returns)

@@ -5,11 +5,8 @@ use Rattle.range.specs.declared.Range.{Range}
 use Rattle.range.proofs.tuple.no_range.Statement.{statement}
 use Rattle.range.proofs.tuple.no_range.Tie as tie
 
-zero-requires : tie.Need-zero-requires
-zero-requires c κs = search needs
-
 returns : tie.Need-returns
 returns c = ap (λ (x : Range). record { present = false; range = x }) (c .zero .ensures)
 
 pub no-range-spec : {M : Type 1} → statement M
-no-range-spec = tie.close (tie.spec zero-requires returns)
+no-range-spec = tie.close (tie.spec (search needs) returns)

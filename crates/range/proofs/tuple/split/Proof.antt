@@ -6,19 +6,10 @@ use Rattle.label.proofs.AnswerLaws.{answers-grant, answers-refusal, passed, sto
 use Rattle.range.proofs.tuple.split.Statement.{statement}
 use Rattle.range.proofs.tuple.split.Tie as tie
 
-valid-requires : tie.Need-valid-requires
-valid-requires c κs = search needs
-
-cut-regions-requires : tie.Need-cut-regions-requires
-cut-regions-requires c κs = search needs
-
 returns : tie.Need-returns
 returns c =
     let t = c .before in
     answers-grant _ emptyTuple _ _ (passed _ 22 _ (sym (t .before .valid .ensures) ∙ t .if1 .taken)) (c .cut-regions .ensures)
-
-empty-requires : tie.Need-empty-requires
-empty-requires c κs = search needs
 
 returns-2 : tie.Need-returns-2
 returns-2 c =
@@ -26,5 +17,4 @@ returns-2 c =
     answers-refusal Invalid _ emptyTuple _ (stopped _ 22 _ (sym (e .before .valid .ensures) ∙ e .if1 .left)) (c .empty .ensures)
 
 pub split-spec : {M : Type 1} → statement M
-split-spec =
-    tie.close (tie.spec valid-requires cut-regions-requires returns empty-requires returns-2)
+split-spec = tie.close (tie.spec (search needs) (search needs) returns (search needs) returns-2)

@@ -18,15 +18,6 @@ abbrev μ-loop : tie.MeasureT-loop
 loop-holds : tie.Need-loop-holds Inv-loop μ-loop
 loop-holds c = (search needs, λ k l. absurd (omega arith))
 
-typed-at-requires : tie.Need-typed-at-requires Inv-loop μ-loop
-typed-at-requires c κs = search needs
-
-add-r : tie.Need-add-r Inv-loop μ-loop
-add-r c = search needs
-
-loop-less : tie.Need-loop-less Inv-loop μ-loop
-loop-less c = search needs
-
 loop-again : tie.Need-loop-again Inv-loop μ-loop
 loop-again c = (search needs, below-more (λ (k : ℕ). TypedRange (rangeAt (c .before .before .before .args .t) k .range)) _ (c .before .before .loop .inv .1) (c .typed-at .ensures))
 
@@ -36,6 +27,4 @@ returns c =
     record { length-is = search (needs, length-mapped); range = λ r k. h .loop .inv .1 r (omega arith) }
 
 pub typed-spec : {M : Type 1} → statement M
-typed-spec =
-    tie.close
-    (tie.spec Inv-loop μ-loop loop-holds typed-at-requires add-r loop-less loop-again returns)
+typed-spec = tie.close (tie.spec Inv-loop μ-loop loop-holds (search needs) (search needs) (search needs) loop-again returns)

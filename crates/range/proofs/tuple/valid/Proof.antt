@@ -21,27 +21,12 @@ loop-holds : tie.Need-loop-holds Inv-loop μ-loop
 unfolding every
 loop-holds c = (search needs, refl)
 
-mul-valid-at : tie.Need-mul-valid-at Inv-loop μ-loop
-mul-valid-at c = search needs
-
-element-copy-out-valid-at : tie.Need-element-copy-out-valid-at Inv-loop μ-loop
-element-copy-out-valid-at c = search needs
-
-valid-at-requires : tie.Need-valid-at-requires Inv-loop μ-loop
-valid-at-requires c κs = search needs
-
 returns : tie.Need-returns Inv-loop μ-loop
 unfolding validOf
 returns c =
     let h = c .before .before .before .before in
     let t = h .before .args .t1 in
     sym (every-stop (λ k. validAt k (rangeAt t k)) regions (h .loop .r) (omega arith) (sym (c .before .valid-at .ensures) ∙ not-true _ (c .if1 .taken)))
-
-add-r : tie.Need-add-r Inv-loop μ-loop
-add-r c = search needs
-
-loop-less : tie.Need-loop-less Inv-loop μ-loop
-loop-less c = search needs
 
 loop-again : tie.Need-loop-again Inv-loop μ-loop
 loop-again c =
@@ -58,16 +43,5 @@ returns-2 c =
 
 pub valid-spec : {M : Type 1} → statement M
 valid-spec =
-    tie.close
-    (tie.spec
-    Inv-loop
-    μ-loop
-    loop-holds
-    mul-valid-at
-    element-copy-out-valid-at
-    valid-at-requires
-    returns
-    add-r
-    loop-less
-    loop-again
-    returns-2)
+    tie.close (tie.spec Inv-loop μ-loop loop-holds (search needs) (search needs) (search needs) returns (search needs) (search needs)
+    loop-again returns-2)

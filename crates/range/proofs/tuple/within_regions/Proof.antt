@@ -21,21 +21,6 @@ loop-holds : tie.Need-loop-holds Inv-loop μ-loop
 unfolding every
 loop-holds c = (search needs, refl)
 
-mul-within-at : tie.Need-mul-within-at Inv-loop μ-loop
-mul-within-at c = search needs
-
-element-copy-out-within-at : tie.Need-element-copy-out-within-at Inv-loop μ-loop
-element-copy-out-within-at c = search needs
-
-mul-within-at-2 : tie.Need-mul-within-at-2 Inv-loop μ-loop
-mul-within-at-2 c = search needs
-
-element-copy-out-within-at-2 : tie.Need-element-copy-out-within-at-2 Inv-loop μ-loop
-element-copy-out-within-at-2 c = search needs
-
-within-at-requires : tie.Need-within-at-requires Inv-loop μ-loop
-within-at-requires c κs = search needs
-
 returns : tie.Need-returns Inv-loop μ-loop
 unfolding withinOf
 returns c =
@@ -43,12 +28,6 @@ returns c =
     let t = h .before .args .t1 in
     let u = h .before .args .t2 in
     sym (every-stop (λ k. withinAt (rangeAt t k) (rangeAt u k)) regions (h .loop .r) (omega arith) (sym (c .before .within-at .ensures) ∙ not-true _ (c .if1 .taken)))
-
-add-r : tie.Need-add-r Inv-loop μ-loop
-add-r c = search needs
-
-loop-less : tie.Need-loop-less Inv-loop μ-loop
-loop-less c = search needs
 
 loop-again : tie.Need-loop-again Inv-loop μ-loop
 loop-again c =
@@ -67,18 +46,5 @@ returns-2 c =
 
 pub within-regions-spec : {M : Type 1} → statement M
 within-regions-spec =
-    tie.close
-    (tie.spec
-    Inv-loop
-    μ-loop
-    loop-holds
-    mul-within-at
-    element-copy-out-within-at
-    mul-within-at-2
-    element-copy-out-within-at-2
-    within-at-requires
-    returns
-    add-r
-    loop-less
-    loop-again
-    returns-2)
+    tie.close (tie.spec Inv-loop μ-loop loop-holds (search needs) (search needs) (search needs) (search needs) (search needs) returns
+    (search needs) (search needs) loop-again returns-2)

@@ -20,23 +20,14 @@ named c = ltb-true (c .args .slot .0) slots (started-numbers _ _ (c .pre))
 writable-requires : tie.Need-writable-requires
 writable-requires c κs = named c
 
-unlabeled-requires : tie.Need-unlabeled-requires
-unlabeled-requires c κs = search needs
-
 returns : tie.Need-returns
 unfolding accessOf
 returns c =
     let k = c .before .before in
     step-refused _ _ (k .before .pre) _ Access (c .unlabeled .ensures) (rw (sym (k .writable .ensures) ∙ not-true _ (c .before .if1 .taken)))
 
-zero-segment-requires : tie.Need-zero-segment-requires
-zero-segment-requires c κs = search needs
-
 with-segment-requires : tie.Need-with-segment-requires
 with-segment-requires c κs = named (c .before .before .before)
-
-unlabeled-requires-2 : tie.Need-unlabeled-requires-2
-unlabeled-requires-2 c κs = search needs
 
 returns-2 : tie.Need-returns-2
 unfolding accessOf
@@ -50,12 +41,4 @@ returns-2 c =
 
 pub close-started-spec : {M : Type 1} → statement M
 close-started-spec =
-    tie.close
-    (tie.spec
-    writable-requires
-    unlabeled-requires
-    returns
-    zero-segment-requires
-    with-segment-requires
-    unlabeled-requires-2
-    returns-2)
+    tie.close (tie.spec writable-requires (search needs) returns (search needs) with-segment-requires (search needs) returns-2)

@@ -6,18 +6,6 @@ use Rattle.segments.specs.Parts.{fitsIn}
 use Rattle.segments.proofs.calls.has_room.Statement.{statement}
 use Rattle.segments.proofs.calls.has_room.Tie as tie
 
-mul-ceiling : tie.Need-mul-ceiling
-mul-ceiling c = search needs
-
-element-copy-out-ceiling : tie.Need-element-copy-out-ceiling
-element-copy-out-ceiling c = search needs
-
-pages-left-requires : tie.Need-pages-left-requires
-pages-left-requires c κs = search needs
-
-fits-requires : tie.Need-fits-requires
-fits-requires c κs = search needs
-
 returns : tie.Need-returns
 returns c =
     let p = c .before in
@@ -25,11 +13,4 @@ returns c =
     c .fits2 .ensures ∙ ap (λ (x : Option ℕ). fitsIn x (a .replaced) (a .pages)) (p .pages-left .ensures)
 
 pub has-room-spec : {M : Type 1} → statement M
-has-room-spec =
-    tie.close
-    (tie.spec
-    mul-ceiling
-    element-copy-out-ceiling
-    pages-left-requires
-    fits-requires
-    returns)
+has-room-spec = tie.close (tie.spec (search needs) (search needs) (search needs) (search needs) returns)

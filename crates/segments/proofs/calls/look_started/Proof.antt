@@ -17,9 +17,6 @@ named c = ltb-true (c .args .slot .0) slots (started-numbers _ _ (c .pre))
 visible-requires : tie.Need-visible-requires
 visible-requires c κs = named c
 
-unlabeled-requires : tie.Need-unlabeled-requires
-unlabeled-requires c κs = search needs
-
 returns : tie.Need-returns
 unfolding accessOf
 returns c =
@@ -41,6 +38,4 @@ returns-2 c =
     look-granted (a .t1) (a .tenant) (a .label) (a .slot) (k .before .pre) (sym (k .visible .ensures) ∙ not-false _ (e .if1 .left))
 
 pub look-started-spec : {M : Type 1} → statement M
-look-started-spec =
-    tie.close
-    (tie.spec visible-requires unlabeled-requires returns mul-segment element-copy-out-segment returns-2)
+look-started-spec = tie.close (tie.spec visible-requires (search needs) returns mul-segment element-copy-out-segment returns-2)

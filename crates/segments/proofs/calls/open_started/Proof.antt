@@ -41,21 +41,12 @@ lowest-empty-requires c κs = caller c
 has-room-requires : tie.Need-has-room-requires
 has-room-requires c κs = caller (c .before)
 
-found-requires : tie.Need-found-requires
-found-requires c κs = search needs
-
-unlabeled-requires : tie.Need-unlabeled-requires
-unlabeled-requires c κs = search needs
-
 returns : tie.Need-returns
 unfolding accessOf
 returns c =
     let t = c .before in
     let k = t .before .before .before in
     step-refused _ _ (k .before .pre) _ NoSpace (c .unlabeled .ensures) (rw (looked (t .before) ∙ not-true (t .before .found .result) (t .if1 .taken)))
-
-unlabeled-requires-2 : tie.Need-unlabeled-requires-2
-unlabeled-requires-2 c κs = search needs
 
 returns-2 : tie.Need-returns-2
 unfolding accessOf
@@ -65,18 +56,12 @@ returns-2 c =
     let k = e .before .before .before in
     step-refused _ _ (k .before .pre) _ NoMem (c .unlabeled2 .ensures) (rw (looked (e .before) ∙ not-false (e .before .found .result) (e .if1 .left), room (e .before .before) ∙ not-true (e .before .before .has-room .result) (t .if2 .taken)))
 
-slot-or-0-requires : tie.Need-slot-or-0-requires
-slot-or-0-requires c κs = search needs
-
 with-segment-requires : tie.Need-with-segment-requires
 with-segment-requires c κs =
     let e = c .before .before in
     let k = e .before .before .before in
     let h = found-slot _ _ (caller (k .before)) (looked (e .before) ∙ not-false (e .before .found .result) (e .if1 .left)) in
     rw (place c) h
-
-unlabeled-requires-3 : tie.Need-unlabeled-requires-3
-unlabeled-requires-3 c κs = search needs
 
 returns-3 : tie.Need-returns-3
 unfolding accessOf
@@ -95,16 +80,5 @@ returns-3 c =
 
 pub open-started-spec : {M : Type 1} → statement M
 open-started-spec =
-    tie.close
-    (tie.spec
-    lowest-empty-requires
-    has-room-requires
-    found-requires
-    unlabeled-requires
-    returns
-    unlabeled-requires-2
-    returns-2
-    slot-or-0-requires
-    with-segment-requires
-    unlabeled-requires-3
-    returns-3)
+    tie.close (tie.spec lowest-empty-requires has-room-requires (search needs) (search needs) returns (search needs) returns-2
+    (search needs) with-segment-requires (search needs) returns-3)

@@ -21,9 +21,6 @@ named c = ltb-true (c .args .slot .0) slots (started-numbers _ _ (c .pre))
 writable-requires : tie.Need-writable-requires
 writable-requires c κs = named c
 
-unlabeled-requires : tie.Need-unlabeled-requires
-unlabeled-requires c κs = search needs
-
 returns : tie.Need-returns
 unfolding accessOf
 returns c =
@@ -39,9 +36,6 @@ element-copy-out-segment c = let h = named (c .before .before) in omega arith
 with-segment-requires : tie.Need-with-segment-requires
 with-segment-requires c κs = named (c .before .before .before)
 
-unlabeled-requires-2 : tie.Need-unlabeled-requires-2
-unlabeled-requires-2 c κs = search needs
-
 returns-2 : tie.Need-returns-2
 unfolding accessOf
 returns-2 c =
@@ -51,13 +45,5 @@ returns-2 c =
 
 pub post-started-spec : {M : Type 1} → statement M
 post-started-spec =
-    tie.close
-    (tie.spec
-    writable-requires
-    unlabeled-requires
-    returns
-    mul-segment
-    element-copy-out-segment
-    with-segment-requires
-    unlabeled-requires-2
+    tie.close (tie.spec writable-requires (search needs) returns mul-segment element-copy-out-segment with-segment-requires (search needs)
     returns-2)

@@ -40,9 +40,6 @@ room c =
 writable-requires : tie.Need-writable-requires
 writable-requires c κs = named c
 
-unlabeled-requires : tie.Need-unlabeled-requires
-unlabeled-requires c κs = search needs
-
 returns : tie.Need-returns
 unfolding accessOf
 returns c =
@@ -58,9 +55,6 @@ element-copy-out-segment c = let h = named (c .before .before) in omega arith
 has-room-requires : tie.Need-has-room-requires
 has-room-requires c κs = started-tenant _ _ (c .before .before .before .pre)
 
-unlabeled-requires-2 : tie.Need-unlabeled-requires-2
-unlabeled-requires-2 c κs = search needs
-
 returns-2 : tie.Need-returns-2
 unfolding accessOf
 returns-2 c =
@@ -71,9 +65,6 @@ returns-2 c =
 with-segment-requires : tie.Need-with-segment-requires
 with-segment-requires c κs = named (c .before .before .before .before .before)
 
-unlabeled-requires-3 : tie.Need-unlabeled-requires-3
-unlabeled-requires-3 c κs = search needs
-
 returns-3 : tie.Need-returns-3
 unfolding accessOf
 returns-3 c =
@@ -83,16 +74,5 @@ returns-3 c =
 
 pub size-started-spec : {M : Type 1} → statement M
 size-started-spec =
-    tie.close
-    (tie.spec
-    writable-requires
-    unlabeled-requires
-    returns
-    mul-segment
-    element-copy-out-segment
-    has-room-requires
-    unlabeled-requires-2
-    returns-2
-    with-segment-requires
-    unlabeled-requires-3
-    returns-3)
+    tie.close (tie.spec writable-requires (search needs) returns mul-segment element-copy-out-segment has-room-requires (search needs)
+    returns-2 with-segment-requires (search needs) returns-3)

@@ -14,15 +14,9 @@ is-sound c = sym (c .before .sound .ensures) ∙ not-false _ (c .if1 .left)
 is-valid : (c : tie.Else2) → let a = c .before .before .before .before .args in callValid (a .table) (a .call) ≡ true
 is-valid c = sym (c .before .valid .ensures) ∙ not-false _ (c .if2 .left)
 
-sound-requires : tie.Need-sound-requires
-sound-requires c κs = search needs
-
 returns : tie.Need-returns
 unfolding startOf
 returns c = rw (sym (c .before .sound .ensures) ∙ not-true (c .before .sound .result) (c .if1 .taken))
-
-valid-requires : tie.Need-valid-requires
-valid-requires c κs = search needs
 
 returns-2 : tie.Need-returns-2
 unfolding startOf
@@ -44,13 +38,4 @@ returns-4 c =
     rw (is-sound (e .before .before), is-valid e, sym (c .before .cleared .ensures) ∙ not-false _ (c .if3 .left))
 
 pub start-spec : {M : Type 1} → statement M
-start-spec =
-    tie.close
-    (tie.spec
-    sound-requires
-    returns
-    valid-requires
-    returns-2
-    cleared-requires
-    returns-3
-    returns-4)
+start-spec = tie.close (tie.spec (search needs) returns (search needs) returns-2 cleared-requires returns-3 returns-4)

@@ -8,17 +8,11 @@ use Rattle.segments.proofs.ResultsLaws.{same-call}
 use Rattle.segments.proofs.calls.started.Statement.{statement}
 use Rattle.segments.proofs.calls.started.Tie as tie
 
-enum-known-action : tie.Need-enum-known-action
-enum-known-action c = search needs
-
 open-started-requires : tie.Need-open-started-requires
 open-started-requires c κs =
     let k = c .before in
     let s = k .before .before .before .before in
     subst (Started (s .args .table)) (same-call (s .args .call) _ (k .action .given .1)) (s .pre)
-
-enum-known-action-2 : tie.Need-enum-known-action-2
-enum-known-action-2 c = search needs
 
 size-started-requires : tie.Need-size-started-requires
 size-started-requires c κs =
@@ -26,26 +20,17 @@ size-started-requires c κs =
     let s = k .before .before .before .before in
     subst (Started (s .args .table)) (same-call (s .args .call) _ (k .action2 .given .1)) (s .pre)
 
-enum-known-action-3 : tie.Need-enum-known-action-3
-enum-known-action-3 c = search needs
-
 post-started-requires : tie.Need-post-started-requires
 post-started-requires c κs =
     let k = c .before in
     let s = k .before .before .before .before in
     subst (Started (s .args .table)) (same-call (s .args .call) _ (k .action3 .given .1)) (s .pre)
 
-enum-known-action-4 : tie.Need-enum-known-action-4
-enum-known-action-4 c = search needs
-
 look-started-requires : tie.Need-look-started-requires
 look-started-requires c κs =
     let k = c .before in
     let s = k .before .before .before .before in
     subst (Started (s .args .table)) (same-call (s .args .call) _ (k .action4 .given .1)) (s .pre)
-
-enum-known-action-5 : tie.Need-enum-known-action-5
-enum-known-action-5 c = search needs
 
 close-started-requires : tie.Need-close-started-requires
 close-started-requires c κs =
@@ -85,20 +70,5 @@ returns-5 c =
 
 pub started-spec : {M : Type 1} → statement M
 started-spec =
-    tie.close
-    (tie.spec
-    enum-known-action
-    open-started-requires
-    enum-known-action-2
-    size-started-requires
-    enum-known-action-3
-    post-started-requires
-    enum-known-action-4
-    look-started-requires
-    enum-known-action-5
-    close-started-requires
-    returns
-    returns-2
-    returns-3
-    returns-4
-    returns-5)
+    tie.close (tie.spec (search needs) open-started-requires (search needs) size-started-requires (search needs) post-started-requires
+    (search needs) look-started-requires (search needs) close-started-requires returns returns-2 returns-3 returns-4 returns-5)

@@ -7,22 +7,10 @@ use Rattle.segments.proofs.ResultsLaws.{start-passed, step-stopped}
 use Rattle.segments.proofs.calls.step.Statement.{statement}
 use Rattle.segments.proofs.calls.step.Tie as tie
 
-start-requires : tie.Need-start-requires
-start-requires c κs = search needs
-
-enum-told : tie.Need-enum-told
-enum-told c = search needs
-
 started-requires : tie.Need-started-requires
 started-requires c κs =
     let k = c .before .before in
     start-passed _ _ (ap (λ (o : Outcome). outcomeOf o done) (sym (c .enum-told .given .1)) ∙ k .start .ensures)
-
-enum-known-o : tie.Need-enum-known-o
-enum-known-o c = search needs
-
-unlabeled-requires : tie.Need-unlabeled-requires
-unlabeled-requires c κs = search needs
 
 returns : tie.Need-returns
 returns c = c .started .ensures
@@ -34,13 +22,4 @@ returns-2 c =
     step-stopped _ _ _ _ (c .unlabeled .ensures) (ap (λ (x : Outcome). outcomeOf x done) (sym (o .o .given .1)) ∙ k .start .ensures)
 
 pub step-spec : {M : Type 1} → statement M
-step-spec =
-    tie.close
-    (tie.spec
-    start-requires
-    enum-told
-    started-requires
-    enum-known-o
-    unlabeled-requires
-    returns
-    returns-2)
+step-spec = tie.close (tie.spec (search needs) (search needs) started-requires (search needs) (search needs) returns returns-2)

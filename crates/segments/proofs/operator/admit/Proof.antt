@@ -55,23 +55,11 @@ room c =
     let a = e .before .before .args in
     sym (c .fits2 .ensures ∙ ap (λ (x : Option ℕ). fitsIn x 0 (a .ceiling)) (c .before .pool-left .ensures) ∙ fits-more (a .table .pool) (ceilingsOf (a .table)) (a .ceiling) (sound-parts (a .table) (is-sound e) .ceilings))
 
-sound-requires : tie.Need-sound-requires
-sound-requires c κs = search needs
-
-unlabeled-requires : tie.Need-unlabeled-requires
-unlabeled-requires c κs = search needs
-
 returns : tie.Need-returns
 unfolding admitOf admitAnswer
 returns c =
     let k = c .before .before in
     results-refused _ (k .before .args .table) _ _ Invalid (c .unlabeled .ensures) (rw (sym (k .sound .ensures) ∙ not-true _ (c .before .if1 .taken)))
-
-clearance-valid-requires : tie.Need-clearance-valid-requires
-clearance-valid-requires c κs = search needs
-
-unlabeled-requires-2 : tie.Need-unlabeled-requires-2
-unlabeled-requires-2 c κs = search needs
 
 returns-2 : tie.Need-returns-2
 unfolding admitOf admitAnswer
@@ -81,12 +69,6 @@ returns-2 c =
     let e = v .before .before in
     results-refused _ (e .before .before .args .table) _ _ Invalid (c .unlabeled2 .ensures) (rw (is-sound e, tested v ∙ not-true _ (t .if2 .taken)))
 
-admitted-requires : tie.Need-admitted-requires
-admitted-requires c κs = search needs
-
-unlabeled-requires-3 : tie.Need-unlabeled-requires-3
-unlabeled-requires-3 c κs = search needs
-
 returns-3 : tie.Need-returns-3
 unfolding admitOf admitAnswer
 returns-3 c =
@@ -94,15 +76,6 @@ returns-3 c =
     let f = t .before .before in
     let e = f .before .before .before in
     results-refused _ (e .before .before .args .table) _ _ Busy (c .unlabeled3 .ensures) (rw (is-sound e, is-valid f, sym (t .before .admitted .ensures) ∙ t .if3 .taken))
-
-pool-left-requires : tie.Need-pool-left-requires
-pool-left-requires c κs = search needs
-
-fits-requires : tie.Need-fits-requires
-fits-requires c κs = search needs
-
-unlabeled-requires-4 : tie.Need-unlabeled-requires-4
-unlabeled-requires-4 c κs = search needs
 
 returns-4 : tie.Need-returns-4
 unfolding admitOf admitAnswer
@@ -116,9 +89,6 @@ returns-4 c =
 with-tenant-requires : tie.Need-with-tenant-requires
 with-tenant-requires c κs = inside (c .before .before .before .before .before)
 
-unlabeled-requires-5 : tie.Need-unlabeled-requires-5
-unlabeled-requires-5 c κs = search needs
-
 returns-5 : tie.Need-returns-5
 unfolding admitOf admitAnswer
 returns-5 c =
@@ -131,21 +101,5 @@ returns-5 c =
 
 pub admit-spec : {M : Type 1} → statement M
 admit-spec =
-    tie.close
-    (tie.spec
-    sound-requires
-    unlabeled-requires
-    returns
-    clearance-valid-requires
-    unlabeled-requires-2
-    returns-2
-    admitted-requires
-    unlabeled-requires-3
-    returns-3
-    pool-left-requires
-    fits-requires
-    unlabeled-requires-4
-    returns-4
-    with-tenant-requires
-    unlabeled-requires-5
-    returns-5)
+    tie.close (tie.spec (search needs) (search needs) returns (search needs) (search needs) returns-2 (search needs) (search needs)
+    returns-3 (search needs) (search needs) (search needs) returns-4 with-tenant-requires (search needs) returns-5)

@@ -8,15 +8,6 @@ use Rattle.range.specs.Tuple
 use Rattle.segments.proofs.operator.clearance_valid.Statement.{statement}
 use Rattle.segments.proofs.operator.clearance_valid.Tie as tie
 
-is-empty-requires : tie.Need-is-empty-requires
-is-empty-requires c κs = search needs
-
-enum-known-test : tie.Need-enum-known-test
-enum-known-test c = search needs
-
-enum-told : tie.Need-enum-told
-enum-told c = search needs
-
 returns : tie.Need-returns
 returns c =
     let k = c .before .before .before in
@@ -32,5 +23,4 @@ returns-2 c =
     rw (refusal-stopped (Tuple.validOf t) 22 (numberOf e) (detailOf e) (Tuple.emptyOf t) (ap testOf (sym (c .enum-told .given .1)) ∙ k .is-empty .ensures))
 
 pub clearance-valid-spec : {M : Type 1} → statement M
-clearance-valid-spec =
-    tie.close (tie.spec is-empty-requires enum-known-test enum-told returns returns-2)
+clearance-valid-spec = tie.close (tie.spec (search needs) (search needs) (search needs) returns returns-2)

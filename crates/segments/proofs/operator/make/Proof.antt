@@ -12,26 +12,11 @@ use Rattle.segments.proofs.ResultsLaws.{results-granted, results-refuse
 use Rattle.segments.proofs.operator.make.Statement.{statement}
 use Rattle.segments.proofs.operator.make.Tie as tie
 
-pages-valid-requires : tie.Need-pages-valid-requires
-pages-valid-requires c κs = search needs
-
-empty-table-requires : tie.Need-empty-table-requires
-empty-table-requires c κs = search needs
-
-unlabeled-requires : tie.Need-unlabeled-requires
-unlabeled-requires c κs = search needs
-
 returns : tie.Need-returns
 unfolding makeOf makeAnswer
 returns c =
     let t = c .before .before in
     results-granted _ (emptyTable 0) _ _ Done done (c .unlabeled .ensures ∙ ap (λ (s : SegmentTable). unlabeled s Done) (c .before .empty-table .ensures)) (passed _ 22 _ (sym (t .before .pages-valid .ensures) ∙ t .if1 .taken)) refl refl
-
-empty-table-requires-2 : tie.Need-empty-table-requires-2
-empty-table-requires-2 c κs = search needs
-
-unlabeled-requires-2 : tie.Need-unlabeled-requires-2
-unlabeled-requires-2 c κs = search needs
 
 returns-2 : tie.Need-returns-2
 unfolding makeOf makeAnswer
@@ -40,13 +25,4 @@ returns-2 c =
     results-refused _ (emptyTable 0) _ _ Invalid (c .unlabeled2 .ensures ∙ ap (λ (s : SegmentTable). unlabeled s (Refused Invalid)) (c .before .empty-table2 .ensures)) (stopped _ 22 _ (sym (t .before .pages-valid .ensures) ∙ t .if1 .left))
 
 pub make-spec : {M : Type 1} → statement M
-make-spec =
-    tie.close
-    (tie.spec
-    pages-valid-requires
-    empty-table-requires
-    unlabeled-requires
-    returns
-    empty-table-requires-2
-    unlabeled-requires-2
-    returns-2)
+make-spec = tie.close (tie.spec (search needs) (search needs) (search needs) returns (search needs) (search needs) returns-2)

@@ -57,23 +57,11 @@ room c =
     ∙ ap (λ (x : Option ℕ). fitsIn x (ceilingAt (a .t1) (a .tenant)) (a .ceiling)) (c .before .pool-left .ensures)
     ∙ fits-exact (a .t1 .pool) (ceilingsOf (a .t1)) (ceilingAt (a .t1) (a .tenant)) (a .ceiling) (sound-parts (a .t1) (is-sound e) .ceilings) (ceiling-among (a .t1) (a .tenant) (inside f)))
 
-sound-requires : tie.Need-sound-requires
-sound-requires c κs = search needs
-
-unlabeled-requires : tie.Need-unlabeled-requires
-unlabeled-requires c κs = search needs
-
 returns : tie.Need-returns
 unfolding setCeilingOf setCeilingAnswer
 returns c =
     let k = c .before .before in
     results-refused _ (k .before .args .t1) _ _ Invalid (c .unlabeled .ensures) (rw (sym (k .sound .ensures) ∙ not-true _ (c .before .if1 .taken)))
-
-admitted-requires : tie.Need-admitted-requires
-admitted-requires c κs = search needs
-
-unlabeled-requires-2 : tie.Need-unlabeled-requires-2
-unlabeled-requires-2 c κs = search needs
 
 returns-2 : tie.Need-returns-2
 unfolding setCeilingOf setCeilingAnswer
@@ -84,12 +72,6 @@ returns-2 c =
 
 pages-left-requires : tie.Need-pages-left-requires
 pages-left-requires c κs = inside c
-
-kept-requires : tie.Need-kept-requires
-kept-requires c κs = search needs
-
-unlabeled-requires-3 : tie.Need-unlabeled-requires-3
-unlabeled-requires-3 c κs = search needs
 
 returns-3 : tie.Need-returns-3
 unfolding setCeilingOf setCeilingAnswer
@@ -105,15 +87,6 @@ mul-old c = let h = inside (c .before .before .before) in omega arith
 element-copy-out-old : tie.Need-element-copy-out-old
 element-copy-out-old c = let h = inside (c .before .before .before) in omega arith
 
-pool-left-requires : tie.Need-pool-left-requires
-pool-left-requires c κs = search needs
-
-fits-requires : tie.Need-fits-requires
-fits-requires c κs = search needs
-
-unlabeled-requires-4 : tie.Need-unlabeled-requires-4
-unlabeled-requires-4 c κs = search needs
-
 returns-4 : tie.Need-returns-4
 unfolding setCeilingOf setCeilingAnswer
 returns-4 c =
@@ -125,9 +98,6 @@ returns-4 c =
 
 with-tenant-requires : tie.Need-with-tenant-requires
 with-tenant-requires c κs = inside (c .before .before .before .before .before .before .before .before)
-
-unlabeled-requires-5 : tie.Need-unlabeled-requires-5
-unlabeled-requires-5 c κs = search needs
 
 returns-5 : tie.Need-returns-5
 unfolding setCeilingOf setCeilingAnswer
@@ -141,24 +111,6 @@ returns-5 c =
 
 pub set-ceiling-spec : {M : Type 1} → statement M
 set-ceiling-spec =
-    tie.close
-    (tie.spec
-    sound-requires
-    unlabeled-requires
-    returns
-    admitted-requires
-    unlabeled-requires-2
-    returns-2
-    pages-left-requires
-    kept-requires
-    unlabeled-requires-3
-    returns-3
-    mul-old
-    element-copy-out-old
-    pool-left-requires
-    fits-requires
-    unlabeled-requires-4
-    returns-4
-    with-tenant-requires
-    unlabeled-requires-5
-    returns-5)
+    tie.close (tie.spec (search needs) (search needs) returns (search needs) (search needs) returns-2 pages-left-requires (search needs)
+    (search needs) returns-3 mul-old element-copy-out-old (search needs) (search needs) (search needs) returns-4 with-tenant-requires
+    (search needs) returns-5)

@@ -3,12 +3,9 @@ use Rattle.segments.specs.Slots.{firstSlot}
 use Rattle.segments.proofs.slots.first_slot.Statement.{statement}
 use Rattle.segments.proofs.slots.first_slot.Tie as tie
 
-mul-result : tie.Need-mul-result
-mul-result c = search needs
-
 returns : tie.Need-returns
 unfolding firstSlot
 returns c = search needs
 
 pub first-slot-spec : {M : Type 1} → statement M
-first-slot-spec = tie.close (tie.spec mul-result returns)
+first-slot-spec = tie.close (tie.spec (search needs) returns)

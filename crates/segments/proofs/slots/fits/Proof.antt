@@ -8,15 +8,6 @@ use Rattle.label.proofs.BoolLaws.{same-truth}
 use Rattle.segments.proofs.slots.fits.Statement.{statement}
 use Rattle.segments.proofs.slots.fits.Tie as tie
 
-enum-known-left : tie.Need-enum-known-left
-enum-known-left c = search needs
-
-sub-result : tie.Need-sub-result
-sub-result c = search needs
-
-enum-told : tie.Need-enum-told
-enum-told c = search needs
-
 returns : tie.Need-returns
 returns c =
     let w = c .before .before .left .given in
@@ -32,8 +23,5 @@ returns-2 c =
     (λ e. let l = leb-true (a .wanted - w .0 .0) (a .replaced) e in le-leb (a .wanted) (w .0 .0 + a .replaced) (omega arith))
     (λ e. let l = leb-true (a .wanted) (w .0 .0 + a .replaced) e in le-leb (a .wanted - w .0 .0) (a .replaced) (omega arith)))
 
-returns-3 : tie.Need-returns-3
-returns-3 c = search needs
-
 pub fits-spec : {M : Type 1} → statement M
-fits-spec = tie.close (tie.spec enum-known-left sub-result enum-told returns returns-2 returns-3)
+fits-spec = tie.close (tie.spec (search needs) (search needs) (search needs) returns returns-2 (λ c. search needs))

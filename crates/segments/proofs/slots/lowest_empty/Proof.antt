@@ -24,12 +24,6 @@ bound c =
     let b = own-bound (a .s) (a .t) (c .before .before .pre) in
     omega arith
 
-first-slot-requires : tie.Need-first-slot-requires Inv-loop μ-loop
-first-slot-requires c κs = search needs
-
-slot-count-requires : tie.Need-slot-count-requires Inv-loop μ-loop
-slot-count-requires c κs = search needs
-
 loop-holds : tie.Need-loop-holds Inv-loop μ-loop
 loop-holds c = (search needs, λ j l. absurd (omega arith))
 
@@ -49,12 +43,6 @@ returns c =
     let a = n .before .before .args in
     lowest-found (a .s) (a .t) _ _ (n .before .first-slot .ensures) (n .slot-count .ensures) (h .loop .k) (c .before .before .loop-test .taken) (h .loop .inv .1) (ap not (sym (c .before .filled .ensures)) ∙ c .if1 .taken)
 
-add-k : tie.Need-add-k Inv-loop μ-loop
-add-k c = search needs
-
-loop-less : tie.Need-loop-less Inv-loop μ-loop
-loop-less c = search needs
-
 loop-again : tie.Need-loop-again Inv-loop μ-loop
 loop-again c =
     let h = c .before .before .before in
@@ -69,18 +57,5 @@ returns-2 c =
 
 pub lowest-empty-spec : {M : Type 1} → statement M
 lowest-empty-spec =
-    tie.close
-    (tie.spec
-    Inv-loop
-    μ-loop
-    first-slot-requires
-    slot-count-requires
-    loop-holds
-    add-t7
-    filled-requires
-    add-t10
-    returns
-    add-k
-    loop-less
-    loop-again
-    returns-2)
+    tie.close (tie.spec Inv-loop μ-loop (search needs) (search needs) loop-holds add-t7 filled-requires add-t10 returns (search needs)
+    (search needs) loop-again returns-2)

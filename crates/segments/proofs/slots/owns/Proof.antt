@@ -5,12 +5,6 @@ use Rattle.segments.proofs.SlotsLaws.{owns-inside, owns-outside}
 use Rattle.segments.proofs.slots.owns.Statement.{statement}
 use Rattle.segments.proofs.slots.owns.Tie as tie
 
-first-slot-requires : tie.Need-first-slot-requires
-first-slot-requires c κs = search needs
-
-slot-count-requires : tie.Need-slot-count-requires
-slot-count-requires c κs = search needs
-
 add-end : tie.Need-add-end
 add-end c =
     let a = c .before .before .before .before .args in
@@ -28,4 +22,4 @@ returns-2 : tie.Need-returns-2
 returns-2 c = owns-outside _ _ _ (c .if1 .left)
 
 pub owns-spec : {M : Type 1} → statement M
-owns-spec = tie.close (tie.spec first-slot-requires slot-count-requires add-end returns returns-2)
+owns-spec = tie.close (tie.spec (search needs) (search needs) add-end returns returns-2)

@@ -23,12 +23,6 @@ bound c =
     let b = own-bound (a .t1) (a .t) (c .before .before .pre) in
     omega arith
 
-first-slot-requires : tie.Need-first-slot-requires Inv-loop μ-loop
-first-slot-requires c κs = search needs
-
-slot-count-requires : tie.Need-slot-count-requires Inv-loop μ-loop
-slot-count-requires c κs = search needs
-
 loop-holds : tie.Need-loop-holds Inv-loop μ-loop
 loop-holds c = take-none _ _ _ _
 
@@ -48,12 +42,6 @@ returns c =
     let a = n .before .before .args in
     sym (ap (leftOf (a .limit)) (sym (pages-by (a .t1) (a .t) _ _ (n .before .first-slot .ensures) (n .slot-count .ensures))) ∙ take-over _ _ _ _ _ _ (c .before .loop-test .taken) (c .if1 .taken) (h .loop .inv))
 
-add-i : tie.Need-add-i Inv-loop μ-loop
-add-i c = search needs
-
-loop-less : tie.Need-loop-less Inv-loop μ-loop
-loop-less c = search needs
-
 loop-again : tie.Need-loop-again Inv-loop μ-loop
 loop-again c = take-next _ _ _ _ _ _ (c .before .loop-test .taken) (c .if1 .left) (c .before .before .loop .inv)
 
@@ -66,18 +54,5 @@ returns-2 c =
 
 pub pages-left-spec : {M : Type 1} → statement M
 pages-left-spec =
-    tie.close
-    (tie.spec
-    Inv-loop
-    μ-loop
-    first-slot-requires
-    slot-count-requires
-    loop-holds
-    add-pages
-    mul-pages
-    element-copy-out-pages
-    returns
-    add-i
-    loop-less
-    loop-again
-    returns-2)
+    tie.close (tie.spec Inv-loop μ-loop (search needs) (search needs) loop-holds add-pages mul-pages element-copy-out-pages returns
+    (search needs) (search needs) loop-again returns-2)

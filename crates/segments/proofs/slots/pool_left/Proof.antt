@@ -17,23 +17,11 @@ abbrev μ-loop : tie.MeasureT-loop
 loop-holds : tie.Need-loop-holds Inv-loop μ-loop
 loop-holds c = take-none _ _ _ _
 
-mul-ceiling : tie.Need-mul-ceiling Inv-loop μ-loop
-mul-ceiling c = search needs
-
-element-copy-out-ceiling : tie.Need-element-copy-out-ceiling Inv-loop μ-loop
-element-copy-out-ceiling c = search needs
-
 returns : tie.Need-returns Inv-loop μ-loop
 unfolding ceilingsOf
 returns c =
     let l = c .before .before .loop in
     sym (take-over _ _ _ _ (l .i) (l .left) (c .before .loop-test .taken) (rw zero-add (c .if1 .taken)) (l .inv))
-
-add-i : tie.Need-add-i Inv-loop μ-loop
-add-i c = search needs
-
-loop-less : tie.Need-loop-less Inv-loop μ-loop
-loop-less c = search needs
 
 loop-again : tie.Need-loop-again Inv-loop μ-loop
 loop-again c =
@@ -46,15 +34,4 @@ returns-2 c = sym (take-all _ _ _ _ _ _ (c .loop-test .left) (c .before .loop .i
 
 pub pool-left-spec : {M : Type 1} → statement M
 pool-left-spec =
-    tie.close
-    (tie.spec
-    Inv-loop
-    μ-loop
-    loop-holds
-    mul-ceiling
-    element-copy-out-ceiling
-    returns
-    add-i
-    loop-less
-    loop-again
-    returns-2)
+    tie.close (tie.spec Inv-loop μ-loop loop-holds (search needs) (search needs) returns (search needs) (search needs) loop-again returns-2)

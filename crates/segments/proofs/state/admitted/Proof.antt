@@ -4,12 +4,6 @@ use Rattle.segments.specs.Sound.{admitted}
 use Rattle.segments.proofs.state.admitted.Statement.{statement}
 use Rattle.segments.proofs.state.admitted.Tie as tie
 
-mul-result : tie.Need-mul-result
-mul-result c = search needs
-
-element-copy-out-result : tie.Need-element-copy-out-result
-element-copy-out-result c = search needs
-
 returns : tie.Need-returns
 unfolding admitted
 returns c = rw (lt-ltb _ _ (c .if1 .taken))
@@ -19,4 +13,4 @@ unfolding admitted
 returns-2 c = rw (le-ltb _ _ (c .if1 .left))
 
 pub admitted-spec : {M : Type 1} → statement M
-admitted-spec = tie.close (tie.spec mul-result element-copy-out-result returns returns-2)
+admitted-spec = tie.close (tie.spec (search needs) (search needs) returns returns-2)

@@ -5,15 +5,6 @@ use Rattle.segments.proofs.SoundLaws.{contains-refused, contains-told}
 use Rattle.segments.proofs.state.contains.Statement.{statement}
 use Rattle.segments.proofs.state.contains.Tie as tie
 
-contains-requires : tie.Need-contains-requires
-contains-requires c κs = search needs
-
-enum-known-test : tie.Need-enum-known-test
-enum-known-test c = search needs
-
-enum-told : tie.Need-enum-told
-enum-told c = search needs
-
 returns : tie.Need-returns
 returns c =
     let k = c .before .before .before in
@@ -25,4 +16,4 @@ returns-2 c =
     contains-refused _ _ _ _ (k .before .pre) (ap testOf (sym (c .enum-told .given .1)) ∙ k .contains .ensures)
 
 pub contains-spec : {M : Type 1} → statement M
-contains-spec = tie.close (tie.spec contains-requires enum-known-test enum-told returns returns-2)
+contains-spec = tie.close (tie.spec (search needs) (search needs) (search needs) returns returns-2)

@@ -26,14 +26,8 @@ inside c = admitted-parts _ _ (is-admitted c) .0
 in-ceiling : (c : tie.Else2) → let a = c .before .before .before .before .args in pagesOf (a .t1) (a .t) ≤ ceilingAt (a .t1) (a .t)
 in-ceiling c = sound-parts _ (is-sound (c .before .before)) .pages _ (inside c)
 
-sound-requires : tie.Need-sound-requires
-sound-requires c κs = search needs
-
 returns : tie.Need-returns
 returns c = rw (sym (c .before .sound .ensures) ∙ not-true _ (c .if1 .taken))
-
-admitted-requires : tie.Need-admitted-requires
-admitted-requires c κs = search needs
 
 returns-2 : tie.Need-returns-2
 returns-2 c = rw (is-sound (c .before .before), sym (c .before .admitted .ensures) ∙ not-true _ (c .if2 .taken))
@@ -47,17 +41,11 @@ element-copy-out-ceiling c = let h = inside c in omega arith
 pages-left-requires : tie.Need-pages-left-requires
 pages-left-requires c κs = inside c
 
-enum-known-left : tie.Need-enum-known-left
-enum-known-left c = search needs
-
 sub-t17 : tie.Need-sub-t17
 sub-t17 c =
     let p = c .before .before .before in
     let h = left-told _ _ _ (in-ceiling (p .before)) (ap remainingOf (sym (c .before .left .given .1)) ∙ p .pages-left .ensures) in
     omega arith
-
-enum-told : tie.Need-enum-told
-enum-told c = search needs
 
 returns-3 : tie.Need-returns-3
 returns-3 c =
@@ -73,17 +61,5 @@ returns-4 c =
 
 pub pages-in-use-spec : {M : Type 1} → statement M
 pages-in-use-spec =
-    tie.close
-    (tie.spec
-    sound-requires
-    returns
-    admitted-requires
-    returns-2
-    mul-ceiling
-    element-copy-out-ceiling
-    pages-left-requires
-    enum-known-left
-    sub-t17
-    enum-told
-    returns-3
-    returns-4)
+    tie.close (tie.spec (search needs) returns (search needs) returns-2 mul-ceiling element-copy-out-ceiling pages-left-requires
+    (search needs) sub-t17 (search needs) returns-3 returns-4)

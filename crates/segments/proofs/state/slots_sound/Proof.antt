@@ -21,20 +21,11 @@ loop-holds : tie.Need-loop-holds Inv-loop μ-loop
 unfolding every
 loop-holds c = (search needs, refl)
 
-slot-sound-requires : tie.Need-slot-sound-requires Inv-loop μ-loop
-slot-sound-requires c κs = search needs
-
 returns : tie.Need-returns Inv-loop μ-loop
 returns c =
     let h = c .before .before .before in
     let s = h .before .args .s in
     sym (every-stop (λ i. slotSound s (slot i)) slots (h .loop .i) (omega arith) (sym (c .before .slot-sound .ensures) ∙ not-true _ (c .if1 .taken)))
-
-add-i : tie.Need-add-i Inv-loop μ-loop
-add-i c = search needs
-
-loop-less : tie.Need-loop-less Inv-loop μ-loop
-loop-less c = search needs
 
 loop-again : tie.Need-loop-again Inv-loop μ-loop
 loop-again c =
@@ -49,15 +40,4 @@ returns-2 c =
     sym (every-done (λ i. slotSound s (slot i)) slots (h .loop .i) (omega arith) (h .loop .inv .1))
 
 pub slots-sound-spec : {M : Type 1} → statement M
-slots-sound-spec =
-    tie.close
-    (tie.spec
-    Inv-loop
-    μ-loop
-    loop-holds
-    slot-sound-requires
-    returns
-    add-i
-    loop-less
-    loop-again
-    returns-2)
+slots-sound-spec = tie.close (tie.spec Inv-loop μ-loop loop-holds (λ c. search needs) returns (search needs) (search needs) loop-again returns-2)

@@ -10,23 +10,8 @@ use Rattle.segments.proofs.LimitLaws.{kept-exact}
 use Rattle.segments.proofs.state.sound.Statement.{statement}
 use Rattle.segments.proofs.state.sound.Tie as tie
 
-pages-valid-requires : tie.Need-pages-valid-requires
-pages-valid-requires c κs = search needs
-
-tenants-sound-requires : tie.Need-tenants-sound-requires
-tenants-sound-requires c κs = search needs
-
 slots-sound-requires : tie.Need-slots-sound-requires
 slots-sound-requires c κs = second-true (pagesValid (c .before .before .before .args .s .pool)) _ (ap₂ _&&_ (sym (c .before .before .pages-valid .ensures)) (sym (c .before .tenants-sound .ensures)) ∙ c .if1 .taken)
-
-pool-left-requires : tie.Need-pool-left-requires
-pool-left-requires c κs = search needs
-
-kept-requires : tie.Need-kept-requires
-kept-requires c κs = search needs
-
-ceilings-kept-requires : tie.Need-ceilings-kept-requires
-ceilings-kept-requires c κs = search needs
 
 returns : tie.Need-returns
 unfolding sound
@@ -45,13 +30,4 @@ returns-2 c = rw (ap₂ _&&_ (sym (c .before .before .pages-valid .ensures)) (sy
 
 pub sound-spec : {M : Type 1} → statement M
 sound-spec =
-    tie.close
-    (tie.spec
-    pages-valid-requires
-    tenants-sound-requires
-    slots-sound-requires
-    pool-left-requires
-    kept-requires
-    ceilings-kept-requires
-    returns
-    returns-2)
+    tie.close (tie.spec (search needs) (search needs) slots-sound-requires (search needs) (search needs) (search needs) returns returns-2)

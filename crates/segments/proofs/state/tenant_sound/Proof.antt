@@ -5,15 +5,6 @@ use Rattle.segments.proofs.SoundLaws.{tenant-refused, tenant-told}
 use Rattle.segments.proofs.state.tenant_sound.Statement.{statement}
 use Rattle.segments.proofs.state.tenant_sound.Tie as tie
 
-is-empty-requires : tie.Need-is-empty-requires
-is-empty-requires c κs = search needs
-
-enum-known-test : tie.Need-enum-known-test
-enum-known-test c = search needs
-
-enum-told : tie.Need-enum-told
-enum-told c = search needs
-
 returns : tie.Need-returns
 returns c =
     let k = c .before .before .before in
@@ -25,5 +16,4 @@ returns-2 c =
     tenant-refused _ _ _ (ap testOf (sym (c .enum-told .given .1)) ∙ k .is-empty .ensures)
 
 pub tenant-sound-spec : {M : Type 1} → statement M
-tenant-sound-spec =
-    tie.close (tie.spec is-empty-requires enum-known-test enum-told returns returns-2)
+tenant-sound-spec = tie.close (tie.spec (search needs) (search needs) (search needs) returns returns-2)

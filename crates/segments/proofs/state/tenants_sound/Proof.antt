@@ -21,26 +21,11 @@ loop-holds : tie.Need-loop-holds Inv-loop μ-loop
 unfolding every
 loop-holds c = (search needs, refl)
 
-mul-tenant-sound : tie.Need-mul-tenant-sound Inv-loop μ-loop
-mul-tenant-sound c = search needs
-
-element-copy-out-tenant-sound : tie.Need-element-copy-out-tenant-sound Inv-loop μ-loop
-element-copy-out-tenant-sound c = search needs
-
-tenant-sound-requires : tie.Need-tenant-sound-requires Inv-loop μ-loop
-tenant-sound-requires c κs = search needs
-
 returns : tie.Need-returns Inv-loop μ-loop
 returns c =
     let h = c .before .before .before .before in
     let s = h .before .args .t1 in
     sym (every-stop (λ t. tenantSound (tenantAt s (tenantId t))) tenants (h .loop .i) (omega arith) (sym (c .before .tenant-sound .ensures) ∙ not-true _ (c .if1 .taken)))
-
-add-i : tie.Need-add-i Inv-loop μ-loop
-add-i c = search needs
-
-loop-less : tie.Need-loop-less Inv-loop μ-loop
-loop-less c = search needs
 
 loop-again : tie.Need-loop-again Inv-loop μ-loop
 loop-again c =
@@ -56,16 +41,5 @@ returns-2 c =
 
 pub tenants-sound-spec : {M : Type 1} → statement M
 tenants-sound-spec =
-    tie.close
-    (tie.spec
-    Inv-loop
-    μ-loop
-    loop-holds
-    mul-tenant-sound
-    element-copy-out-tenant-sound
-    tenant-sound-requires
-    returns
-    add-i
-    loop-less
-    loop-again
-    returns-2)
+    tie.close (tie.spec Inv-loop μ-loop loop-holds (search needs) (search needs) (search needs) returns (search needs) (search needs)
+    loop-again returns-2)

@@ -8,18 +8,6 @@ use Rattle.segments.proofs.LimitLaws.{kept-exact}
 use Rattle.segments.proofs.state.under_ceiling.Statement.{statement}
 use Rattle.segments.proofs.state.under_ceiling.Tie as tie
 
-mul-pages-left : tie.Need-mul-pages-left
-mul-pages-left c = search needs
-
-element-copy-out-pages-left : tie.Need-element-copy-out-pages-left
-element-copy-out-pages-left c = search needs
-
-pages-left-requires : tie.Need-pages-left-requires
-pages-left-requires c κs = search needs
-
-kept-requires : tie.Need-kept-requires
-kept-requires c κs = search needs
-
 returns : tie.Need-returns
 unfolding underCeiling
 returns c =
@@ -27,11 +15,4 @@ returns c =
     c .kept .ensures ∙ ap keptIn (c .before .pages-left .ensures) ∙ kept-exact (ceilingAt (a .t1) (a .t)) (pagesOf (a .t1) (a .t))
 
 pub under-ceiling-spec : {M : Type 1} → statement M
-under-ceiling-spec =
-    tie.close
-    (tie.spec
-    mul-pages-left
-    element-copy-out-pages-left
-    pages-left-requires
-    kept-requires
-    returns)
+under-ceiling-spec = tie.close (tie.spec (search needs) (search needs) (search needs) (search needs) returns)

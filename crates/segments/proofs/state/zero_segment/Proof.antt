@@ -5,11 +5,8 @@ use Rattle.segments.specs.Segments.{segmentOf}
 use Rattle.segments.proofs.state.zero_segment.Statement.{statement}
 use Rattle.segments.proofs.state.zero_segment.Tie as tie
 
-zero-requires : tie.Need-zero-requires
-zero-requires c κs = search needs
-
 returns : tie.Need-returns
 returns c = ap (λ (l : Label). segmentOf l 0 0) (c .zero .ensures)
 
 pub zero-segment-spec : {M : Type 1} → statement M
-zero-segment-spec = tie.close (tie.spec zero-requires returns)
+zero-segment-spec = tie.close (tie.spec (search needs) returns)

@@ -3,12 +3,9 @@ use Rattle.segments.specs.Sound.{zeros}
 use Rattle.segments.proofs.state.zeros.Statement.{statement}
 use Rattle.segments.proofs.state.zeros.Tie as tie
 
-is-zero-requires : tie.Need-is-zero-requires
-is-zero-requires c κs = search needs
-
 returns : tie.Need-returns
 unfolding zeros
 returns c = rw (c .before .before .is-zero .ensures)
 
 pub zeros-spec : {M : Type 1} → statement M
-zeros-spec = tie.close (tie.spec is-zero-requires returns)
+zeros-spec = tie.close (tie.spec (search needs) returns)

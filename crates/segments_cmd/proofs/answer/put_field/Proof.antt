@@ -5,15 +5,6 @@ use Rattle.segments_cmd.proofs.FieldLaws.{field-put}
 use Rattle.segments_cmd.proofs.answer.put_field.Statement.{statement}
 use Rattle.segments_cmd.proofs.answer.put_field.Tie as tie
 
-append-requires : tie.Need-append-requires
-append-requires c κs = search needs
-
-append-decimal-requires : tie.Need-append-decimal-requires
-append-decimal-requires c κs = search needs
-
-same-length : tie.Need-same-length
-same-length c = search needs
-
 returns : tie.Need-returns
 returns c =
     let d = c .before .before in
@@ -23,4 +14,4 @@ returns c =
     let h : n < 2 ^ 64 = omega arith in field-put h (s .pre) (a .append .ensures) (d .append-decimal .ensures)
 
 pub put-field-spec : {M : Type 1} → statement M
-put-field-spec = tie.close (tie.spec append-requires append-decimal-requires same-length returns)
+put-field-spec = tie.close (tie.spec (search needs) (search needs) (search needs) returns)

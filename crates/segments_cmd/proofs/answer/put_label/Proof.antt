@@ -10,21 +10,6 @@ use Rattle.segments_cmd.proofs.PartLaws.{Fits, line-bytes, part-kept, p
 use Rattle.segments_cmd.proofs.answer.put_label.Statement.{statement}
 use Rattle.segments_cmd.proofs.answer.put_label.Tie as tie
 
-sub-write-label : tie.Need-sub-write-label
-sub-write-label c = search needs
-
-part-write-label-start : tie.Need-part-write-label-start
-part-write-label-start c = search needs
-
-part-write-label-end : tie.Need-part-write-label-end
-part-write-label-end c = search needs
-
-write-label-requires : tie.Need-write-label-requires
-write-label-requires c κs = search needs
-
-enum-known-written : tie.Need-enum-known-written
-enum-known-written c = search needs
-
 -- the line fits in the rest of the buffer
 fits : (s : tie.Start) → Fits (s .args .out .now) (s .args .at) (labelLineOf (s .args .label))
 fits s line e = let l = label-line-length (s .args .label) line e in omega (arith, s .pre)
@@ -44,12 +29,6 @@ add-result c =
     let h = w .before .before .before .pre in
     let l = length-is w (c .before .written .given .0 .0) (c .before .written .given .1) in omega arith
 
-enum-told : tie.Need-enum-told
-enum-told c = search needs
-
-same-length : tie.Need-same-length
-same-length c = search needs
-
 returns : tie.Need-returns
 returns c =
     let w = c .before .before .before .before .before in
@@ -64,9 +43,6 @@ returns c =
       within = omega arith;
     }
 
-same-length-2 : tie.Need-same-length-2
-same-length-2 c = search needs
-
 returns-2 : tie.Need-returns-2
 returns-2 c =
     let w = c .before .before .before .before in
@@ -80,16 +56,5 @@ returns-2 c =
 
 pub put-label-spec : {M : Type 1} → statement M
 put-label-spec =
-    tie.close
-    (tie.spec
-    sub-write-label
-    part-write-label-start
-    part-write-label-end
-    write-label-requires
-    enum-known-written
-    add-result
-    enum-told
-    same-length
-    returns
-    same-length-2
-    returns-2)
+    tie.close (tie.spec (search needs) (search needs) (search needs) (search needs) (search needs) add-result (search needs) (search needs)
+    returns (search needs) returns-2)

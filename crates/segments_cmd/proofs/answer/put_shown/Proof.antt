@@ -4,15 +4,6 @@ use Rattle.segments_cmd.specs.Answer.{shownText}
 use Rattle.segments_cmd.proofs.answer.put_shown.Statement.{statement}
 use Rattle.segments_cmd.proofs.answer.put_shown.Tie as tie
 
-put-numbers-requires : tie.Need-put-numbers-requires
-put-numbers-requires c κs = search needs
-
-put-label-requires : tie.Need-put-label-requires
-put-label-requires c κs = search needs
-
-same-length : tie.Need-same-length
-same-length c = search needs
-
 returns : tie.Need-returns
 unfolding shownText
 returns c =
@@ -21,4 +12,4 @@ returns c =
     record { put = then-put (search needs) (n .put-numbers .ensures .put) (l .put-label .ensures .put); within = search needs }
 
 pub put-shown-spec : {M : Type 1} → statement M
-put-shown-spec = tie.close (tie.spec put-numbers-requires put-label-requires same-length returns)
+put-shown-spec = tie.close (tie.spec (search needs) (search needs) (search needs) returns)

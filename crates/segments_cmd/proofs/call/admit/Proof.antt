@@ -5,24 +5,12 @@ use Rattle.segments_cmd.proofs.CallLaws.{operand-granted, operand-refus
 use Rattle.segments_cmd.proofs.call.admit.Statement.{statement}
 use Rattle.segments_cmd.proofs.call.admit.Tie as tie
 
-read-tuple-requires : tie.Need-read-tuple-requires
-read-tuple-requires c κs = search needs
-
-granted-requires : tie.Need-granted-requires
-granted-requires c κs = search needs
-
-admit-requires : tie.Need-admit-requires
-admit-requires c κs = search needs
-
 returns : tie.Need-returns
 returns c =
     let t = c .before in
     let g = t .before in
     let r = g .before in
     rw (operand-granted (r .read-tuple .result .outcome) (sym (g .granted .ensures) ∙ t .if1 .taken) (r .read-tuple .ensures)) (c .admit .ensures)
-
-refused-requires : tie.Need-refused-requires
-refused-requires c κs = search needs
 
 returns-2 : tie.Need-returns-2
 returns-2 c =
@@ -33,12 +21,4 @@ returns-2 c =
     rw (operand-refused (a .table) (admitOf (a .table) (a .tenant) (a .ceiling)) (r .read-tuple .result .outcome) (sym (g .granted .ensures) ∙ t .if1 .left) (r .read-tuple .ensures)) (c .refused .ensures)
 
 pub admit-spec : {M : Type 1} → statement M
-admit-spec =
-    tie.close
-    (tie.spec
-    read-tuple-requires
-    granted-requires
-    admit-requires
-    returns
-    refused-requires
-    returns-2)
+admit-spec = tie.close (tie.spec (search needs) (search needs) (search needs) returns (search needs) returns-2)

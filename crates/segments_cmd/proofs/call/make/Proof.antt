@@ -8,21 +8,6 @@ use Rattle.segments_cmd.proofs.CallLaws.{made-granted, made-refused}
 use Rattle.segments_cmd.proofs.call.make.Statement.{statement}
 use Rattle.segments_cmd.proofs.call.make.Tie as tie
 
-make-requires : tie.Need-make-requires
-make-requires c κs = search needs
-
-enum-told : tie.Need-enum-told
-enum-told c = search needs
-
-enum-told-2 : tie.Need-enum-told-2
-enum-told-2 c = search needs
-
-enum-told-3 : tie.Need-enum-told-3
-enum-told-3 c = search needs
-
-enum-told-4 : tie.Need-enum-told-4
-enum-told-4 c = search needs
-
 returns : tie.Need-returns
 returns c =
     let m = c .before .before .before in
@@ -53,14 +38,4 @@ returns-4 c =
 
 pub make-spec : {M : Type 1} → statement M
 make-spec =
-    tie.close
-    (tie.spec
-    make-requires
-    enum-told
-    enum-told-2
-    enum-told-3
-    enum-told-4
-    returns
-    returns-2
-    returns-3
-    returns-4)
+    tie.close (tie.spec (search needs) (search needs) (search needs) (search needs) (search needs) returns returns-2 returns-3 returns-4)

@@ -6,24 +6,12 @@ use Rattle.segments_cmd.proofs.CallLaws.{operand-granted, operand-refus
 use Rattle.segments_cmd.proofs.call.of_tenant.Statement.{statement}
 use Rattle.segments_cmd.proofs.call.of_tenant.Tie as tie
 
-read-label-requires : tie.Need-read-label-requires
-read-label-requires c κs = search needs
-
-granted-requires : tie.Need-granted-requires
-granted-requires c κs = search needs
-
-step-requires : tie.Need-step-requires
-step-requires c κs = search needs
-
 returns : tie.Need-returns
 returns c =
     let t = c .before in
     let g = t .before in
     let r = g .before .before in
     rw (operand-granted (r .read-label .result .outcome) (sym (g .granted .ensures) ∙ t .if1 .taken) (r .read-label .ensures)) (c .step .ensures)
-
-refused-requires : tie.Need-refused-requires
-refused-requires c κs = search needs
 
 returns-2 : tie.Need-returns-2
 returns-2 c =
@@ -34,12 +22,4 @@ returns-2 c =
     rw (operand-refused (a .table) (λ (l : Label). stepOf (a .table) (callOf (a .tenant) l (a .action))) (r .read-label .result .outcome) (sym (g .granted .ensures) ∙ t .if1 .left) (r .read-label .ensures)) (c .refused .ensures)
 
 pub of-tenant-spec : {M : Type 1} → statement M
-of-tenant-spec =
-    tie.close
-    (tie.spec
-    read-label-requires
-    granted-requires
-    step-requires
-    returns
-    refused-requires
-    returns-2)
+of-tenant-spec = tie.close (tie.spec (search needs) (search needs) (search needs) returns (search needs) returns-2)

@@ -4,12 +4,6 @@ use Rattle.segments_cmd.specs.Request.{ofNone, showWord}
 use Rattle.segments_cmd.proofs.request.of_none.Statement.{statement}
 use Rattle.segments_cmd.proofs.request.of_none.Tie as tie
 
-slice-aggregate-is-word : tie.Need-slice-aggregate-is-word
-slice-aggregate-is-word c = search needs
-
-is-word-requires : tie.Need-is-word-requires
-is-word-requires c κs = search needs
-
 returns : tie.Need-returns
 unfolding ofNone showWord
 returns c = rw (sym (c .before .is-word .ensures) ∙ c .if1 .taken)
@@ -19,4 +13,4 @@ unfolding ofNone showWord
 returns-2 c = rw (sym (c .before .is-word .ensures) ∙ c .if1 .left)
 
 pub of-none-spec : {M : Type 1} → statement M
-of-none-spec = tie.close (tie.spec slice-aggregate-is-word is-word-requires returns returns-2)
+of-none-spec = tie.close (tie.spec (search needs) (search needs) returns returns-2)

@@ -4,12 +4,6 @@ use Rattle.segments_cmd.specs.Request.{makeWord, ofOne}
 use Rattle.segments_cmd.proofs.request.of_one.Statement.{statement}
 use Rattle.segments_cmd.proofs.request.of_one.Tie as tie
 
-slice-aggregate-is-word : tie.Need-slice-aggregate-is-word
-slice-aggregate-is-word c = search needs
-
-is-word-requires : tie.Need-is-word-requires
-is-word-requires c κs = search needs
-
 returns : tie.Need-returns
 unfolding ofOne makeWord
 returns c = rw (sym (c .before .is-word .ensures) ∙ c .if1 .taken)
@@ -19,4 +13,4 @@ unfolding ofOne makeWord
 returns-2 c = rw (sym (c .before .is-word .ensures) ∙ c .if1 .left)
 
 pub of-one-spec : {M : Type 1} → statement M
-of-one-spec = tie.close (tie.spec slice-aggregate-is-word is-word-requires returns returns-2)
+of-one-spec = tie.close (tie.spec (search needs) (search needs) returns returns-2)

@@ -4,21 +4,9 @@ use Rattle.segments_cmd.specs.Request.{ofThree, postWord, sizeWord}
 use Rattle.segments_cmd.proofs.request.of_three.Statement.{statement}
 use Rattle.segments_cmd.proofs.request.of_three.Tie as tie
 
-slice-aggregate-is-word : tie.Need-slice-aggregate-is-word
-slice-aggregate-is-word c = search needs
-
-is-word-requires : tie.Need-is-word-requires
-is-word-requires c κs = search needs
-
 returns : tie.Need-returns
 unfolding ofThree sizeWord postWord
 returns c = rw (sym (c .before .is-word .ensures) ∙ c .if1 .taken)
-
-slice-aggregate-is-word-2 : tie.Need-slice-aggregate-is-word-2
-slice-aggregate-is-word-2 c = search needs
-
-is-word-requires-2 : tie.Need-is-word-requires-2
-is-word-requires-2 c κs = search needs
 
 returns-2 : tie.Need-returns-2
 unfolding ofThree sizeWord postWord
@@ -39,13 +27,4 @@ returns-3 c =
     )
 
 pub of-three-spec : {M : Type 1} → statement M
-of-three-spec =
-    tie.close
-    (tie.spec
-    slice-aggregate-is-word
-    is-word-requires
-    returns
-    slice-aggregate-is-word-2
-    is-word-requires-2
-    returns-2
-    returns-3)
+of-three-spec = tie.close (tie.spec (search needs) (search needs) returns (search needs) (search needs) returns-2 returns-3)

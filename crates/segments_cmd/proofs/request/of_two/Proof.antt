@@ -4,21 +4,9 @@ use Rattle.segments_cmd.specs.Request.{admitWord, ceilingWord, closeWord
 use Rattle.segments_cmd.proofs.request.of_two.Statement.{statement}
 use Rattle.segments_cmd.proofs.request.of_two.Tie as tie
 
-slice-aggregate-is-word : tie.Need-slice-aggregate-is-word
-slice-aggregate-is-word c = search needs
-
-is-word-requires : tie.Need-is-word-requires
-is-word-requires c κs = search needs
-
 returns : tie.Need-returns
 unfolding ofTwo admitWord ceilingWord openWord lookWord closeWord
 returns c = rw (sym (c .before .is-word .ensures) ∙ c .if1 .taken)
-
-slice-aggregate-is-word-2 : tie.Need-slice-aggregate-is-word-2
-slice-aggregate-is-word-2 c = search needs
-
-is-word-requires-2 : tie.Need-is-word-requires-2
-is-word-requires-2 c κs = search needs
 
 returns-2 : tie.Need-returns-2
 unfolding ofTwo admitWord ceilingWord openWord lookWord closeWord
@@ -28,12 +16,6 @@ returns-2 c =
       sym (e1 .before .is-word .ensures) ∙ e1 .if1 .left,
       sym (c .before .is-word2 .ensures) ∙ c .if2 .taken,
     )
-
-slice-aggregate-is-word-3 : tie.Need-slice-aggregate-is-word-3
-slice-aggregate-is-word-3 c = search needs
-
-is-word-requires-3 : tie.Need-is-word-requires-3
-is-word-requires-3 c κs = search needs
 
 returns-3 : tie.Need-returns-3
 unfolding ofTwo admitWord ceilingWord openWord lookWord closeWord
@@ -45,12 +27,6 @@ returns-3 c =
       sym (e2 .before .is-word2 .ensures) ∙ e2 .if2 .left,
       sym (c .before .is-word3 .ensures) ∙ c .if3 .taken,
     )
-
-slice-aggregate-is-word-4 : tie.Need-slice-aggregate-is-word-4
-slice-aggregate-is-word-4 c = search needs
-
-is-word-requires-4 : tie.Need-is-word-requires-4
-is-word-requires-4 c κs = search needs
 
 returns-4 : tie.Need-returns-4
 unfolding ofTwo admitWord ceilingWord openWord lookWord closeWord
@@ -64,12 +40,6 @@ returns-4 c =
       sym (e3 .before .is-word3 .ensures) ∙ e3 .if3 .left,
       sym (c .before .is-word4 .ensures) ∙ c .if4 .taken,
     )
-
-slice-aggregate-is-word-5 : tie.Need-slice-aggregate-is-word-5
-slice-aggregate-is-word-5 c = search needs
-
-is-word-requires-5 : tie.Need-is-word-requires-5
-is-word-requires-5 c κs = search needs
 
 returns-5 : tie.Need-returns-5
 unfolding ofTwo admitWord ceilingWord openWord lookWord closeWord
@@ -103,21 +73,5 @@ returns-6 c =
 
 pub of-two-spec : {M : Type 1} → statement M
 of-two-spec =
-    tie.close
-    (tie.spec
-    slice-aggregate-is-word
-    is-word-requires
-    returns
-    slice-aggregate-is-word-2
-    is-word-requires-2
-    returns-2
-    slice-aggregate-is-word-3
-    is-word-requires-3
-    returns-3
-    slice-aggregate-is-word-4
-    is-word-requires-4
-    returns-4
-    slice-aggregate-is-word-5
-    is-word-requires-5
-    returns-5
-    returns-6)
+    tie.close (tie.spec (search needs) (search needs) returns (search needs) (search needs) returns-2 (search needs) (search needs)
+    returns-3 (search needs) (search needs) returns-4 (search needs) (search needs) returns-5 returns-6)

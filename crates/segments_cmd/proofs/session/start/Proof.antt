@@ -5,15 +5,9 @@ use Rattle.segments_cmd.specs.Session.{between}
 use Rattle.segments_cmd.proofs.session.start.Statement.{statement}
 use Rattle.segments_cmd.proofs.session.start.Tie as tie
 
-make-requires : tie.Need-make-requires
-make-requires c κs = search needs
-
-between-requires : tie.Need-between-requires
-between-requires c κs = search needs
-
 returns : tie.Need-returns
 unfolding makeOf makeAnswer
 returns c = c .between .ensures ∙ ap between (c .before .make .ensures .table)
 
 pub start-spec : {M : Type 1} → statement M
-start-spec = tie.close (tie.spec make-requires between-requires returns)
+start-spec = tie.close (tie.spec (search needs) (search needs) returns)

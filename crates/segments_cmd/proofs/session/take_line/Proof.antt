@@ -4,24 +4,13 @@ use Rattle.segments_cmd.specs.Session.{afterLine}
 use Rattle.segments_cmd.proofs.session.take_line.Statement.{statement}
 use Rattle.segments_cmd.proofs.session.take_line.Tie as tie
 
-takes-operand-requires : tie.Need-takes-operand-requires
-takes-operand-requires c κs = search needs
-
-respond-requires : tie.Need-respond-requires
-respond-requires c κs = search needs
-
 returns : tie.Need-returns
 unfolding afterLine
 returns c = let t = c .before in rw (sym (t .before .takes-operand .ensures) ∙ t .if1 .taken) (c .respond .ensures)
-
-take-command-requires : tie.Need-take-command-requires
-take-command-requires c κs = search needs
 
 returns-2 : tie.Need-returns-2
 unfolding afterLine
 returns-2 c = let t = c .before in rw (sym (t .before .takes-operand .ensures) ∙ t .if1 .left) (c .take-command .ensures)
 
 pub take-line-spec : {M : Type 1} → statement M
-take-line-spec =
-    tie.close
-    (tie.spec takes-operand-requires respond-requires returns take-command-requires returns-2)
+take-line-spec = tie.close (tie.spec (search needs) (search needs) returns (search needs) returns-2)

@@ -11,18 +11,6 @@ use Rattle.segments_cmd.proofs.CategoryLaws.{none-listed, some-listed}
 use Rattle.segments_cmd.proofs.show.put_categories.Statement.{statement}
 use Rattle.segments_cmd.proofs.show.put_categories.Tie as tie
 
-put-members-requires : tie.Need-put-members-requires
-put-members-requires c κs = search needs
-
-slice-aggregate-append : tie.Need-slice-aggregate-append
-slice-aggregate-append c = search needs
-
-append-requires : tie.Need-append-requires
-append-requires c κs = search needs
-
-same-length : tie.Need-same-length
-same-length c = search needs
-
 returns : tie.Need-returns
 unfolding noneWord
 returns c =
@@ -37,9 +25,6 @@ returns c =
     let p : Put (s .args .out .now) (s .args .at) [] (m .put-members .result) (m .put-members .last .0) = rw (n .1) at (m .put-members .ensures .put) in
     record { put = rw (n .0) (then-put (omega arith) p (rw (← t .if1 .taken) at q)); within = omega arith }
 
-same-length-2 : tie.Need-same-length-2
-same-length-2 c = search needs
-
 returns-2 : tie.Need-returns-2
 returns-2 c =
     let m = c .before .before .before in
@@ -49,13 +34,4 @@ returns-2 c =
     record { put = rw n (m .put-members .ensures .put); within = search needs }
 
 pub put-categories-spec : {M : Type 1} → statement M
-put-categories-spec =
-    tie.close
-    (tie.spec
-    put-members-requires
-    slice-aggregate-append
-    append-requires
-    same-length
-    returns
-    same-length-2
-    returns-2)
+put-categories-spec = tie.close (tie.spec (search needs) (search needs) (search needs) (search needs) returns (search needs) returns-2)

@@ -5,29 +5,11 @@ use Rattle.segments_cmd.specs.Show.{categoriesWord, hierarchyWord, label
 use Rattle.segments_cmd.proofs.show.put_label.Statement.{statement}
 use Rattle.segments_cmd.proofs.show.put_label.Tie as tie
 
-slice-aggregate-put-field : tie.Need-slice-aggregate-put-field
-slice-aggregate-put-field c = search needs
-
-cast-put-field : tie.Need-cast-put-field
-cast-put-field c = search needs
-
-put-field-requires : tie.Need-put-field-requires
-put-field-requires c κs = search needs
-
-slice-aggregate-append : tie.Need-slice-aggregate-append
-slice-aggregate-append c = search needs
-
-append-requires : tie.Need-append-requires
-append-requires c κs = search needs
-
 put-categories-requires : tie.Need-put-categories-requires
 put-categories-requires c κs =
     let a = c .before .before .before in
     let q = appended-put (search needs) (a .append .ensures) in
     let e = q .past in omega arith
-
-same-length : tie.Need-same-length
-same-length c = search needs
 
 returns : tie.Need-returns
 unfolding labelText hierarchyWord categoriesWord
@@ -42,13 +24,5 @@ returns c =
 
 pub put-label-spec : {M : Type 1} → statement M
 put-label-spec =
-    tie.close
-    (tie.spec
-    slice-aggregate-put-field
-    cast-put-field
-    put-field-requires
-    slice-aggregate-append
-    append-requires
-    put-categories-requires
-    same-length
+    tie.close (tie.spec (search needs) (search needs) (search needs) (search needs) (search needs) put-categories-requires (search needs)
     returns)

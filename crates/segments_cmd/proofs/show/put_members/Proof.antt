@@ -38,18 +38,6 @@ unfolding listText membersBelow
 loop-holds c =
     let a = c .before .args in (refl, omega arith, omega arith, record { past = omega arith; written = sym (put-nil (a .out .now) (a .at)) })
 
-next-requires : tie.Need-next-requires Inv-loop μ-loop
-next-requires c κs = search needs
-
-enum-known-c : tie.Need-enum-known-c Inv-loop μ-loop
-enum-known-c c = search needs
-
-enum-told : tie.Need-enum-told Inv-loop μ-loop
-enum-told c = search needs
-
-same-length : tie.Need-same-length Inv-loop μ-loop
-same-length c = search needs
-
 returns : tie.Need-returns Inv-loop μ-loop
 returns c =
     let n = c .before .before in
@@ -58,12 +46,6 @@ returns c =
     let h : length ws ≡ words = search needs in
     let e = list-last ws (l .loop .from) (omega arith) (sym (n .next .ensures) ∙ ap foundOf (c .enum-told .given .1)) in
     record { put = rw e at (l .loop .inv .3); within = omega arith }
-
-slice-aggregate-put-field : tie.Need-slice-aggregate-put-field Inv-loop μ-loop
-slice-aggregate-put-field c = search needs
-
-put-field-requires : tie.Need-put-field-requires Inv-loop μ-loop
-put-field-requires c κs = search needs
 
 add-from : tie.Need-add-from Inv-loop μ-loop
 add-from c = let k = c .before .before .before .before .before in omega (arith, next-c k .1)
@@ -82,9 +64,6 @@ loop-again c =
     let e = list-next ws (l .loop .from) (k .before .c .given .0 .0) (found-c k) in
     (search needs, omega arith, omega arith, rw e (then-put (omega arith) (l .loop .inv .3) (p .put-field .ensures .put)))
 
-same-length-2 : tie.Need-same-length-2 Inv-loop μ-loop
-same-length-2 c = search needs
-
 returns-2 : tie.Need-returns-2 Inv-loop μ-loop
 returns-2 c =
     let l = c .before in
@@ -94,20 +73,5 @@ returns-2 c =
 
 pub put-members-spec : {M : Type 1} → statement M
 put-members-spec =
-    tie.close
-    (tie.spec
-    Inv-loop
-    μ-loop
-    loop-holds
-    next-requires
-    enum-known-c
-    enum-told
-    same-length
-    returns
-    slice-aggregate-put-field
-    put-field-requires
-    add-from
-    loop-less
-    loop-again
-    same-length-2
-    returns-2)
+    tie.close (tie.spec Inv-loop μ-loop loop-holds (search needs) (search needs) (search needs) (search needs) returns (search needs)
+    (search needs) add-from loop-less loop-again (search needs) returns-2)

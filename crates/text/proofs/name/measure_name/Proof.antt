@@ -5,27 +5,6 @@ use Rattle.text.proofs.WriteLaws.{name-counted, name-missing}
 use Rattle.text.proofs.name.measure_name.Statement.{statement}
 use Rattle.text.proofs.name.measure_name.Tie as tie
 
--- src/name.rt:66:9
-last-requires : tie.Need-last-requires
-last-requires c κs = search needs
-
--- src/name.rt:68:19
-enum-known-found : tie.Need-enum-known-found
-enum-known-found c = search needs
-
--- src/name.rt:69:32
-line-requires : tie.Need-line-requires
-line-requires c κs = search needs
-
--- src/name.rt:69:17
-written-in-requires : tie.Need-written-in-requires
-written-in-requires c κs = search needs
-
--- src/name.rt:72:27
-enum-told : tie.Need-enum-told
-enum-told c = search needs
-
--- src/name.rt:57:1
 returns : tie.Need-returns
 returns c =
     let f = c .before .before .before in
@@ -34,7 +13,6 @@ returns c =
     name-counted (a .table .now) (a .starts .now) (a .v) (a .value) (a .l) (sym (k .last .ensures) ∙ ap foundOf (f .found .given .1)) (c .before .line .ensures)
     (c .written-in .ensures .0)
 
--- src/name.rt:57:1
 returns-2 : tie.Need-returns-2
 returns-2 c =
     let k = c .before .before in
@@ -42,13 +20,4 @@ returns-2 c =
     name-missing (a .table .now) (a .starts .now) (a .v) (a .value) (a .l) (sym (k .last .ensures) ∙ ap foundOf (c .enum-told .given .1))
 
 pub measure-name-spec : {M : Type 1} → statement M
-measure-name-spec =
-    tie.close
-    (tie.spec
-    last-requires
-    enum-known-found
-    line-requires
-    written-in-requires
-    enum-told
-    returns
-    returns-2)
+measure-name-spec = tie.close (tie.spec (search needs) (search needs) (search needs) (search needs) (search needs) returns returns-2)

@@ -16,22 +16,6 @@ found : (f : tie.After-found)
     lastOf (entriesBy (a .table .now) (a .starts .now)) (a .value) (a .l) ≡ some (f .found .given .0 .0)
 found f = sym (f .before .before .last .ensures) ∙ ap foundOf (f .found .given .1)
 
-last-requires : tie.Need-last-requires
-last-requires c κs = search needs
-
--- src/name.rt:91:19
-enum-known-found : tie.Need-enum-known-found
-enum-known-found c = search needs
-
--- src/name.rt:92:17
-line-requires : tie.Need-line-requires
-line-requires c κs = search needs
-
--- src/name.rt:93:37
-written-in-requires : tie.Need-written-in-requires
-written-in-requires c κs = search needs
-
--- src/name.rt:93:13
 put-span-requires : tie.Need-put-span-requires
 put-span-requires c κs =
     let l = c .before .before in
@@ -40,15 +24,6 @@ put-span-requires c κs =
     let e = ap (λ (s : Span). s .length) (c .written-in .ensures .0) in
     (c .written-in .ensures .1 .0, omega arith)
 
--- src/name.rt:95:27
-enum-told : tie.Need-enum-told
-enum-told c = search needs
-
--- src/name.rt:77:1
-same-length : tie.Need-same-length
-same-length c = search needs
-
--- src/name.rt:77:1
 returns : tie.Need-returns
 returns c =
     let p = c .before .before in
@@ -57,7 +32,6 @@ returns c =
     rw (name-found (a .table .now) (a .starts .now) (a .v) (a .value) (a .l) (found (l .before .before)) (l .line .ensures), ← p .before .written-in .ensures .0)
     (p .put-span .ensures)
 
--- src/name.rt:77:1
 returns-2 : tie.Need-returns-2
 returns-2 c =
     let k = c .before .before in
@@ -67,14 +41,5 @@ returns-2 c =
 
 pub put-name-spec : {M : Type 1} → statement M
 put-name-spec =
-    tie.close
-    (tie.spec
-    last-requires
-    enum-known-found
-    line-requires
-    written-in-requires
-    put-span-requires
-    enum-told
-    same-length
-    returns
+    tie.close (tie.spec (search needs) (search needs) (search needs) (search needs) put-span-requires (search needs) (search needs) returns
     returns-2)

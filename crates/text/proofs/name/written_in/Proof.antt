@@ -6,18 +6,6 @@ use Rattle.text.proofs.WriteLaws.{written-small}
 use Rattle.text.proofs.name.written_in.Statement.{statement}
 use Rattle.text.proofs.name.written_in.Tie as tie
 
-name-requires : tie.Need-name-requires
-name-requires c κs = search needs
-
-enum-told : tie.Need-enum-told
-enum-told c = search needs
-
-enum-told-2 : tie.Need-enum-told-2
-enum-told-2 c = search needs
-
-abbreviation-requires : tie.Need-abbreviation-requires
-abbreviation-requires c κs = search needs
-
 returns : tie.Need-returns
 unfolding writtenIn
 returns c =
@@ -48,13 +36,4 @@ returns-3 c =
     (e, (n .name .ensures .1, rw e (written-small (a .v) (a .line .now))))
 
 pub written-in-spec : {M : Type 1} → statement M
-written-in-spec =
-    tie.close
-    (tie.spec
-    name-requires
-    enum-told
-    enum-told-2
-    abbreviation-requires
-    returns
-    returns-2
-    returns-3)
+written-in-spec = tie.close (tie.spec (search needs) (search needs) (search needs) (search needs) returns returns-2 returns-3)

@@ -19,42 +19,15 @@ told : (t : tie.After-value-named) {s : Named} → t .value-named .result ≡ s
 unfolding categoryNamed
 told t e = value-then _ _ categoryBy (t .value-named .ensures) e
 
-value-named-requires : tie.Need-value-named-requires
-value-named-requires c κs = search needs
-
-enum-known-named : tie.Need-enum-known-named
-enum-known-named c = search needs
-
-enum-told : tie.Need-enum-told
-enum-told c = search needs
-
-no-set-requires : tie.Need-no-set-requires
-no-set-requires c κs = search needs
-
 returns : tie.Need-returns
 unfolding addedTo
 returns c = let e = c .before in rw (told (e .before .before) (e .enum-told .given .1)) (c .no-set .ensures)
-
-enum-known-v : tie.Need-enum-known-v
-enum-known-v c = search needs
-
-no-set-requires-2 : tie.Need-no-set-requires-2
-no-set-requires-2 c κs = search needs
 
 returns-2 : tie.Need-returns-2
 unfolding addedTo
 returns-2 c =
     let n = c .before .before .before in
     rw (told (n .before .before) (n .named .given .1), no-category (n .named .given .0 .0) (λ e. ⊎-elim (λ k. omega arith) (λ k. omega arith) (c .before .match2 .keys2))) (c .no-set2 .ensures)
-
-single-requires : tie.Need-single-requires
-single-requires c κs = search needs
-
-includes-requires : tie.Need-includes-requires
-includes-requires c κs = search needs
-
-no-set-requires-3 : tie.Need-no-set-requires-3
-no-set-requires-3 c κs = search needs
 
 returns-3 : tie.Need-returns-3
 unfolding addedTo
@@ -63,9 +36,6 @@ returns-3 c =
     let v = i .before .before .before in
     let n = v .before .before .before in
     rw (told (n .before .before) (n .named .given .1), v .v .given .1, ← i .before .single .ensures, ← i .includes .ensures, c .before .if1 .taken) (c .no-set3 .ensures)
-
-union-requires : tie.Need-union-requires
-union-requires c κs = search needs
 
 returns-4 : tie.Need-returns-4
 unfolding addedTo
@@ -78,19 +48,5 @@ returns-4 c =
 
 pub add-category-spec : {M : Type 1} → statement M
 add-category-spec =
-    tie.close
-    (tie.spec
-    value-named-requires
-    enum-known-named
-    enum-told
-    no-set-requires
-    returns
-    enum-known-v
-    no-set-requires-2
-    returns-2
-    single-requires
-    includes-requires
-    no-set-requires-3
-    returns-3
-    union-requires
-    returns-4)
+    tie.close (tie.spec (search needs) (search needs) (search needs) (search needs) returns (search needs) (search needs) returns-2
+    (search needs) (search needs) (search needs) returns-3 (search needs) returns-4)

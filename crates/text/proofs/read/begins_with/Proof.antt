@@ -16,11 +16,5 @@ returns c =
 slice-aggregate-same : tie.Need-slice-aggregate-same
 slice-aggregate-same c = sym (length-take-le _ _ (c .before .if1 .left))
 
-same-requires : tie.Need-same-requires
-same-requires c κs = search needs
-
-returns-2 : tie.Need-returns-2
-returns-2 c = search needs
-
 pub begins-with-spec : {M : Type 1} → statement M
-begins-with-spec = tie.close (tie.spec returns slice-aggregate-same same-requires returns-2)
+begins-with-spec = tie.close (tie.spec returns slice-aggregate-same (search needs) (λ c. search needs))

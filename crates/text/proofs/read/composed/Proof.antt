@@ -20,45 +20,15 @@ told : (t : tie.After-value-named) {s : Named} → t .value-named .result ≡ s
 unfolding hierarchyNamed
 told t e = value-then _ _ hierarchyBy (t .value-named .ensures) e
 
-value-named-requires : tie.Need-value-named-requires
-value-named-requires c κs = search needs
-
-enum-known-named : tie.Need-enum-known-named
-enum-known-named c = search needs
-
-enum-told : tie.Need-enum-told
-enum-told c = search needs
-
-no-label-requires : tie.Need-no-label-requires
-no-label-requires c κs = search needs
-
 returns : tie.Need-returns
 unfolding composedOf
 returns c = let e = c .before in rw (told (e .before .before) (e .enum-told .given .1)) (c .no-label .ensures)
-
-enum-known-v : tie.Need-enum-known-v
-enum-known-v c = search needs
-
-no-label-requires-2 : tie.Need-no-label-requires-2
-no-label-requires-2 c κs = search needs
 
 returns-2 : tie.Need-returns-2
 unfolding composedOf
 returns-2 c =
     let n = c .before .before .before in
     rw (told (n .before .before) (n .named .given .1), no-hierarchy (n .named .given .0 .0) (λ e. ⊎-elim (λ k. omega arith) (λ k. omega arith) (c .before .match2 .keys2))) (c .no-label2 .ensures)
-
-read-categories-requires : tie.Need-read-categories-requires
-read-categories-requires c κs = search needs
-
-enum-told-2 : tie.Need-enum-told-2
-enum-told-2 c = search needs
-
-enum-told-3 : tie.Need-enum-told-3
-enum-told-3 c = search needs
-
-zero-requires : tie.Need-zero-requires
-zero-requires c κs = search needs
 
 returns-3 : tie.Need-returns-3
 unfolding composedOf
@@ -80,19 +50,5 @@ returns-4 c =
 
 pub composed-spec : {M : Type 1} → statement M
 composed-spec =
-    tie.close
-    (tie.spec
-    value-named-requires
-    enum-known-named
-    enum-told
-    no-label-requires
-    returns
-    enum-known-v
-    no-label-requires-2
-    returns-2
-    read-categories-requires
-    enum-told-2
-    enum-told-3
-    zero-requires
-    returns-3
-    returns-4)
+    tie.close (tie.spec (search needs) (search needs) (search needs) (search needs) returns (search needs) (search needs) returns-2
+    (search needs) (search needs) (search needs) (search needs) returns-3 returns-4)

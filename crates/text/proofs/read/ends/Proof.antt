@@ -6,44 +6,14 @@ use Rattle.text.specs.Read.{endsOf}
 use Rattle.text.proofs.read.ends.Statement.{statement}
 use Rattle.text.proofs.read.ends.Tie as tie
 
-index-of-requires : tie.Need-index-of-requires
-index-of-requires c κs = search needs
-
 slice-aggregate-label-seen : tie.Need-slice-aggregate-label-seen
 slice-aggregate-label-seen c = sym (length-take-le _ _ (c .before .index-of .ensures .within))
-
-label-seen-requires : tie.Need-label-seen-requires
-label-seen-requires c κs = search needs
-
-enum-told : tie.Need-enum-told
-enum-told c = search needs
-
-enum-told-2 : tie.Need-enum-told-2
-enum-told-2 c = search needs
-
-zero-requires : tie.Need-zero-requires
-zero-requires c κs = search needs
 
 returns : tie.Need-returns
 unfolding endsOf
 returns c =
     let l = c .before .before .before in
     rw (← l .before .before .index-of .ensures .index) (refusal-next (l .label-seen .ensures) _ (c .before .enum-told2 .given .1) (c .zero .ensures))
-
-rest-requires : tie.Need-rest-requires
-rest-requires c κs = search needs
-
-slice-aggregate-begins-with : tie.Need-slice-aggregate-begins-with
-slice-aggregate-begins-with c = search needs
-
-begins-with-requires : tie.Need-begins-with-requires
-begins-with-requires c κs = search needs
-
-rest-requires-2 : tie.Need-rest-requires-2
-rest-requires-2 c κs = search needs
-
-range-from-requires : tie.Need-range-from-requires
-range-from-requires c κs = search needs
 
 returns-2 : tie.Need-returns-2
 unfolding endsOf
@@ -55,9 +25,6 @@ returns-2 c =
     let l = e .before .before in
     rw (← l .before .before .index-of .ensures .index, ← r .rest .ensures, ← c .before .rest2 .ensures)
     (answers-same (c .range-from .ensures) (grant-next (l .label-seen .ensures) _ (e .enum-told .given .1) ∙ passed _ 22 _ (sym (b .begins-with .ensures) ∙ t .if1 .taken)))
-
-no-range-requires : tie.Need-no-range-requires
-no-range-requires c κs = search needs
 
 returns-3 : tie.Need-returns-3
 unfolding endsOf
@@ -71,20 +38,5 @@ returns-3 c =
 
 pub ends-spec : {M : Type 1} → statement M
 ends-spec =
-    tie.close
-    (tie.spec
-    index-of-requires
-    slice-aggregate-label-seen
-    label-seen-requires
-    enum-told
-    enum-told-2
-    zero-requires
-    returns
-    rest-requires
-    slice-aggregate-begins-with
-    begins-with-requires
-    rest-requires-2
-    range-from-requires
-    returns-2
-    no-range-requires
-    returns-3)
+    tie.close (tie.spec (search needs) slice-aggregate-label-seen (search needs) (search needs) (search needs) (search needs) returns
+    (search needs) (search needs) (search needs) (search needs) (search needs) returns-2 (search needs) returns-3)

@@ -6,20 +6,8 @@ use Rattle.text.specs.Read.{labelIn}
 use Rattle.text.proofs.read.label_in.Statement.{statement}
 use Rattle.text.proofs.read.label_in.Tie as tie
 
-index-of-requires : tie.Need-index-of-requires
-index-of-requires c κs = search needs
-
 slice-aggregate-composed : tie.Need-slice-aggregate-composed
 slice-aggregate-composed c = sym (length-take-le _ _ (c .before .before .index-of .ensures .within))
-
-add-rest : tie.Need-add-rest
-add-rest c = search needs
-
-rest-requires : tie.Need-rest-requires
-rest-requires c κs = search needs
-
-composed-requires : tie.Need-composed-requires
-composed-requires c κs = search needs
 
 returns : tie.Need-returns
 unfolding labelIn
@@ -28,22 +16,11 @@ returns c =
     let t = r .before .before in
     rw (← t .before .index-of .ensures .index, lt-ltb _ _ (t .if1 .taken), ← r .rest .ensures) (c .composed .ensures)
 
-label-named-requires : tie.Need-label-named-requires
-label-named-requires c κs = search needs
-
 returns-2 : tie.Need-returns-2
 unfolding labelIn
 returns-2 c = let e = c .before in rw (← e .before .index-of .ensures .index, le-ltb _ _ (e .if1 .left)) (c .label-named .ensures)
 
 pub label-in-spec : {M : Type 1} → statement M
 label-in-spec =
-    tie.close
-    (tie.spec
-    index-of-requires
-    slice-aggregate-composed
-    add-rest
-    rest-requires
-    composed-requires
-    returns
-    label-named-requires
+    tie.close (tie.spec (search needs) slice-aggregate-composed (search needs) (search needs) (search needs) returns (search needs)
     returns-2)

@@ -25,45 +25,12 @@ told t e =
     named-line (a .table .now) (a .starts .now) (a .text .now) _ (sym (f .find .ensures) ∙ ap foundOf (k .found .given .1)) (l .line .ensures)
     ∙ ap (λ (v : Value). labelBy v (standingIn (l .line .result .now) .label)) (sym (t .value .ensures) ∙ e)
 
-find-requires : tie.Need-find-requires
-find-requires c κs = search needs
-
-enum-known-found : tie.Need-enum-known-found
-enum-known-found c = search needs
-
-enum-told : tie.Need-enum-told
-enum-told c = search needs
-
-no-label-requires : tie.Need-no-label-requires
-no-label-requires c κs = search needs
-
 returns : tie.Need-returns
 unfolding labelNamed
 returns c =
     let f = c .before .before .before in
     let a = f .before .before .before .before .args in
     answers-same (c .no-label .ensures) (named-none (a .table .now) (a .starts .now) (a .text .now) _ (sym (f .find .ensures) ∙ ap foundOf (c .before .enum-told .given .1)))
-
-line-requires : tie.Need-line-requires
-line-requires c κs = search needs
-
-value-requires : tie.Need-value-requires
-value-requires c κs = search needs
-
-enum-known-v : tie.Need-enum-known-v
-enum-known-v c = search needs
-
-enum-told-2 : tie.Need-enum-told-2
-enum-told-2 c = search needs
-
-no-label-requires-2 : tie.Need-no-label-requires-2
-no-label-requires-2 c κs = search needs
-
-enum-told-3 : tie.Need-enum-told-3
-enum-told-3 c = search needs
-
-label-requires : tie.Need-label-requires
-label-requires c κs = search needs
 
 returns-2 : tie.Need-returns-2
 returns-2 c =
@@ -79,20 +46,5 @@ returns-4 c =
 
 pub label-named-spec : {M : Type 1} → statement M
 label-named-spec =
-    tie.close
-    (tie.spec
-    find-requires
-    enum-known-found
-    enum-told
-    no-label-requires
-    returns
-    line-requires
-    value-requires
-    enum-known-v
-    enum-told-2
-    no-label-requires-2
-    enum-told-3
-    label-requires
-    returns-2
-    returns-3
-    returns-4)
+    tie.close (tie.spec (search needs) (search needs) (search needs) (search needs) returns (search needs) (search needs) (search needs)
+    (search needs) (search needs) (search needs) (search needs) returns-2 returns-3 returns-4)

@@ -6,24 +6,9 @@ use Rattle.text.specs.Read.{rangeFrom}
 use Rattle.text.proofs.read.range_from.Statement.{statement}
 use Rattle.text.proofs.read.range_from.Tie as tie
 
-label-seen-requires : tie.Need-label-seen-requires
-label-seen-requires c κs = search needs
-
-enum-told : tie.Need-enum-told
-enum-told c = search needs
-
-enum-told-2 : tie.Need-enum-told-2
-enum-told-2 c = search needs
-
-zero-requires : tie.Need-zero-requires
-zero-requires c κs = search needs
-
 returns : tie.Need-returns
 unfolding rangeFrom
 returns c = refusal-next (c .before .before .before .label-seen .ensures) _ (c .before .enum-told2 .given .1) (c .zero .ensures)
-
-dominates-requires : tie.Need-dominates-requires
-dominates-requires c κs = search needs
 
 returns-2 : tie.Need-returns-2
 unfolding rangeFrom
@@ -32,9 +17,6 @@ returns-2 c =
     let e = d .before .before .before .before in
     answers-grant _ zeroRange _ _
     (grant-next (e .before .before .label-seen .ensures) _ (e .enum-told .given .1) ∙ passed _ 22 _ (sym (d .dominates .ensures) ∙ c .if1 .taken)) refl
-
-no-range-requires : tie.Need-no-range-requires
-no-range-requires c κs = search needs
 
 returns-3 : tie.Need-returns-3
 unfolding rangeFrom
@@ -46,14 +28,5 @@ returns-3 c =
 
 pub range-from-spec : {M : Type 1} → statement M
 range-from-spec =
-    tie.close
-    (tie.spec
-    label-seen-requires
-    enum-told
-    enum-told-2
-    zero-requires
-    returns
-    dominates-requires
-    returns-2
-    no-range-requires
+    tie.close (tie.spec (search needs) (search needs) (search needs) (search needs) returns (search needs) returns-2 (search needs)
     returns-3)

@@ -43,23 +43,8 @@ told t =
 loop-holds : tie.Need-loop-holds Inv-loop μ-loop
 loop-holds c = (omega arith, refl)
 
-rest-requires : tie.Need-rest-requires Inv-loop μ-loop
-rest-requires c κs = search needs
-
-index-of-requires : tie.Need-index-of-requires Inv-loop μ-loop
-index-of-requires c κs = search needs
-
 slice-aggregate-add-category : tie.Need-slice-aggregate-add-category Inv-loop μ-loop
 slice-aggregate-add-category c = let i = c .before .index-of in sym (length-take-le (i .result) (c .before .before .rest .result .now) (i .ensures .within))
-
-add-category-requires : tie.Need-add-category-requires Inv-loop μ-loop
-add-category-requires c κs = search needs
-
-enum-told : tie.Need-enum-told Inv-loop μ-loop
-enum-told c = search needs
-
-enum-told-2 : tie.Need-enum-told-2 Inv-loop μ-loop
-enum-told-2 c = search needs
 
 returns : tie.Need-returns Inv-loop μ-loop
 returns c =
@@ -89,20 +74,5 @@ returns-2 c =
 
 pub read-categories-spec : {M : Type 1} → statement M
 read-categories-spec =
-    tie.close
-    (tie.spec
-    Inv-loop
-    μ-loop
-    loop-holds
-    rest-requires
-    index-of-requires
-    slice-aggregate-add-category
-    add-category-requires
-    enum-told
-    enum-told-2
-    returns
-    add-at
-    add-at-2
-    loop-less
-    loop-again
-    returns-2)
+    tie.close (tie.spec Inv-loop μ-loop loop-holds (search needs) (search needs) slice-aggregate-add-category (search needs) (search needs)
+    (search needs) returns add-at add-at-2 loop-less loop-again returns-2)

@@ -5,23 +5,13 @@ use Rattle.text.specs.Read.{readLabelOf}
 use Rattle.text.proofs.read.read_checked.Statement.{statement}
 use Rattle.text.proofs.read.read_checked.Tie as tie
 
-valid-requires : tie.Need-valid-requires
-valid-requires c κs = search needs
-
-label-seen-requires : tie.Need-label-seen-requires
-label-seen-requires c κs = search needs
-
 returns : tie.Need-returns
 unfolding readLabelOf
 returns c = let t = c .before in answers-same (c .label-seen .ensures) (passed _ 22 _ (sym (t .before .valid .ensures) ∙ t .if1 .taken))
-
-no-label-requires : tie.Need-no-label-requires
-no-label-requires c κs = search needs
 
 returns-2 : tie.Need-returns-2
 unfolding readLabelOf
 returns-2 c = let e = c .before in answers-same (c .no-label .ensures) (stopped _ 22 _ (sym (e .before .valid .ensures) ∙ e .if1 .left))
 
 pub read-checked-spec : {M : Type 1} → statement M
-read-checked-spec =
-    tie.close (tie.spec valid-requires label-seen-requires returns no-label-requires returns-2)
+read-checked-spec = tie.close (tie.spec (search needs) (search needs) returns (search needs) returns-2)

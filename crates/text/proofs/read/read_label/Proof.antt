@@ -8,18 +8,6 @@ use Rattle.text.proofs.SubjectLaws.{table-few, table-next, table-room}
 use Rattle.text.proofs.read.read_label.Statement.{statement}
 use Rattle.text.proofs.read.read_label.Tie as tie
 
-check-requires : tie.Need-check-requires
-check-requires c κs = search needs
-
-enum-told : tie.Need-enum-told
-enum-told c = search needs
-
-zero-requires : tie.Need-zero-requires
-zero-requires c κs = search needs
-
-enum-told-2 : tie.Need-enum-told-2
-enum-told-2 c = search needs
-
 add-n : tie.Need-add-n
 add-n c =
     let e = c .before .before .before in
@@ -38,9 +26,6 @@ slice-aggregate-read-checked c =
     let k = e .before .before in
     sym (length-take-le _ _ (table-room _ _ (k .check .ensures) (e .enum-told2 .given .1)))
 
-read-checked-requires : tie.Need-read-checked-requires
-read-checked-requires c κs = search needs
-
 returns : tie.Need-returns
 returns c = refusal-next (c .before .before .before .check .ensures) _ (c .before .enum-told .given .1) (c .zero .ensures)
 
@@ -53,15 +38,5 @@ returns-2 c =
 
 pub read-label-spec : {M : Type 1} → statement M
 read-label-spec =
-    tie.close
-    (tie.spec
-    check-requires
-    enum-told
-    zero-requires
-    enum-told-2
-    add-n
-    array-share-prefix-starts
-    slice-aggregate-read-checked
-    read-checked-requires
-    returns
-    returns-2)
+    tie.close (tie.spec (search needs) (search needs) (search needs) (search needs) add-n array-share-prefix-starts
+    slice-aggregate-read-checked (search needs) returns returns-2)

@@ -7,21 +7,6 @@ use Rattle.text.proofs.ReadLaws.{named-line, named-none}
 use Rattle.text.proofs.read.value_named.Statement.{statement}
 use Rattle.text.proofs.read.value_named.Tie as tie
 
-find-requires : tie.Need-find-requires
-find-requires c κs = search needs
-
-enum-known-found : tie.Need-enum-known-found
-enum-known-found c = search needs
-
-line-requires : tie.Need-line-requires
-line-requires c κs = search needs
-
-value-requires : tie.Need-value-requires
-value-requires c κs = search needs
-
-enum-told : tie.Need-enum-told
-enum-told c = search needs
-
 returns : tie.Need-returns
 unfolding valueNamed
 returns c =
@@ -39,13 +24,4 @@ returns-2 c =
     sym (named-none (a .table .now) (a .starts .now) (a .text .now) _ (sym (f .find .ensures) ∙ ap foundOf (c .enum-told .given .1)))
 
 pub value-named-spec : {M : Type 1} → statement M
-value-named-spec =
-    tie.close
-    (tie.spec
-    find-requires
-    enum-known-found
-    line-requires
-    value-requires
-    enum-told
-    returns
-    returns-2)
+value-named-spec = tie.close (tie.spec (search needs) (search needs) (search needs) (search needs) (search needs) returns returns-2)

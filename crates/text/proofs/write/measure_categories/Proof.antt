@@ -35,35 +35,12 @@ whole : (m : tie.After-m Inv-loop μ-loop)
     Whole (named es (Category (n .next2 .given .0 .0)) zeroLabel) (nameFor es (a .v) (Category (n .next2 .given .0 .0)) zeroLabel) maxName (m .m .given .0 .0)
 whole m = let x = m .before .before in counted (rw (x .before .zero .ensures) at (x .measure-name .ensures)) (m .m .given .1)
 
--- src/write.rt:51:5
 loop-holds : tie.Need-loop-holds Inv-loop μ-loop
 loop-holds c = let h : length (c .before .before .args .categories) ≡ words = search needs in measured-none h
 
--- src/write.rt:52:13
-next-requires : tie.Need-next-requires Inv-loop μ-loop
-next-requires c κs = search needs
-
--- src/write.rt:54:23
-enum-known-next : tie.Need-enum-known-next Inv-loop μ-loop
-enum-known-next c = search needs
-
--- src/write.rt:55:76
-zero-requires : tie.Need-zero-requires Inv-loop μ-loop
-zero-requires c κs = search needs
-
--- src/write.rt:55:21
-measure-name-requires : tie.Need-measure-name-requires Inv-loop μ-loop
-measure-name-requires c κs = search needs
-
--- src/write.rt:57:36
-enum-known-m : tie.Need-enum-known-m Inv-loop μ-loop
-enum-known-m c = search needs
-
--- src/write.rt:58:34
 add-total : tie.Need-add-total Inv-loop μ-loop
 add-total c = let w = whole (c .before) in omega arith
 
--- src/write.rt:58:25
 add-total-2 : tie.Need-add-total-2 Inv-loop μ-loop
 add-total-2 c =
     let w = whole (c .before) in
@@ -71,7 +48,6 @@ add-total-2 c =
     let u = i .within in
     let s = i .small in omega arith
 
--- src/write.rt:59:29
 add-c : tie.Need-add-c Inv-loop μ-loop
 add-c c =
     let n = c .before .before .before .before .before .before in
@@ -79,7 +55,6 @@ add-c c =
     let i = h .loop .inv .size in
     let u = next-within _ _ _ (found n) in omega arith
 
--- src/write.rt:51:5
 loop-less : tie.Need-loop-less Inv-loop μ-loop
 loop-less c =
     let n = c .before .before .before .before .before .before in
@@ -87,17 +62,11 @@ loop-less c =
     let t = h .loop-test .taken in
     let u = next-within _ _ _ (found n) in omega arith
 
--- src/write.rt:51:5
 loop-again : tie.Need-loop-again Inv-loop μ-loop
 loop-again c =
     let n = c .before .before .before .before .before .before in
     let h = n .before .before .before .before in measured-next (h .loop .inv) (found n) (whole (c .before))
 
--- src/write.rt:62:25
-enum-told : tie.Need-enum-told Inv-loop μ-loop
-enum-told c = search needs
-
--- src/write.rt:62:25
 returns : tie.Need-returns Inv-loop μ-loop
 returns c =
     let x = c .before .before in
@@ -105,44 +74,15 @@ returns c =
     let h = n .before .before .before .before in
     measured-missing (h .loop .inv) (found n) (missed (rw (x .before .zero .ensures) at (x .measure-name .ensures)) (c .enum-told .given .1))
 
--- src/write.rt:67:17
-enum-told-2 : tie.Need-enum-told-2 Inv-loop μ-loop
-enum-told-2 c = search needs
-
--- src/write.rt:51:5
-loop-less-2 : tie.Need-loop-less-2 Inv-loop μ-loop
-loop-less-2 c = search needs
-
--- src/write.rt:51:5
 loop-again-2 : tie.Need-loop-again-2 Inv-loop μ-loop
 loop-again-2 c =
     let n = c .before .before in
     let h = n .before .before in measured-past (h .loop .inv) (sym (n .next .ensures) ∙ ap foundOf (c .enum-told2 .given .1))
 
--- src/write.rt:41:1
 returns-2 : tie.Need-returns-2 Inv-loop μ-loop
 returns-2 c = measured-all (c .before .loop .inv) (c .loop-test .left)
 
 pub measure-categories-spec : {M : Type 1} → statement M
 measure-categories-spec =
-    tie.close
-    (tie.spec
-    Inv-loop
-    μ-loop
-    loop-holds
-    next-requires
-    enum-known-next
-    zero-requires
-    measure-name-requires
-    enum-known-m
-    add-total
-    add-total-2
-    add-c
-    loop-less
-    loop-again
-    enum-told
-    returns
-    enum-told-2
-    loop-less-2
-    loop-again-2
-    returns-2)
+    tie.close (tie.spec Inv-loop μ-loop loop-holds (search needs) (search needs) (search needs) (search needs) (search needs) add-total
+    add-total-2 add-c loop-less loop-again (search needs) returns (search needs) (search needs) loop-again-2 returns-2)

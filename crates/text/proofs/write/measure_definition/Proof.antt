@@ -10,30 +10,9 @@ use Rattle.text.proofs.WriteLaws.{counted, counts, missed, misses}
 use Rattle.text.proofs.write.measure_definition.Statement.{statement}
 use Rattle.text.proofs.write.measure_definition.Tie as tie
 
-zero-requires : tie.Need-zero-requires
-zero-requires c κs = search needs
-
-measure-name-requires : tie.Need-measure-name-requires
-measure-name-requires c κs = search needs
-
-enum-known-hierarchy : tie.Need-enum-known-hierarchy
-enum-known-hierarchy c = search needs
-
-enum-told : tie.Need-enum-told
-enum-told c = search needs
-
 returns : tie.Need-returns
 unfolding definitionNamed
 returns c = let x = c .before .before in misses (rw (missed (rw (x .before .zero .ensures) at (x .measure-name .ensures)) (c .enum-told .given .1)))
-
-measure-categories-requires : tie.Need-measure-categories-requires
-measure-categories-requires c κs = search needs
-
-enum-known-categories : tie.Need-enum-known-categories
-enum-known-categories c = search needs
-
-enum-told-2 : tie.Need-enum-told-2
-enum-told-2 c = search needs
 
 returns-2 : tie.Need-returns-2
 unfolding definitionNamed
@@ -60,16 +39,5 @@ returns-3 c =
 
 pub measure-definition-spec : {M : Type 1} → statement M
 measure-definition-spec =
-    tie.close
-    (tie.spec
-    zero-requires
-    measure-name-requires
-    enum-known-hierarchy
-    enum-told
-    returns
-    measure-categories-requires
-    enum-known-categories
-    enum-told-2
-    returns-2
-    add-t12
-    returns-3)
+    tie.close (tie.spec (search needs) (search needs) (search needs) (search needs) returns (search needs) (search needs) (search needs)
+    returns-2 add-t12 returns-3)

@@ -5,15 +5,6 @@ use Rattle.text.proofs.WriteLaws.{counted, counts, missed, misses}
 use Rattle.text.proofs.write.measure_low.Statement.{statement}
 use Rattle.text.proofs.write.measure_low.Tie as tie
 
-measure-label-requires : tie.Need-measure-label-requires
-measure-label-requires c κs = search needs
-
-enum-known-low : tie.Need-enum-known-low
-enum-known-low c = search needs
-
-enum-told : tie.Need-enum-told
-enum-told c = search needs
-
 returns : tie.Need-returns
 returns c = misses (missed (c .before .before .measure-label .ensures) (c .enum-told .given .1))
 
@@ -31,13 +22,4 @@ returns-2 : tie.Need-returns-2
 returns-2 c = counts (low-counts _ _ _ (counted (c .before .before .before .measure-label .ensures) (c .before .low .given .1)))
 
 pub measure-low-spec : {M : Type 1} → statement M
-measure-low-spec =
-    tie.close
-    (tie.spec
-    measure-label-requires
-    enum-known-low
-    enum-told
-    returns
-    add-t7
-    add-t8
-    returns-2)
+measure-low-spec = tie.close (tie.spec (search needs) (search needs) (search needs) returns add-t7 add-t8 returns-2)

@@ -8,26 +8,8 @@ use Rattle.text.proofs.WriteLaws.{counted, counts, missed, misses}
 use Rattle.text.proofs.write.measure_whole.Statement.{statement}
 use Rattle.text.proofs.write.measure_whole.Tie as tie
 
-measure-label-requires : tie.Need-measure-label-requires
-measure-label-requires c κs = search needs
-
-enum-known-low : tie.Need-enum-known-low
-enum-known-low c = search needs
-
-enum-told : tie.Need-enum-told
-enum-told c = search needs
-
 returns : tie.Need-returns
 returns c = misses (rw (missed (c .before .before .measure-label .ensures) (c .enum-told .given .1)))
-
-measure-label-requires-2 : tie.Need-measure-label-requires-2
-measure-label-requires-2 c κs = search needs
-
-enum-known-high : tie.Need-enum-known-high
-enum-known-high c = search needs
-
-enum-told-2 : tie.Need-enum-told-2
-enum-told-2 c = search needs
 
 returns-2 : tie.Need-returns-2
 returns-2 c =
@@ -67,17 +49,5 @@ returns-3 c =
 
 pub measure-whole-spec : {M : Type 1} → statement M
 measure-whole-spec =
-    tie.close
-    (tie.spec
-    measure-label-requires
-    enum-known-low
-    enum-told
-    returns
-    measure-label-requires-2
-    enum-known-high
-    enum-told-2
-    returns-2
-    add-t9
-    add-t10
-    add-t11
-    returns-3)
+    tie.close (tie.spec (search needs) (search needs) (search needs) returns (search needs) (search needs) (search needs) returns-2 add-t9
+    add-t10 add-t11 returns-3)

@@ -24,25 +24,14 @@ found : (n : tie.After-next2 Inv-loop μ-loop)
     nextOf (h .before .before .before .before .args .categories) (h .loop .c) ≡ some (n .next2 .given .0 .0)
 found n = sym (n .before .before .next .ensures) ∙ ap foundOf (n .next2 .given .1)
 
--- src/write.rt:114:5
 loop-holds : tie.Need-loop-holds Inv-loop μ-loop
 loop-holds c = let h : length (c .before .before .before .args .categories) ≡ words = search needs in put-none h
 
--- src/write.rt:115:13
-next-requires : tie.Need-next-requires Inv-loop μ-loop
-next-requires c κs = search needs
-
--- src/write.rt:117:23
-enum-known-next : tie.Need-enum-known-next Inv-loop μ-loop
-enum-known-next c = search needs
-
--- src/write.rt:118:17
 put-category-requires : tie.Need-put-category-requires Inv-loop μ-loop
 put-category-requires c κs =
     let n = c .before .before in
     let h = n .before .before .before .before in put-room (h .loop .inv) (h .before .before .before .before .pre) (found n)
 
--- src/write.rt:120:21
 add-c : tie.Need-add-c Inv-loop μ-loop
 add-c c =
     let n = c .before .before .before .before .before in
@@ -50,7 +39,6 @@ add-c c =
     let i = h .loop .inv .size in
     let u = next-within _ _ _ (found n) in omega arith
 
--- src/write.rt:114:5
 loop-less : tie.Need-loop-less Inv-loop μ-loop
 loop-less c =
     let n = c .before .before .before .before .before in
@@ -58,50 +46,24 @@ loop-less c =
     let t = h .loop-test .taken in
     let u = next-within _ _ _ (found n) in omega arith
 
--- src/write.rt:114:5
 loop-again : tie.Need-loop-again Inv-loop μ-loop
 loop-again c =
     let p = c .before .before in
     let n = p .before .before .before in
     let h = n .before .before .before .before in put-next (h .loop .inv) (h .before .before .before .before .pre) (found n) (p .put-category .ensures)
 
--- src/write.rt:123:17
-enum-told : tie.Need-enum-told Inv-loop μ-loop
-enum-told c = search needs
-
--- src/write.rt:114:5
-loop-less-2 : tie.Need-loop-less-2 Inv-loop μ-loop
-loop-less-2 c = search needs
-
--- src/write.rt:114:5
 loop-again-2 : tie.Need-loop-again-2 Inv-loop μ-loop
 loop-again-2 c =
     let n = c .before .before in
     let h = n .before .before in put-past (h .loop .inv) (sym (n .next .ensures) ∙ ap foundOf (c .enum-told .given .1))
 
--- src/write.rt:100:1
 same-length : tie.Need-same-length Inv-loop μ-loop
 same-length c = let h = c .before in put-same-length (h .before .before .before .before .pre) (put-every (h .loop .inv) (c .loop-test .left))
 
--- src/write.rt:100:1
 returns : tie.Need-returns Inv-loop μ-loop
 returns c = put-every (c .before .loop .inv) (c .loop-test .left)
 
 pub put-categories-spec : {M : Type 1} → statement M
 put-categories-spec =
-    tie.close
-    (tie.spec
-    Inv-loop
-    μ-loop
-    loop-holds
-    next-requires
-    enum-known-next
-    put-category-requires
-    add-c
-    loop-less
-    loop-again
-    enum-told
-    loop-less-2
-    loop-again-2
-    same-length
-    returns)
+    tie.close (tie.spec Inv-loop μ-loop loop-holds (search needs) (search needs) put-category-requires add-c loop-less loop-again
+    (search needs) (search needs) loop-again-2 same-length returns)

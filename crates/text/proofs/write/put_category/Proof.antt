@@ -6,33 +6,18 @@ use Rattle.octets.proofs.ByteLaws.{one-put, then-put}
 use Rattle.text.proofs.write.put_category.Statement.{statement}
 use Rattle.text.proofs.write.put_category.Tie as tie
 
--- src/write.rt:87:5
-slice-write-out : tie.Need-slice-write-out
-slice-write-out c = search needs
-
--- src/write.rt:93:9
-zero-requires : tie.Need-zero-requires
-zero-requires c κs = search needs
-
--- src/write.rt:95:9
-add-put-name : tie.Need-add-put-name
-add-put-name c = search needs
-
--- src/write.rt:88:5
 put-name-requires : tie.Need-put-name-requires
 put-name-requires c κs =
     let z = c .before in
     let s = z .before .before .before .before in
     let h = s .pre in rw (z .zero .ensures, length-set) h
 
--- src/write.rt:75:1
 same-length : tie.Need-same-length
 same-length c =
     let p = c .before .before in
     let a = p .before .before .before .before .before .before .args in
     p .put-name .kept .1 .1 .1 .1 .1 .0 ∙ length-set (a .out .now) (a .at) (a .mark)
 
--- src/write.rt:75:1
 returns : tie.Need-returns
 returns c =
     let p = c .before .before in
@@ -42,6 +27,4 @@ returns c =
     let h = s .pre in then-put (omega arith) (one-put (a .out .now) (a .at) (a .mark) (omega arith)) (rw (z .zero .ensures) at (p .put-name .ensures))
 
 pub put-category-spec : {M : Type 1} → statement M
-put-category-spec =
-    tie.close
-    (tie.spec slice-write-out zero-requires add-put-name put-name-requires same-length returns)
+put-category-spec = tie.close (tie.spec (search needs) (search needs) (search needs) put-name-requires same-length returns)

@@ -7,9 +7,6 @@ use Rattle.text.proofs.PartLaws.{definition-length}
 use Rattle.text.proofs.write.put_definition.Statement.{statement}
 use Rattle.text.proofs.write.put_definition.Tie as tie
 
-zero-requires : tie.Need-zero-requires
-zero-requires c κs = search needs
-
 put-name-requires : tie.Need-put-name-requires
 put-name-requires c κs =
     let z = c .before in
@@ -30,9 +27,6 @@ put-categories-requires c κs =
     let l = put-same-length (omega (arith, s .pre)) h in
     omega (arith, s .pre)
 
-same-length : tie.Need-same-length
-same-length c = search needs
-
 returns : tie.Need-returns
 unfolding definitionText
 returns c =
@@ -47,11 +41,4 @@ returns c =
     then-put (omega (arith, s .pre)) h (k .put-categories .ensures)
 
 pub put-definition-spec : {M : Type 1} → statement M
-put-definition-spec =
-    tie.close
-    (tie.spec
-    zero-requires
-    put-name-requires
-    put-categories-requires
-    same-length
-    returns)
+put-definition-spec = tie.close (tie.spec (search needs) put-name-requires put-categories-requires (search needs) returns)

@@ -7,12 +7,6 @@ use Rattle.text.proofs.PartLaws.{low-front, whole-front, whole-length}
 use Rattle.text.proofs.write.put_whole.Statement.{statement}
 use Rattle.text.proofs.write.put_whole.Tie as tie
 
-slice-aggregate-append : tie.Need-slice-aggregate-append
-slice-aggregate-append c = search needs
-
-append-requires : tie.Need-append-requires
-append-requires c κs = search needs
-
 put-label-requires : tie.Need-put-label-requires
 put-label-requires c κs =
     let p = c .before .before .before in
@@ -23,12 +17,6 @@ put-label-requires c κs =
     let q = h .past in
     let l = put-same-length (omega (arith, s .pre)) h in
     omega (arith, s .pre)
-
-slice-aggregate-append-2 : tie.Need-slice-aggregate-append-2
-slice-aggregate-append-2 c = search needs
-
-append-requires-2 : tie.Need-append-requires-2
-append-requires-2 c κs = search needs
 
 put-label-requires-2 : tie.Need-put-label-requires-2
 put-label-requires-2 c κs =
@@ -48,9 +36,6 @@ put-label-requires-2 c κs =
     let o = m .past in
     let l = put-same-length (omega (arith, s .pre)) m in
     omega (arith, s .pre)
-
-same-length : tie.Need-same-length
-same-length c = search needs
 
 returns : tie.Need-returns
 unfolding wholeText
@@ -73,13 +58,5 @@ returns c =
 
 pub put-whole-spec : {M : Type 1} → statement M
 put-whole-spec =
-    tie.close
-    (tie.spec
-    slice-aggregate-append
-    append-requires
-    put-label-requires
-    slice-aggregate-append-2
-    append-requires-2
-    put-label-requires-2
-    same-length
+    tie.close (tie.spec (search needs) (search needs) put-label-requires (search needs) (search needs) put-label-requires-2 (search needs)
     returns)

@@ -10,20 +10,11 @@ use Rattle.text.proofs.RoomLaws.{written-same}
 use Rattle.text.proofs.write.write_checked.Statement.{statement}
 use Rattle.text.proofs.write.write_checked.Tie as tie
 
-valid-requires : tie.Need-valid-requires
-valid-requires c κs = search needs
-
-valid-requires-2 : tie.Need-valid-requires-2
-valid-requires-2 c κs = search needs
-
 returns : tie.Need-returns
 unfolding writeLabelOf
 returns c =
     let v = c .before in
     writes-nothing Invalid _ _ _ (stopped _ 22 _ (ap₂ _&&_ (sym (v .before .valid .ensures)) (sym (v .valid2 .ensures)) ∙ not-true _ (c .if1 .taken))) refl
-
-sees-requires : tie.Need-sees-requires
-sees-requires c κs = search needs
 
 returns-2 : tie.Need-returns-2
 unfolding writeLabelOf
@@ -34,12 +25,6 @@ returns-2 c =
     (passed _ 22 _ (ap₂ _&&_ (sym (v .before .valid .ensures)) (sym (v .valid2 .ensures)) ∙ not-false _ (e .if1 .left))
     ∙ stopped _ 13 _ (sym (c .before .sees .ensures) ∙ not-true _ (c .if2 .taken)))
     refl
-
-write-text-requires : tie.Need-write-text-requires
-write-text-requires c κs = search needs
-
-same-length : tie.Need-same-length
-same-length c = search needs
 
 returns-3 : tie.Need-returns-3
 unfolding writeLabelOf
@@ -54,4 +39,4 @@ returns-3 c =
 
 pub write-checked-spec : {M : Type 1} → statement M
 write-checked-spec =
-    tie.close (tie.spec valid-requires valid-requires-2 returns sees-requires returns-2 write-text-requires same-length returns-3)
+    tie.close (tie.spec (search needs) (search needs) returns (search needs) returns-2 (search needs) (search needs) returns-3)

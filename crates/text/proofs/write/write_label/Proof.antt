@@ -9,15 +9,6 @@ use Rattle.text.proofs.SubjectLaws.{table-few, table-next, table-refuse
 use Rattle.text.proofs.write.write_label.Statement.{statement}
 use Rattle.text.proofs.write.write_label.Tie as tie
 
-check-requires : tie.Need-check-requires
-check-requires c κs = search needs
-
-enum-known-outcome : tie.Need-enum-known-outcome
-enum-known-outcome c = search needs
-
-enum-told : tie.Need-enum-told
-enum-told c = search needs
-
 add-n : tie.Need-add-n
 add-n c =
     let e = c .before .before .before in
@@ -33,18 +24,12 @@ slice-aggregate-write-checked c =
     let e = c .before .before .before .before in
     sym (length-take-le _ _ (table-room _ _ (e .before .before .check .ensures) (e .enum-told .given .1)))
 
-write-checked-requires : tie.Need-write-checked-requires
-write-checked-requires c κs = search needs
-
 returns : tie.Need-returns
 returns c =
     let o = c .before in
     let k = o .before .before in
     let a = k .before .before .before .args in
     writes-nothing _ _ _ _ (table-refused (a .more) (a .table .now) (k .check .ensures) (o .outcome .given .1) (λ es. writeLabelOf es (a .s) (a .style) (a .l))) refl
-
-same-length : tie.Need-same-length
-same-length c = search needs
 
 returns-2 : tie.Need-returns-2
 returns-2 c =
@@ -56,15 +41,5 @@ returns-2 c =
 
 pub write-label-spec : {M : Type 1} → statement M
 write-label-spec =
-    tie.close
-    (tie.spec
-    check-requires
-    enum-known-outcome
-    enum-told
-    add-n
-    array-share-prefix-starts
-    slice-aggregate-write-checked
-    write-checked-requires
-    returns
-    same-length
-    returns-2)
+    tie.close (tie.spec (search needs) (search needs) (search needs) add-n array-share-prefix-starts slice-aggregate-write-checked
+    (search needs) returns (search needs) returns-2)

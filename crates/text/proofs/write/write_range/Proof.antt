@@ -8,18 +8,6 @@ use Rattle.text.proofs.SubjectLaws.{table-few, table-next, table-refuse
 use Rattle.text.proofs.write.write_range.Statement.{statement}
 use Rattle.text.proofs.write.write_range.Tie as tie
 
-check-requires : tie.Need-check-requires
-check-requires c κs = search needs
-
-enum-known-outcome : tie.Need-enum-known-outcome
-enum-known-outcome c = search needs
-
-with-status-requires : tie.Need-with-status-requires
-with-status-requires c κs = search needs
-
-enum-told : tie.Need-enum-told
-enum-told c = search needs
-
 add-n : tie.Need-add-n
 add-n c =
     let e = c .before .before .before in
@@ -35,18 +23,12 @@ slice-aggregate-write-range-checked c =
     let e = c .before .before .before .before in
     sym (length-take-le _ _ (table-room _ _ (e .before .before .check .ensures) (e .enum-told .given .1)))
 
-write-range-checked-requires : tie.Need-write-range-checked-requires
-write-range-checked-requires c κs = search needs
-
 returns : tie.Need-returns
 returns c =
     let o = c .before .before in
     let k = o .before .before in
     let a = k .before .before .before .args in
     range-refusal _ _ _ _ _ (c .with-status .ensures) (table-refused (a .more) (a .table .now) (k .check .ensures) (o .outcome .given .1) (λ es. writeRangeOf es (a .s) (a .style) (a .x))) refl
-
-same-length : tie.Need-same-length
-same-length c = search needs
 
 returns-2 : tie.Need-returns-2
 returns-2 c =
@@ -58,16 +40,5 @@ returns-2 c =
 
 pub write-range-spec : {M : Type 1} → statement M
 write-range-spec =
-    tie.close
-    (tie.spec
-    check-requires
-    enum-known-outcome
-    with-status-requires
-    enum-told
-    add-n
-    array-share-prefix-starts
-    slice-aggregate-write-range-checked
-    write-range-checked-requires
-    returns
-    same-length
-    returns-2)
+    tie.close (tie.spec (search needs) (search needs) (search needs) (search needs) add-n array-share-prefix-starts
+    slice-aggregate-write-range-checked (search needs) returns (search needs) returns-2)

@@ -10,15 +10,6 @@ use Rattle.text.proofs.RoomLaws.{range-refusal, range-same, range-writt
 use Rattle.text.proofs.write.write_range_checked.Statement.{statement}
 use Rattle.text.proofs.write.write_range_checked.Tie as tie
 
-valid-requires : tie.Need-valid-requires
-valid-requires c κs = search needs
-
-valid-requires-2 : tie.Need-valid-requires-2
-valid-requires-2 c κs = search needs
-
-with-status-requires : tie.Need-with-status-requires
-with-status-requires c κs = search needs
-
 returns : tie.Need-returns
 unfolding writeRangeOf
 returns c =
@@ -26,12 +17,6 @@ returns c =
     let v = t .before in
     range-refusal _ Invalid _ _ _ (c .with-status .ensures)
     (stopped _ 22 _ (ap₂ _&&_ (sym (v .before .valid .ensures)) (sym (v .valid2 .ensures)) ∙ not-true _ (t .if1 .taken))) refl
-
-sees-requires : tie.Need-sees-requires
-sees-requires c κs = search needs
-
-with-status-requires-2 : tie.Need-with-status-requires-2
-with-status-requires-2 c κs = search needs
 
 returns-2 : tie.Need-returns-2
 unfolding writeRangeOf
@@ -43,18 +28,6 @@ returns-2 c =
     (passed _ 22 _ (ap₂ _&&_ (sym (v .before .valid .ensures)) (sym (v .valid2 .ensures)) ∙ not-false _ (e .if1 .left))
     ∙ stopped _ 13 _ (sym (t .before .sees .ensures) ∙ not-true _ (t .if2 .taken)))
     refl
-
-sees-requires-2 : tie.Need-sees-requires-2
-sees-requires-2 c κs = search needs
-
-write-whole-requires : tie.Need-write-whole-requires
-write-whole-requires c κs = search needs
-
-with-status-requires-3 : tie.Need-with-status-requires-3
-with-status-requires-3 c κs = search needs
-
-same-length : tie.Need-same-length
-same-length c = search needs
 
 returns-3 : tie.Need-returns-3
 unfolding writeRangeOf
@@ -70,15 +43,6 @@ returns-3 c =
     (passed _ 22 _ (ap₂ _&&_ (sym (v .before .valid .ensures)) (sym (v .valid2 .ensures)) ∙ not-false _ (e .if1 .left))
     ∙ passed _ 13 _ (sym (f .before .sees .ensures) ∙ not-false _ (f .if2 .left))
     ∙ rw (← t .before .sees2 .ensures, t .if3 .taken))
-
-write-low-requires : tie.Need-write-low-requires
-write-low-requires c κs = search needs
-
-with-status-requires-4 : tie.Need-with-status-requires-4
-with-status-requires-4 c κs = search needs
-
-same-length-2 : tie.Need-same-length-2
-same-length-2 c = search needs
 
 returns-4 : tie.Need-returns-4
 unfolding writeRangeOf
@@ -97,21 +61,5 @@ returns-4 c =
 
 pub write-range-checked-spec : {M : Type 1} → statement M
 write-range-checked-spec =
-    tie.close
-    (tie.spec
-    valid-requires
-    valid-requires-2
-    with-status-requires
-    returns
-    sees-requires
-    with-status-requires-2
-    returns-2
-    sees-requires-2
-    write-whole-requires
-    with-status-requires-3
-    same-length
-    returns-3
-    write-low-requires
-    with-status-requires-4
-    same-length-2
-    returns-4)
+    tie.close (tie.spec (search needs) (search needs) (search needs) returns (search needs) (search needs) returns-2 (search needs)
+    (search needs) (search needs) (search needs) returns-3 (search needs) (search needs) (search needs) returns-4)

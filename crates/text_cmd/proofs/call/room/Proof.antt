@@ -7,9 +7,6 @@ use lib.Seq.{length-take-le}
 use Rattle.text_cmd.proofs.call.room.Statement.{statement}
 use Rattle.text_cmd.proofs.call.room.Tie as tie
 
-front-requires : tie.Need-front-requires
-front-requires c κs = search needs
-
 returns : tie.Need-returns
 returns c =
     let out = c .before .before .args .out .now in
@@ -18,4 +15,4 @@ returns c =
     let h : n ≤ length out = omega arith in (h, sym (length-take-le n out h))
 
 pub room-spec : {M : Type 1} → statement M
-room-spec = tie.close (tie.spec front-requires returns)
+room-spec = tie.close (tie.spec (search needs) returns)

@@ -1,0 +1,54 @@
+-- The examples marked P hold, by computation, some at a time. Assumes nothing.
+use mathlib.Core.List.{List, [], _∷_}
+use mathlib.Core.Path.{refl}
+use Prim.Native.Nat.{ℕ, zero, suc}
+use lib.ListN.{drop, take}
+use Rattle.label.specs.Buffer.{lengthOf}
+use Rattle.label.specs.Index.{every, firstFrom, lastBelow, sumFrom, tabulate}
+use Rattle.label.specs.Label
+use Rattle.label.specs.Region.{regionOf}
+use Rattle.label.specs.Words.{bit, combine, has, includesOf, intersectionOf, membersBelow, membersOf, sameOf, unionOf}
+use Rattle.range.specs.Range
+use Rattle.range.specs.Tuple
+use Rattle.frame.specs.Frame.{bodyOf, bytesOf, checkOf, digitOf, digitsOf, frameOf, framedOf, isDigit, spelledOf, sumOf, valueOf}
+use Rattle.octets.specs.Bytes.{sameBytes}
+use Rattle.hexline.specs.Body.{numberOf}
+use Rattle.hexline.specs.Entry
+use Rattle.hexline.specs.Line.{contentsOf, entryForm, formOf, standingIn, tupleBody, tupleForm}
+use Rattle.hexline.specs.Regions.{presenceOf, presentBelow, regionAt, regionBytes, regionsBytes, tupleAt}
+use Rattle.alias.specs.Lines.{entriesOf, linesOf}
+use Rattle.alias.specs.Lookup.{calledOf, lastOf, sameValue, standsFor}
+use Rattle.alias.specs.Table
+use Rattle.text.specs.Subject.{seesOf}
+use Rattle.text.specs.Write
+use Rattle.segments.specs.Calls
+use Rattle.segments.specs.Operator
+use Rattle.segments.specs.Slots
+use Rattle.segments.specs.Sound
+use Rattle.examples.specs.Examples.{Example, ExamplesHold, Hold, examples}
+
+-- a list of examples holds where its first n do and the others do
+hold-parts : (n : ℕ) (es : List Example) → Hold (take n es) → Hold (drop n es) → Hold es
+unfolding Hold
+hold-parts zero es h rest = rest
+hold-parts (suc n) [] h rest = rest
+hold-parts (suc n) (e ∷ es) h rest = (h .0, hold-parts n es (h .1) rest)
+
+labels-and-ranges : Hold (take 8 examples)
+unfolding Hold every tabulate Label.validOf Label.dominatesOf Label.equalOf Label.upperBoundOf Label.lowerBoundOf combine includesOf intersectionOf sameOf unionOf Range.validOf Range.commonOf Range.meetOf Tuple.cutOf Tuple.splitOf
+labels-and-ranges = (refl, (refl, (refl, (refl, (refl, (refl, (refl, (refl, tt))))))))
+
+lines : Hold (take 3 (drop 8 examples))
+unfolding Hold every tabulate Label.validOf Label.equalOf includesOf sameOf bit Tuple.validAt Tuple.validOf bodyOf bytesOf checkOf digitOf digitsOf frameOf framedOf isDigit spelledOf sumOf valueOf numberOf contentsOf formOf tupleBody tupleForm presenceOf presentBelow regionAt regionBytes regionsBytes tupleAt
+lines = (refl, (refl, (refl, tt)))
+
+texts : Hold (take 2 (drop 11 examples))
+unfolding Hold lengthOf every firstFrom lastBelow tabulate Label.validOf Label.dominatesOf Label.equalOf bit has includesOf membersBelow membersOf sameOf bodyOf bytesOf framedOf isDigit spelledOf sumOf valueOf sameBytes Entry.entryFrom Entry.isLetter Entry.isNameByte Entry.labelFrom Entry.layoutOf Entry.nameByteOk Entry.nameOf Entry.textByte Entry.textFrom Entry.validOf Entry.valueFrom Entry.valueOk Entry.valueSize contentsOf entryForm formOf standingIn entriesOf linesOf calledOf lastOf sameValue standsFor Table.badAt Table.checkOf Table.judgedOf Table.repeatsAt Table.sharesOf seesOf Write.categoriesNamed Write.categoriesText Write.definitionNamed Write.definitionText Write.nameFor Write.named Write.namedIn Write.textIn Write.writtenName Write.writeLabelOf
+texts = (refl, (refl, tt))
+
+board : Hold (drop 13 examples)
+unfolding Hold every firstFrom sumFrom Label.validOf Label.dominatesOf Label.equalOf includesOf sameOf regionOf Range.validOf Range.containsOf Tuple.validAt Tuple.validOf Tuple.containsAt Tuple.containsOf Tuple.emptyOf Slots.firstSlot Slots.slotCount Slots.owns Slots.filled Slots.lowestEmpty Slots.pagesOf Slots.ceilingsOf Sound.admitted Sound.tenantSound Sound.clearedBy Sound.zeros Sound.slotSound Sound.underCeiling Sound.sound Operator.makeAnswer Operator.makeOf Operator.admitAnswer Operator.admitOf Calls.callValid Calls.cleared Calls.writable Calls.accessOf Calls.answerOf Calls.stepOf
+board = (refl, tt)
+
+pub examples-hold : ExamplesHold
+examples-hold = hold-parts 8 examples labels-and-ranges (hold-parts 3 (drop 8 examples) lines (hold-parts 2 (drop 11 examples) texts board))
