@@ -5,8 +5,8 @@ from collections import namedtuple
 
 HERE = os.path.dirname(os.path.abspath(__file__))
 ROOT = os.path.dirname(os.path.dirname(HERE))
-# crate and name; why the contract rules it out; the edit as rt takes it; and of that the file, the text that goes and the text that comes
-Wrong = namedtuple("Wrong", "crate name why edit file old new")
+# crate and name; why the contract rules it out; the edit as rt takes it; of that the file, and each text that goes with the one that comes
+Wrong = namedtuple("Wrong", "crate name why edit file changes")
 
 
 def crates():
@@ -21,5 +21,6 @@ def wrong_programs(crate):
     for name, text in zip(parts[1::2], parts[2::2]):
         reason = re.match(r"why: (.*)\n", text)
         edit = text[reason.end():] if reason else text
-        shape = re.fullmatch(r"file: (\S+)\nold: (.*?)\nnew: (.*?)\n", edit, flags=re.S)
-        yield Wrong(crate, name, reason[1] if reason else "", edit, *(shape.groups() if shape else ("", "", "")))
+        file = re.match(r"file: (\S+)\n", edit)
+        changes = re.findall(r"^old: (.*?)\nnew: (.*?)(?=\nold: |\n*\Z)", edit, flags=re.M | re.S)
+        yield Wrong(crate, name, reason[1] if reason else "", edit, file[1] if file else "", changes)
