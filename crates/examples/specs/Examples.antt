@@ -7,10 +7,10 @@ use Prim.Native.Nat.{ℕ}
 use Rattle.label.specs.Answer.{Answer, granted, refused}
 use Rattle.label.specs.Buffer.{lengthOf}
 use Rattle.label.specs.Example.{exampleOf}
-use Rattle.label.specs.Label
+use Rattle.label.specs.Label.{dominatesOf, lowerBoundOf, upperBoundOf, validOf}
 use Rattle.label.specs.declared.Label.{Label}
-use Rattle.range.specs.Range
-use Rattle.range.specs.Tuple
+use Rattle.range.specs.Range.{meetAnswerOf, rangeOf}
+use Rattle.range.specs.Tuple.{absent, emptyTuple, present, splitOf, tupleOf}
 use Rattle.range.specs.declared.Range.{Range}
 use Rattle.range.specs.declared.tuple.Tuple.{Tuple}
 use Rattle.octets.specs.Bytes.{ascii}
@@ -20,30 +20,11 @@ use Rattle.text.specs.Write.{writeLabelOf}
 use Rattle.text.specs.declared.Form.the-variants.{Definition}
 use Rattle.text.specs.declared.Variant.the-variants.{Names}
 use Rattle.segments.specs.Calls.{openCall, sizeCall, stepOf}
-use Rattle.segments.specs.Operator.{admitOf, makeOf}
+use Rattle.segments.specs.Operator.{admitOf, makeOf, setCeilingOf}
 use Rattle.segments.specs.Replies.{Grant, Step, done, opened}
 use Rattle.segments.specs.Segments.{emptyTable, slot, tenantId}
 use Rattle.segments.specs.declared.Call.{Call}
 use Rattle.segments.specs.declared.SegmentTable.{SegmentTable}
-
--- what is said of a label, a range and so on
-pub data Value : Type 0 where
-  test : Bool → Value
-  label : Label → Value
-  range : Answer Range → Value
-  tuple : Answer Tuple → Value
-  text : Answer (List ℕ) → Value
-  length : Answer ℕ → Value
-  grants : List (Answer Grant) → Value
-
--- what the definitions say, and what document 01 says that it is
-pub record Example : Type 0 where
-  pub defined : Value
-  pub expected : Value
-
-infix 20 _is_
-abbrev pub _is_ : Value → Value → Example
-defined is expected = record { defined = defined; expected = expected }
 
 -- ---- names and text
 
@@ -51,7 +32,7 @@ defined is expected = record { defined = defined; expected = expected }
 abbrev pub names : List ℕ
 names = ascii "040114036c6f770092\n04020704656173740165dc\n"
 
--- what is written of a label for a subject with that label and no read override, in the definition form and by names
+-- what is written of l, in the definition form and by names, for a subject that has a label and no read override
 abbrev pub written : Label → Label → Answer (List ℕ)
 written subject l =
     withTable false names
@@ -64,23 +45,14 @@ abbrev pub l : Label
 l = exampleOf 20 []
 
 abbrev pub clearance : Tuple
-clearance = Tuple.tupleOf (Tuple.absent ∷ Tuple.present (Range.rangeOf l l) ∷ Tuple.absent ∷ [])
+clearance = tupleOf (absent ∷ present (rangeOf l l) ∷ absent ∷ [])
 
 -- an operator's call, or a tenant's
 pub data Request : Type 0 where
   make : ℕ → Request
   admit : ℕ → ℕ → Request
+  ceiling : ℕ → ℕ → Request
   call : Call → Request
-
-abbrev pub stepped : SegmentTable → Request → Step
-stepped s (make pool) = makeOf pool
-stepped s (admit t ceiling) = admitOf s (tenantId t) ceiling clearance
-stepped s (call c) = stepOf s c
-
--- what is answered to each of a list of requests, the first on the state s
-abbrev pub answers : SegmentTable → List Request → List (Answer Grant)
-answers s [] = []
-answers s (r ∷ rs) = stepped s r .answer ∷ answers (stepped s r .table) rs
 
 abbrev pub openBy : ℕ → ℕ → Request
 openBy t pages = call (openCall (tenantId t) l pages)
@@ -88,61 +60,91 @@ openBy t pages = call (openCall (tenantId t) l pages)
 abbrev pub sizeBy : ℕ → ℕ → ℕ → Request
 sizeBy t p pages = call (sizeCall (tenantId t) l (slot p) pages)
 
+abbrev pub stepped : SegmentTable → Request → Step
+stepped s (make pool) = makeOf pool
+stepped s (admit t n) = admitOf s (tenantId t) n clearance
+stepped s (ceiling t n) = setCeilingOf s (tenantId t) n
+stepped s (call c) = stepOf s c
+
+-- a request with its answer
+pub record Answered : Type 0 where
+  pub request : Request
+  pub answer : Answer Grant
+
+infix 20 _gets_
+abbrev pub _gets_ : Request → Answer Grant → Answered
+request gets answer = record { request = request; answer = answer }
+
+-- the same requests with the answers that the definitions give, the first on the state s
+abbrev pub played : SegmentTable → List Answered → List Answered
+played s [] = []
+played s (e ∷ es) = (e .request gets stepped s (e .request) .answer) ∷ played (stepped s (e .request) .table) es
+
+-- the example of the board, request by request
+abbrev pub board : List Answered
+board =
+    (make 100 gets granted done)
+    ∷ (admit 0 60 gets granted done)
+    ∷ (admit 1 40 gets granted done)
+    ∷ (admit 2 1 gets refused 12 none)
+    ∷ (openBy 0 60 gets granted (opened (slot 0)))
+    ∷ (openBy 0 1 gets refused 12 none)
+    ∷ (openBy 1 40 gets granted (opened (slot 8)))
+    ∷ (sizeBy 0 0 59 gets granted done)
+    ∷ (openBy 0 1 gets granted (opened (slot 1)))
+    ∷ []
+
 -- ---- the examples
+
+-- what an example is about
+pub data Value : Type 0 where
+  test : Bool → Value
+  label : Label → Value
+  range : Answer Range → Value
+  tuple : Answer Tuple → Value
+  text : Answer (List ℕ) → Value
+  length : Answer ℕ → Value
+  grants : List Answered → Value
+
+-- what the definitions say, and what document 01 says that it is
+pub record Example : Type 0 where
+  pub defined : Value
+  pub expected : Value
+
+infix 20 _is_
+abbrev pub _is_ : Value → Value → Example
+defined is expected = record { defined = defined; expected = expected }
 
 abbrev pub examples : List Example
 examples =
     -- (30,{1,2}) dominates (20,{2})
-    (test (Label.dominatesOf (exampleOf 30 (1 ∷ 2 ∷ [])) (exampleOf 20 (2 ∷ []))) is test true)
+    (test (dominatesOf (exampleOf 30 (1 ∷ 2 ∷ [])) (exampleOf 20 (2 ∷ []))) is test true)
     -- (20,{2}) and (30,{}) don't dominate each other
-    ∷ (test (Label.dominatesOf (exampleOf 20 (2 ∷ [])) (exampleOf 30 [])) is test false)
-    ∷ (test (Label.dominatesOf (exampleOf 30 []) (exampleOf 20 (2 ∷ []))) is test false)
+    ∷ (test (dominatesOf (exampleOf 20 (2 ∷ [])) (exampleOf 30 [])) is test false)
+    ∷ (test (dominatesOf (exampleOf 30 []) (exampleOf 20 (2 ∷ []))) is test false)
     -- bounds of (20,{1}) and (30,{2}): (30,{1,2}) and (20,{})
-    ∷ (label (Label.upperBoundOf (exampleOf 20 (1 ∷ [])) (exampleOf 30 (2 ∷ []))) is label (exampleOf 30 (1 ∷ 2 ∷ [])))
-    ∷ (label (Label.lowerBoundOf (exampleOf 20 (1 ∷ [])) (exampleOf 30 (2 ∷ []))) is label (exampleOf 20 []))
+    ∷ (label (upperBoundOf (exampleOf 20 (1 ∷ [])) (exampleOf 30 (2 ∷ []))) is label (exampleOf 30 (1 ∷ 2 ∷ [])))
+    ∷ (label (lowerBoundOf (exampleOf 20 (1 ∷ [])) (exampleOf 30 (2 ∷ []))) is label (exampleOf 20 []))
     -- [(20,{}),(40,{1,2})] meets [(30,{2}),(50,{2,3})] in [(30,{2}),(40,{2})]
-    ∷ (range
-    (Range.meetAnswerOf (Range.rangeOf (exampleOf 20 []) (exampleOf 40 (1 ∷ 2 ∷ [])))
-    (Range.rangeOf (exampleOf 30 (2 ∷ [])) (exampleOf 50 (2 ∷ 3 ∷ []))))
-    is range (granted (Range.rangeOf (exampleOf 30 (2 ∷ [])) (exampleOf 40 (2 ∷ [])))))
+    ∷ (range (meetAnswerOf (rangeOf (exampleOf 20 []) (exampleOf 40 (1 ∷ 2 ∷ []))) (rangeOf (exampleOf 30 (2 ∷ [])) (exampleOf 50 (2 ∷ 3 ∷ []))))
+    is range (granted (rangeOf (exampleOf 30 (2 ∷ [])) (exampleOf 40 (2 ∷ [])))))
     -- [(20,{1}),(40,{1})] and [(20,{}),(40,{2})]: 33
-    ∷ (range
-    (Range.meetAnswerOf (Range.rangeOf (exampleOf 20 (1 ∷ [])) (exampleOf 40 (1 ∷ [])))
-    (Range.rangeOf (exampleOf 20 []) (exampleOf 40 (2 ∷ []))))
+    ∷ (range (meetAnswerOf (rangeOf (exampleOf 20 (1 ∷ [])) (exampleOf 40 (1 ∷ []))) (rangeOf (exampleOf 20 []) (exampleOf 40 (2 ∷ []))))
     is range (refused 33 none))
     -- [(10,{}),(30,{4})] splits into [(10,{}),(19,{4})] and [(20,{}),(30,{4})]
-    ∷ (tuple (granted (Tuple.splitOf (Range.rangeOf (exampleOf 10 []) (exampleOf 30 (4 ∷ [])))))
-    is tuple
-    (granted
-    (Tuple.tupleOf
-    (Tuple.present (Range.rangeOf (exampleOf 10 []) (exampleOf 19 (4 ∷ [])))
-    ∷ Tuple.present (Range.rangeOf (exampleOf 20 []) (exampleOf 30 (4 ∷ [])))
-    ∷ Tuple.absent
-    ∷ []))))
-    -- empty tuple: `0300fd`, both ways
-    ∷ (text (tupleLineOf Tuple.emptyTuple) is text (granted (ascii "0300fd\n")))
-    ∷ (tuple (readTupleOf (ascii "0300fd\n")) is tuple (granted Tuple.emptyTuple))
+    ∷ (tuple (granted (splitOf (rangeOf (exampleOf 10 []) (exampleOf 30 (4 ∷ [])))))
+    is tuple (granted (tupleOf (present (rangeOf (exampleOf 10 []) (exampleOf 19 (4 ∷ []))) ∷ present (rangeOf (exampleOf 20 []) (exampleOf 30 (4 ∷ []))) ∷ absent ∷ []))))
+    -- empty tuple: `0300fd`, written and read
+    ∷ (text (tupleLineOf emptyTuple) is text (granted (ascii "0300fd\n")))
+    ∷ (tuple (readTupleOf (ascii "0300fd\n")) is tuple (granted emptyTuple))
     -- hierarchy 200 is not valid
-    ∷ (test (Label.validOf (exampleOf 200 [])) is test false)
+    ∷ (test (validOf (exampleOf 200 [])) is test false)
     -- (20,{7}) for subject (20,{7}) is `low:east`; a buffer of 7 answers 7 with 8
     ∷ (text (written (exampleOf 20 (7 ∷ [])) (exampleOf 20 (7 ∷ []))) is text (granted (ascii "low:east")))
     ∷ (length (lengthOf (written (exampleOf 20 (7 ∷ [])) (exampleOf 20 (7 ∷ []))) 7) is length (refused 7 (some 8)))
     -- Pool 100, ceilings 60 and 40: a third tenant with 1 gets 12. Tenant 0 opens 60 at place 0, then 1 page: 12. Tenant 1 still opens 40, at
     -- place 8. Tenant 0 sizes place 0 to 59 and opens 1 at place 1
-    ∷ (grants
-    (answers (emptyTable 0)
-    (make 100 ∷ admit 0 60 ∷ admit 1 40 ∷ admit 2 1 ∷ openBy 0 60 ∷ openBy 0 1 ∷ openBy 1 40 ∷ sizeBy 0 0 59 ∷ openBy 0 1 ∷ []))
-    is grants
-    (granted done
-    ∷ granted done
-    ∷ granted done
-    ∷ refused 12 none
-    ∷ granted (opened (slot 0))
-    ∷ refused 12 none
-    ∷ granted (opened (slot 8))
-    ∷ granted done
-    ∷ granted (opened (slot 1))
-    ∷ []))
+    ∷ (grants (played (emptyTable 0) board) is grants board)
     ∷ []
 
 -- each of a list of examples is what document 01 says

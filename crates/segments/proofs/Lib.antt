@@ -5,4 +5,3 @@ pub mod SoundLaws
 pub mod OperatorLaws
 pub mod LimitLaws
 pub mod ResultsLaws
-pub mod SegmentsExamples
