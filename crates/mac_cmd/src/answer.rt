@@ -1,7 +1,7 @@
 // What each request answers: reads its operands, calls the library and puts the answer's line in a buffer. Each function gives the length
 // of that line.
 use crate::request::Request;
-use console::text;
+use console::format;
 use hexline::Kind;
 use label::Label;
 use label::LabelAnswer;
@@ -18,7 +18,7 @@ use range::tuple;
 use range::tuple::TupleAnswer;
 
 pub(crate) fn invalid(out: &mut [u8]) -> usize {
-    text::append_error(out, 0, Errno::Invalid)
+    format::append_error(out, 0, Errno::Invalid)
 }
 
 fn put_bool(b: bool, out: &mut [u8]) -> usize {
@@ -31,19 +31,19 @@ fn put_bool(b: bool, out: &mut [u8]) -> usize {
 fn put_test(t: Test, out: &mut [u8]) -> usize {
     match t {
         Test::Holds(b) => put_bool(b, out),
-        Test::Refused(e) => text::append_error(out, 0, e),
+        Test::Refused(e) => format::append_error(out, 0, e),
     }
 }
 
 fn put_number(n: u64, out: &mut [u8]) -> usize {
-    let at = text::append_decimal(out, 0, n);
+    let at = format::append_decimal(out, 0, n);
     octets::append(out, at, b"\n")
 }
 
 fn put_written(w: Written, out: &mut [u8]) -> usize {
     match w {
         Written::Length(n) => n,
-        Written::Refused(e) => text::append_error(out, 0, e),
+        Written::Refused(e) => format::append_error(out, 0, e),
     }
 }
 
@@ -51,7 +51,7 @@ fn put_label(r: LabelAnswer, out: &mut [u8]) -> usize {
     let outcome = r.outcome;
     match outcome {
         Outcome::Granted => put_written(hexline::write_label(r.label, out), out),
-        Outcome::Refused(e) => text::append_error(out, 0, e),
+        Outcome::Refused(e) => format::append_error(out, 0, e),
     }
 }
 
@@ -59,7 +59,7 @@ fn put_range(r: RangeAnswer, out: &mut [u8]) -> usize {
     let outcome = r.outcome;
     match outcome {
         Outcome::Granted => put_written(hexline::write_range(r.range, out), out),
-        Outcome::Refused(e) => text::append_error(out, 0, e),
+        Outcome::Refused(e) => format::append_error(out, 0, e),
     }
 }
 
@@ -67,7 +67,7 @@ fn put_tuple(r: TupleAnswer, out: &mut [u8]) -> usize {
     let outcome = r.outcome;
     match outcome {
         Outcome::Granted => put_written(hexline::write_tuple(r.tuple, out), out),
-        Outcome::Refused(e) => text::append_error(out, 0, e),
+        Outcome::Refused(e) => format::append_error(out, 0, e),
     }
 }
 
@@ -105,14 +105,14 @@ fn put_next(n: Next, out: &mut [u8]) -> usize {
     match n {
         Next::Category(c) => put_number(c, out),
         Next::Nothing => octets::append(out, 0, b"none\n"),
-        Next::Refused(e) => text::append_error(out, 0, e),
+        Next::Refused(e) => format::append_error(out, 0, e),
     }
 }
 
 fn put_count(n: Number, out: &mut [u8]) -> usize {
     match n {
         Number::Value(n) => put_number(n, out),
-        Number::Refused(e) => text::append_error(out, 0, e),
+        Number::Refused(e) => format::append_error(out, 0, e),
     }
 }
 
@@ -127,7 +127,7 @@ fn put_region(n: Number, out: &mut [u8]) -> usize {
             }
             octets::append(out, 0, b"admin\n")
         }
-        Number::Refused(e) => text::append_error(out, 0, e),
+        Number::Refused(e) => format::append_error(out, 0, e),
     }
 }
 
@@ -241,7 +241,7 @@ fn echo_entry(a: &[u8], out: &mut [u8]) -> usize {
     let outcome = r.outcome;
     match outcome {
         Outcome::Granted => put_written(hexline::write_entry(r.entry, out), out),
-        Outcome::Refused(e) => text::append_error(out, 0, e),
+        Outcome::Refused(e) => format::append_error(out, 0, e),
     }
 }
 
@@ -253,7 +253,7 @@ fn echo(a: &[u8], out: &mut [u8]) -> usize {
         Kind::OfRange => put_range(hexline::read_range(a), out),
         Kind::OfTuple => put_tuple(hexline::read_tuple(a), out),
         Kind::OfEntry => echo_entry(a, out),
-        Kind::Refused(e) => text::append_error(out, 0, e),
+        Kind::Refused(e) => format::append_error(out, 0, e),
     }
 }
 

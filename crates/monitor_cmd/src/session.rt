@@ -5,9 +5,9 @@ use crate::request::NUMBERS;
 use crate::request::OPERANDS;
 use console::command;
 use console::command::MAX_NUMBERS;
+use console::format;
 use console::lines;
 use console::lines::Line;
-use console::text;
 use label::errno::Errno;
 use libc::STDOUT_FILENO;
 use monitor::Decision;
@@ -30,7 +30,7 @@ fn put(d: Decision, out: &mut [u8]) -> usize {
     match d {
         Decision::Granted => octets::append(out, 0, b"0\n"),
         Decision::Privileged => octets::append(out, 0, b"1\n"),
-        Decision::Refused(e) => text::append_error(out, 0, e),
+        Decision::Refused(e) => format::append_error(out, 0, e),
     }
 }
 

@@ -2,7 +2,7 @@
 use mathlib.Core.List.{List, [], _∷_, _++_}
 use Prim.Native.Nat.{ℕ, _≤_}
 use Rattle.octets.specs.Bytes.{Put, ascii, blank, lf}
-use Rattle.console.specs.Text.{decimalOf, errorText}
+use Rattle.console.specs.Format.{decimalOf, errorText}
 use Rattle.hexline.specs.Line.{labelLineOf}
 use Rattle.label.specs.Answer.{Answer, granted, refused}
 use Rattle.label.specs.declared.Label.{Label}

@@ -1,6 +1,6 @@
 // The answer of a call as text.
+use console::format;
 use console::lines;
-use console::text;
 use label::Label;
 use label::answer::Written;
 use libc::STDOUT_FILENO;
@@ -23,7 +23,7 @@ pub(crate) fn put_field(out: &mut [u8], at: usize, word: &[u8], n: u64) -> usize
     ensures { λ r. ⌜ PutWithin (at + length (now (word .entry)) + numberBytes) (now (out .entry)) at (field (now (word .entry)) n) r (now (out .exit)) ⌝ }
 {
     let next = octets::append(out, at, word);
-    text::append_decimal(out, next, n)
+    format::append_decimal(out, next, n)
 }
 
 fn put_place(out: &mut [u8], slot: Slot) -> usize
@@ -73,7 +73,7 @@ fn put_reply(out: &mut [u8], reply: Reply, label: Label) -> usize
         Reply::Done => octets::append(out, 0, b"ok\n"),
         Reply::Opened(slot) => put_place(out, slot),
         Reply::Shown(x) => put_shown(out, x, label),
-        Reply::Refused(e) => text::append_error(out, 0, e),
+        Reply::Refused(e) => format::append_error(out, 0, e),
     }
 }
 

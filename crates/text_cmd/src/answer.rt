@@ -1,7 +1,7 @@
 // Answers, as they are printed.
+use console::format::append_decimal;
+use console::format::append_error;
 use console::lines;
-use console::text::append_decimal;
-use console::text::append_error;
 use label::LabelAnswer;
 use label::answer::Outcome;
 use label::answer::Written;
