@@ -8,17 +8,17 @@ use native.Mathlib.Nat.{add-suc, add-zero}
 use native.Mathlib.Numerals.{add-one}
 use native.Mathlib.Omega.{arith}
 use lib.ListN.{length, length-append}
-use Rattle.octets.specs.Bytes.{blank}
+use Rattle.octets.specs.Bytes.{ascii}
 use Rattle.label.specs.Words.{has, listedIf, membersBelow, membersOf, nextOf}
 use Rattle.label.proofs.ListingLaws.{has-within, next-exact, next-none}
 use Rattle.segments_cmd.specs.Answer.{field}
-use Rattle.segments_cmd.specs.Show.{categoriesText, listText, noneWord}
+use Rattle.segments_cmd.specs.Show.{categoriesText, listText}
 
 -- one category more
-list-more : (cs : List ℕ) (c : ℕ) → listText (cs ++ (c ∷ [])) ≡ listText cs ++ field (blank ∷ []) c
+list-more : (cs : List ℕ) (c : ℕ) → listText (cs ++ (c ∷ [])) ≡ listText cs ++ field (ascii " ") c
 unfolding listText
-list-more [] c = append-nil (field (blank ∷ []) c)
-list-more (x ∷ cs) c = ap (λ (l : List ℕ). field (blank ∷ []) x ++ l) (list-more cs c) ∙ sym (append-assoc (field (blank ∷ []) x) (listText cs) (field (blank ∷ []) c))
+list-more [] c = append-nil (field (ascii " ") c)
+list-more (x ∷ cs) c = ap (λ (l : List ℕ). field (ascii " ") x ++ l) (list-more cs c) ∙ sym (append-assoc (field (ascii " ") x) (listText cs) (field (ascii " ") c))
 
 -- numbers that are no categories are not listed
 pass : (ws : List ℕ) (k d : ℕ) → ((j : ℕ) → k ≤ j → j < k + d → has ws j ≡ false) → membersBelow ws (k + d) ≡ membersBelow ws k
@@ -42,7 +42,7 @@ module _ (ws : List ℕ) (from c : ℕ) (e : nextOf ws from ≡ some c) where
   next-below = has-within ws c (next-exact ws from c .0 e .there)
 
   -- and is the one that is listed next
-  pub list-next : listText (membersBelow ws (c + 1)) ≡ listText (membersBelow ws from) ++ field (blank ∷ []) c
+  pub list-next : listText (membersBelow ws (c + 1)) ≡ listText (membersBelow ws from) ++ field (ascii " ") c
   unfolding membersBelow
   list-next =
       let l = next-exact ws from c .0 e in
@@ -62,7 +62,7 @@ list-end ws from e = ap (λ (k : ℕ). listText (membersBelow ws k)) e
 
 -- ---- `-` where there are none
 
-pub none-listed : (cs : List ℕ) → length (listText cs) ≡ 0 → (categoriesText cs ≡ noneWord) × (listText cs ≡ [])
+pub none-listed : (cs : List ℕ) → length (listText cs) ≡ 0 → (categoriesText cs ≡ ascii " -") × (listText cs ≡ [])
 unfolding listText categoriesText
 none-listed [] e = (refl, refl)
 none-listed (c ∷ cs) e = absurd (omega (arith, simp length-append at e))

@@ -2,9 +2,9 @@
 use mathlib.Core.Bool.{Bool, true, false, cond}
 use mathlib.Core.Path.{_≡_, sym, _∙_}
 
-module _ {A : Type 0} (b s : Bool) (x y : A) (is : b ≡ s) where
-  pub taken : b ≡ true → x ≡ cond s x y
-  taken h = rw (sym is ∙ h)
+module _ {A : Type 0} (b s : Bool) (x y r : A) (is : b ≡ s) where
+  pub taken : b ≡ true → r ≡ x → r ≡ cond s x y
+  taken h e = rw (sym is ∙ h) e
 
-  pub left : (r : A) → b ≡ false → r ≡ y → r ≡ cond s x y
-  left r h rest = rw (sym is ∙ h) rest
+  pub left : b ≡ false → r ≡ y → r ≡ cond s x y
+  left h e = rw (sym is ∙ h) e
