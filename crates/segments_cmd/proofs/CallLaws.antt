@@ -1,5 +1,5 @@
 -- What a request leaves of a call's outcome, and what an operand line that was read decides. Assumes nothing.
-use mathlib.Core.Bool.{true, false, true≢false}
+use mathlib.Core.Bool.{Bool, true, false, true≢false}
 use mathlib.Core.Path.{_≡_, sym, _∙_}
 use Rattle.label.specs.Answer.{Answer, Answered, granted, grantedOf, refusedBy}
 use Rattle.label.specs.declared.answer.Outcome.{Outcome}
@@ -17,11 +17,12 @@ module _ (s : SegmentTable) (o : CallOutcome) (x : Step) (r : Results o x) where
   pub made-refused : (e : Errno) → replyOf (o .answer .reply) (o .answer .label) ≡ refusedBy e → Results (record { table = s; answer = o .answer }) (madeIn s x)
   made-refused e h = let a = sym (r .answer) ∙ h in record { table = rw a; answer = r .answer; label = r .label }
 
-module _ {A : Type 0} where
-  pub operand-granted : (o : Outcome) {v z : A} {x : Answer A} → grantedOf o ≡ true → Answered o v z x → x ≡ granted v
-  operand-granted Granted h a = sym (a .outcome)
-  operand-granted (Refused e) h a = absurd (true≢false (sym h))
+-- an operand line that was read, where b is whether it was granted
+module _ {A : Type 0} (s : SegmentTable) (call : A → Step) (o : CallOutcome) (b : Bool) (v z : A) (x : Answer A) where
+  pub operand-granted : (w : Outcome) → b ≡ grantedOf w → Answered w v z x → b ≡ true → Results o (call v) → Results o (onOperand s x call)
+  operand-granted Granted e a h r = rw (← a .outcome) r
+  operand-granted (Refused n) e a h r = absurd (true≢false (sym h ∙ e))
 
-  pub operand-refused : (s : SegmentTable) (call : A → Step) (o : Outcome) {v z : A} {x : Answer A} → grantedOf o ≡ false → Answered o v z x → onOperand s x call ≡ invalid s
-  operand-refused s call Granted h a = absurd (true≢false h)
-  operand-refused s call (Refused e) h a = rw (← a .outcome)
+  pub operand-refused : (w : Outcome) → b ≡ grantedOf w → Answered w v z x → b ≡ false → Results o (invalid s) → Results o (onOperand s x call)
+  operand-refused Granted e a h r = absurd (true≢false (sym e ∙ h))
+  operand-refused (Refused n) e a h r = rw (← a .outcome) r
