@@ -10,15 +10,19 @@ use lib.Dec.{leb}
 use lib.ListN.{drop, length, replicate, set, take, drop-of-length-le, length-append, take-append-drop}
 use lib.Seq.{drop-cons, drop-drop, drop-set-lt, length-take-le, take-suc-set}
 use borrow.Author.Tests.{eq-eqb, le-leb, lt-leb, ne-eqb}
-use Rattle.octets.specs.Bytes.{blank, indexOf, lf}
+use Rattle.octets.specs.Bytes.{Found, blank, indexOf, lf}
 use Rattle.octets.proofs.ByteLaws.{fieldsFrom, split-first}
 use Rattle.console.specs.Command.{bodyCommandOf, bodyOf, commandOf, consOf, endedOf, invalid, most, numberOf, numbersOf, ofNumbers, wordOf}
 use Rattle.console.specs.declared.command.Command.{Command}
 
+-- the bytes before a byte that is looked for
+pub before-found : (b : ℕ) (xs : List ℕ) (r : ℕ) → Found b xs r → r ≡ length (take r xs)
+before-found b xs r f = sym (length-take-le r xs (f .within))
+
 -- the word, from the two indexes that end it
-pub word-from : (line : List ℕ) (end n : ℕ) → end ≡ indexOf lf line → n ≡ indexOf blank (take end line) → take n (take end line) ≡ wordOf line
+pub word-from : (line : List ℕ) (end n : ℕ) → Found lf line end → Found blank (take end line) n → take n (take end line) ≡ wordOf line
 unfolding wordOf bodyOf
-word-from line end n e f = rw (split-first blank (take (indexOf lf line) line), f, e)
+word-from line end n e f = rw (split-first blank (take (indexOf lf line) line), f .index, e .index)
 
 -- the numbers ns before others, if there are others
 abbrev pub after : List ℕ → Option (List ℕ) → Option (List ℕ)
@@ -83,11 +87,11 @@ pub numbers-next : (numbers : List ℕ) (count n : ℕ) → count < length numbe
 numbers-next numbers count n h = rw (add-one) (take-suc-set numbers count n h)
 
 -- the line's first LF, and whether it is the last byte
-module _ (line : List ℕ) (end : ℕ) (e : end ≡ indexOf lf line) where
-  pub line-ended : end + 1 ≡ length line → commandOf line ≡ bodyCommandOf (take end line)
+module _ (line : List ℕ) (end : ℕ) (c : Command) (e : Found lf line end) where
+  pub line-ended : end + 1 ≡ length line → c ≡ bodyCommandOf (take end line) → c ≡ commandOf line
   unfolding commandOf endedOf bodyOf
-  line-ended h = rw (← e, eq-eqb (end + 1) (length line) h)
+  line-ended h r = rw (← e .index, eq-eqb (end + 1) (length line) h) r
 
-  pub line-invalid : (end + 1 ≡ length line → ⊥) → commandOf line ≡ invalid
+  pub line-invalid : (end + 1 ≡ length line → ⊥) → c ≡ invalid → c ≡ commandOf line
   unfolding commandOf endedOf
-  line-invalid h = rw (← e, ne-eqb (end + 1) (length line) h)
+  line-invalid h r = rw (← e .index, ne-eqb (end + 1) (length line) h) r

@@ -6,7 +6,7 @@ use native.Mathlib.Omega.{arith}
 use lib.ListN.{drop, length, replicate, take, length-drop, length-set}
 use lib.Seq.{length-take-le}
 use Rattle.console.specs.Command.{bodyCommandOf, most, numberAnswerOf}
-use Rattle.console.proofs.CommandLaws.{body-bad, body-end, body-full, body-next, body-start, commandFrom, numbers-next, zeros-next}
+use Rattle.console.proofs.CommandLaws.{before-found, body-bad, body-end, body-full, body-next, body-start, commandFrom, numbers-next, zeros-next}
 use Rattle.console.proofs.command.parse_body.Statement.{statement}
 use Rattle.console.proofs.command.parse_body.Tie as tie
 
@@ -34,9 +34,6 @@ returns c =
     let body = h .before .before .before .args .body .now in
     let l : length (take (h .loop .count) (h .loop .numbers)) ≡ most = length-take-le (h .loop .count) (h .loop .numbers) (omega arith) ∙ c .before .if1 .taken in
     c .invalid .ensures ∙ sym (h .loop .inv .4 ∙ body-full body (h .loop .at) (omega arith) (take (h .loop .count) (h .loop .numbers)) l)
-
-slice-aggregate-read-number : tie.Need-slice-aggregate-read-number Inv-loop μ-loop
-slice-aggregate-read-number c = let i = c .before .index-of2 in sym (length-take-le (i .result) (c .before .before .rest .result .now) (i .ensures .within))
 
 returns-2 : tie.Need-returns-2 Inv-loop μ-loop
 returns-2 c =
@@ -87,5 +84,5 @@ returns-3 c =
 pub parse-body-spec : {M : Type 1} → statement M
 parse-body-spec =
     tie.close (tie.spec Inv-loop μ-loop (search needs) loop-holds (search needs) returns (search needs) (search needs) (search needs)
-    slice-aggregate-read-number (search needs) (search needs) (search needs) (search needs) returns-2 (search needs) (search needs)
+    (λ c. search before-found) (search needs) (search needs) (search needs) (search needs) returns-2 (search needs) (search needs)
     (search needs) (search needs) add-at-2 loop-less loop-again returns-3)
