@@ -61,7 +61,6 @@ unfolding pieceOf indexOf fitsOf
 nothing-piece = refl
 
 ends : (lastOf (held 0) ≡ More) × (lastOf (held 3) ≡ Bad) × (lastOf skipped ≡ Bad)
-unfolding lastOf
 ends = (refl, refl, refl)
 
 -- ---- commands

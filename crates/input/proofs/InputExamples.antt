@@ -39,5 +39,5 @@ left = (refl, refl)
 
 -- the end, with a byte held and with none
 ends : (readOf (held 1) 0 ≡ turn (emptyInput true) Bad) × (readOf (held 0) 0 ≡ turn (emptyInput true) More)
-unfolding readOf lastOf
+unfolding readOf
 ends = (refl, refl)

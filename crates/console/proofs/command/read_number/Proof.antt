@@ -1,8 +1,8 @@
 use borrow.Author.Needs.{needs}
 use mathlib.Core.Path.{_≡_, sym, _∙_}
-use Prim.Native.Nat.{_+_, _-_, _*_, _^_, _≤_, _<_}
+use Prim.Native.Nat.{_-_, _^_, _≤_, _<_}
 use native.Mathlib.Omega.{arith}
-use lib.ListN.{drop, getD, length}
+use lib.ListN.{drop, length}
 use Rattle.console.specs.Command.{numberOf}
 use Rattle.console.proofs.NumberLaws.{numberFrom, number-end, number-high, number-large, number-low, number-none, number-pass, number-start}
 use Rattle.console.proofs.command.read_number.Statement.{statement}
