@@ -4,7 +4,7 @@ use Prim.Native.Nat.{ℕ, _≤_}
 use Rattle.octets.specs.Bytes.{Put, ascii}
 use Rattle.console.specs.Format.{decimalOf, errorText}
 use Rattle.hexline.specs.Line.{labelLineOf}
-use Rattle.label.specs.Answer.{Answer, granted, refused}
+use Rattle.label.specs.Answer.{valueOr}
 use Rattle.label.specs.declared.Label.{Label}
 use Rattle.segments.specs.declared.Reply.{Reply}
 use Rattle.segments.specs.declared.Reply.the-variants.{Done, Opened, Shown, Refused}
@@ -43,12 +43,11 @@ unfoldable pub shownNumbers : Numbers → List ℕ
 shownNumbers x = field (ascii "shown ") (x .pages) ++ field (ascii " ") (x .version) ++ ascii "\n"
 
 -- a label that has no line, which no sound state holds, adds none
-abbrev pub lineOr : Answer (List ℕ) → List ℕ
-lineOr (granted line) = line
-lineOr (refused n detail) = []
+abbrev pub lineText : Label → List ℕ
+lineText l = valueOr [] (labelLineOf l)
 
 unfoldable pub shownText : Numbers → Label → List ℕ
-shownText x l = shownNumbers x ++ lineOr (labelLineOf l)
+shownText x l = shownNumbers x ++ lineText l
 
 -- what a reply prints, with the label beside it
 abbrev pub replyText : Reply → Label → List ℕ

@@ -11,8 +11,7 @@ use segments::Slot;
 ghost use Prim.Native.Nat.{_+_, _≤_};
 ghost use lib.ListN.{length};
 ghost use Rattle.octets.specs.Bytes.{Appended};
-ghost use Rattle.hexline.specs.Line.{labelLineOf};
-ghost use Rattle.segments_cmd.specs.Answer.{PutWithin, answerBytes, field, hexlineBytes, lineOr, numberBytes, numbersBytes, placeText, replyText, shownNumbers, shownText};
+ghost use Rattle.segments_cmd.specs.Answer.{PutWithin, answerBytes, field, hexlineBytes, lineText, numberBytes, numbersBytes, placeText, replyText, shownNumbers, shownText};
 
 // The size of the buffer for an answer.
 const ANSWER_BYTES: usize = 512;
@@ -47,7 +46,7 @@ fn put_numbers(out: &mut [u8], x: Shown) -> usize
 // Appends the hex line of a label. A label that has none, which no sound state holds, adds nothing.
 fn put_label(out: &mut [u8], at: usize, label: Label) -> usize
     requires { ⌜ at + hexlineBytes ≤ length (now out) ⌝ }
-    ensures { λ r. ⌜ PutWithin (at + hexlineBytes) (now (out .entry)) at (lineOr (labelLineOf label)) r (now (out .exit)) ⌝ }
+    ensures { λ r. ⌜ PutWithin (at + hexlineBytes) (now (out .entry)) at (lineText label) r (now (out .exit)) ⌝ }
 {
     let written = hexline::write_label(label, &mut out[at..]);
     match written {
