@@ -1,4 +1,4 @@
-// A command line as a request: what it asks for, with its number. The library tests the number.
+// A command line as a request: what it asks for, with its number if it has one.
 use console::command;
 
 pub(crate) enum Request {

@@ -10,7 +10,7 @@ use lib.ListN.{drop, length, length-drop}
 use lib.Seq.{drop-drop, take-all, drop-length}
 use borrow.Author.Tests.{le-leb}
 use borrow.Rule.Slice.PartMut.{midOf, putMid, put-same}
-use Rattle.octets.specs.Bytes.{Put, putAt}
+use Rattle.octets.specs.Bytes.{putAt}
 use Rattle.octets.proofs.ByteLaws.{put-nil}
 use Rattle.hexline.specs.Line.{labelLineOf}
 use Rattle.hexline.proofs.KindLaws.{label-line-length}
