@@ -1,6 +1,6 @@
 -- What a request leaves of a call's outcome, and what an operand line that was read decides. Assumes nothing.
 use mathlib.Core.Bool.{Bool, true, false, true≢false}
-use mathlib.Core.Path.{_≡_, refl, sym, _∙_}
+use mathlib.Core.Path.{_≡_, refl, sym, ap, _∙_}
 use Rattle.label.specs.Answer.{Answer, Answered, grantedOf}
 use Rattle.label.specs.declared.answer.Outcome.{Outcome}
 use Rattle.label.specs.declared.answer.Outcome.the-variants.{Granted, Refused}
@@ -11,7 +11,8 @@ use Rattle.segments.specs.declared.Outcome.{Outcome as CallOutcome}
 use Rattle.segments.specs.declared.Reply.{Reply}
 use Rattle.segments.specs.declared.Reply.the-variants.{Done, Opened, Shown, Refused as Refusal}
 use Rattle.segments.specs.declared.SegmentTable.{SegmentTable}
-use Rattle.segments_cmd.specs.Session.{invalid, madeIn, onOperand}
+use Rattle.segments_cmd.specs.Session.{between, invalid, madeIn, onOperand}
+use Rattle.segments_cmd.specs.declared.session.Session.{Session}
 
 -- a reply that is no refusal leaves the new state
 grant-leaves : (s next : SegmentTable) (q : Reply) (l : Label) → ((e : Errno) → q ≡ Refusal e → ⊥) → left s next (replyOf q l) ≡ next
@@ -37,3 +38,7 @@ module _ {A : Type 0} (s : SegmentTable) (call : A → Step) (o : CallOutcome) (
   pub operand-refused : (w : Outcome) → b ≡ grantedOf w → Answered w v z x → b ≡ false → Results o (invalid s) → Results o (onOperand s x call)
   operand-refused Granted e a h r = absurd (true≢false (sym e ∙ h))
   operand-refused (Refused n) e a h r = rw (← a .outcome) r
+
+-- a session after an outcome is printed
+pub replied : (q : Session) (o : CallOutcome) (s : SegmentTable) → q ≡ between (o .table) → o .table ≡ s → q ≡ between s
+replied q o s e h = e ∙ ap between h
