@@ -10,15 +10,21 @@ use lib.Dec.{leb}
 use lib.ListN.{drop, length, replicate, set, take, drop-of-length-le, length-append, take-append-drop}
 use lib.Seq.{drop-cons, drop-drop, drop-set-lt, length-take-le, take-suc-set}
 use borrow.Author.Tests.{eq-eqb, le-leb, lt-leb, ne-eqb}
-use Rattle.octets.specs.Bytes.{blank, indexOf, lf}
+use Rattle.octets.specs.Bytes.{Found, blank, indexOf, lf}
 use Rattle.octets.proofs.ByteLaws.{fieldsFrom, split-first}
-use Rattle.console.specs.Command.{bodyCommandOf, bodyOf, commandOf, consOf, endedOf, invalid, most, numberOf, numbersOf, ofNumbers, wordOf}
+use Rattle.console.specs.Command.{bodyCommandOf, bodyOf, commandOf, consOf, endedOf, invalid, most, numberAnswerOf, numberOf, numbersOf, ofNumbers, wordOf}
 use Rattle.console.specs.declared.command.Command.{Command}
+use Rattle.console.specs.declared.command.Number.{Number}
+use Rattle.console.specs.declared.command.Number.the-variants.{Value, Bad}
+
+-- the bytes before a byte that is looked for
+pub before-found : (b : ℕ) (xs : List ℕ) (r : ℕ) → Found b xs r → r ≡ length (take r xs)
+before-found b xs r f = sym (length-take-le r xs (f .within))
 
 -- the word, from the two indexes that end it
-pub word-from : (line : List ℕ) (end n : ℕ) → end ≡ indexOf lf line → n ≡ indexOf blank (take end line) → take n (take end line) ≡ wordOf line
+pub word-from : (line : List ℕ) (end n : ℕ) → Found lf line end → Found blank (take end line) n → take n (take end line) ≡ wordOf line
 unfolding wordOf bodyOf
-word-from line end n e f = rw (split-first blank (take (indexOf lf line) line), f, e)
+word-from line end n e f = rw (split-first blank (take (indexOf lf line) line), f .index, e .index)
 
 -- the numbers ns before others, if there are others
 abbrev pub after : List ℕ → Option (List ℕ) → Option (List ℕ)
@@ -43,35 +49,9 @@ too-many ns (some n) (some ms) h =
 abbrev pub commandFrom : List ℕ → List ℕ → Command
 commandFrom ns xs = ofNumbers (after ns (numbersOf (fieldsFrom blank xs)))
 
-module _ (body : List ℕ) where
-  pub body-start : bodyCommandOf body ≡ commandFrom [] (drop (indexOf blank body) body)
-  unfolding bodyCommandOf
-  body-start = rw (split-first blank body, after-nil)
-
-  -- the field behind the blank at index at: xs are the bytes from there on, n of them before the next blank
-  module _ (at : ℕ) (h : at < length body) (xs : List ℕ) (n : ℕ) (bytes : xs ≡ drop (at + 1) body) (index : n ≡ indexOf blank xs) where
-    one-field : (ns : List ℕ) → commandFrom ns (drop at body) ≡ ofNumbers (after ns (consOf (numberOf (take n xs)) (numbersOf (fieldsFrom blank (drop n xs)))))
-    unfolding numbersOf
-    one-field ns = rw (drop-cons body at 0 h, ← add-one at, ← bytes, split-first blank xs, ← index)
-
-    pub body-bad : (ns : List ℕ) → numberOf (take n xs) ≡ none → commandFrom ns (drop at body) ≡ invalid
-    body-bad ns e = one-field ns ∙ rw e
-
-    pub body-next : (ns : List ℕ) (v : ℕ) → numberOf (take n xs) ≡ some v → commandFrom ns (drop at body) ≡ commandFrom (ns ++ (v ∷ [])) (drop (at + 1 + n) body)
-    body-next ns v e = one-field ns ∙ rw (e, after-cons ns v, ← drop-drop n (at + 1) body, ← bytes)
-
-  pub body-full : (at : ℕ) → at < length body → (ns : List ℕ) → length ns ≡ most → commandFrom ns (drop at body) ≡ invalid
-  body-full at h ns e =
-      let xs = drop (at + 1) body in
-      let n = indexOf blank xs in one-field at h xs n refl refl ns ∙ too-many ns (numberOf (take n xs)) (numbersOf (fieldsFrom blank (drop n xs))) e
-
-  pub body-end : (at : ℕ) (numbers : List ℕ) (count : ℕ) → length body ≤ at → length numbers ≡ most → count ≤ most → drop count numbers ≡ replicate (most - count) 0
-      → commandFrom (take count numbers) (drop at body) ≡ record { valid = true; count = count; numbers = numbers }
-  unfolding numbersOf
-  body-end at numbers count h l m z =
-      let e : length (take count numbers) ≡ count = length-take-le count numbers (omega arith) in
-      let w : take count numbers ++ replicate (most - count) 0 ≡ numbers = rw (← z) (take-append-drop count numbers) in
-      rw (drop-of-length-le body h, append-nil, e, le-leb count most m, w)
+pub body-start : (body : List ℕ) → bodyCommandOf body ≡ commandFrom [] (drop (indexOf blank body) body)
+unfolding bodyCommandOf
+body-start body = rw (split-first blank body, after-nil)
 
 -- the zeros past the count after one more number
 pub zeros-next : (numbers : List ℕ) (count n : ℕ) → count < most → drop count numbers ≡ replicate (most - count) 0 → drop (count + 1) (set numbers count n) ≡ replicate (most - (count + 1)) 0
@@ -79,15 +59,44 @@ zeros-next numbers count n h e =
     let k : most - count ≡ suc (most - (count + 1)) = omega arith in
     drop-set-lt (count + 1) numbers count n (omega arith) ∙ sym (drop-drop 1 count numbers) ∙ rw (e, k)
 
-pub numbers-next : (numbers : List ℕ) (count n : ℕ) → count < length numbers → take (count + 1) (set numbers count n) ≡ take count numbers ++ (n ∷ [])
-numbers-next numbers count n h = rw (add-one) (take-suc-set numbers count n h)
+-- a loop over the fields: count numbers are read, and the other fields begin at index at
+module _ (body : List ℕ) (at : ℕ) (numbers : List ℕ) (count : ℕ) (so-far : bodyCommandOf body ≡ commandFrom (take count numbers) (drop at body)) where
+  -- the field behind the blank at index at: xs are the bytes from there on, n of them before the next blank
+  module _ (h : at < length body) (xs : List ℕ) (n : ℕ) (bytes : xs ≡ drop (at + 1) body) (index : n ≡ indexOf blank xs) where
+    one-field : bodyCommandOf body ≡ ofNumbers (after (take count numbers) (consOf (numberOf (take n xs)) (numbersOf (fieldsFrom blank (drop n xs)))))
+    unfolding numbersOf
+    one-field = so-far ∙ rw (drop-cons body at 0 h, ← add-one at, ← bytes, split-first blank xs, ← index)
+
+    module _ (o : Number) (read : numberAnswerOf o ≡ numberOf (take n xs)) where
+      pub body-bad : (c : Command) → o ≡ Bad → c ≡ invalid → c ≡ bodyCommandOf body
+      body-bad c e i = i ∙ sym (one-field ∙ rw (← read, e))
+
+      pub body-next : (v : ℕ) → o ≡ Value v → count < length numbers → bodyCommandOf body ≡ commandFrom (take (count + 1) (set numbers count v)) (drop (at + 1 + n) body)
+      body-next v e l =
+          let t : take (count + 1) (set numbers count v) ≡ take count numbers ++ (v ∷ []) = rw (add-one) (take-suc-set numbers count v l) in
+          one-field ∙ rw (← read, e, after-cons (take count numbers) v, t, ← drop-drop n (at + 1) body, ← bytes)
+
+  pub body-full : (c : Command) → at < length body → count ≡ most → length numbers ≡ most → c ≡ invalid → c ≡ bodyCommandOf body
+  body-full c h k l i =
+      let xs = drop (at + 1) body in
+      let n = indexOf blank xs in
+      let e = length-take-le count numbers (omega arith) in
+      i ∙ sym (one-field h xs n refl refl ∙ too-many (take count numbers) (numberOf (take n xs)) (numbersOf (fieldsFrom blank (drop n xs))) (omega arith))
+
+  pub body-end : length body ≤ at → length numbers ≡ most → count ≤ most → drop count numbers ≡ replicate (most - count) 0
+      → record { valid = true; count = count; numbers = numbers } ≡ bodyCommandOf body
+  unfolding numbersOf
+  body-end h l m z =
+      let e : length (take count numbers) ≡ count = length-take-le count numbers (omega arith) in
+      let w : take count numbers ++ replicate (most - count) 0 ≡ numbers = rw (← z) (take-append-drop count numbers) in
+      sym (so-far ∙ rw (drop-of-length-le body h, append-nil, e, le-leb count most m, w))
 
 -- the line's first LF, and whether it is the last byte
-module _ (line : List ℕ) (end : ℕ) (e : end ≡ indexOf lf line) where
-  pub line-ended : end + 1 ≡ length line → commandOf line ≡ bodyCommandOf (take end line)
+module _ (line : List ℕ) (end : ℕ) (c : Command) (e : Found lf line end) where
+  pub line-ended : end + 1 ≡ length line → c ≡ bodyCommandOf (take end line) → c ≡ commandOf line
   unfolding commandOf endedOf bodyOf
-  line-ended h = rw (← e, eq-eqb (end + 1) (length line) h)
+  line-ended h r = rw (← e .index, eq-eqb (end + 1) (length line) h) r
 
-  pub line-invalid : (end + 1 ≡ length line → ⊥) → commandOf line ≡ invalid
+  pub line-invalid : (end + 1 ≡ length line → ⊥) → c ≡ invalid → c ≡ commandOf line
   unfolding commandOf endedOf
-  line-invalid h = rw (← e, ne-eqb (end + 1) (length line) h)
+  line-invalid h r = rw (← e .index, ne-eqb (end + 1) (length line) h) r

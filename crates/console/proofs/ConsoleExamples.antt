@@ -10,7 +10,7 @@ use Rattle.octets.specs.Bytes.{blank, indexOf, lf, putAt, split}
 use Rattle.octets.proofs.OctetsExamples.{abc, zeros}
 use Rattle.console.specs.Command.{bodyCommandOf, bodyOf, commandOf, digits, endedOf, invalid, numberOf, numbersOf, skippedOf, valueFrom, withNumbers, wordOf}
 use Rattle.console.specs.Lines.{bufferOf, fitsOf, held, lastOf, piece, pieceOf, skipped}
-use Rattle.console.specs.Text.{carriedText, decimalIn, decimalOf, errorText, errorWord, refusalText}
+use Rattle.console.specs.Format.{carriedText, decimalIn, decimalOf, errorText, errorWord, refusalText}
 use Rattle.console.specs.declared.lines.Line.the-variants.{More, Whole, Bad}
 
 -- ---- lines, in a buffer of 5 bytes
@@ -61,7 +61,6 @@ unfolding pieceOf indexOf fitsOf
 nothing-piece = refl
 
 ends : (lastOf (held 0) ≡ More) × (lastOf (held 3) ≡ Bad) × (lastOf skipped ≡ Bad)
-unfolding lastOf
 ends = (refl, refl, refl)
 
 -- ---- commands

@@ -12,7 +12,7 @@ use borrow.Author.Tests.{le-leb, le-ltb, lt-ltb, ltb-false}
 use Rattle.label.proofs.IndexLaws.{le-or-lt}
 use mathlib.Core.Logic.{_⊎_, inl, inr}
 use Rattle.console.specs.Command.{digits, numberOf, valueFrom, valueOf}
-use Rattle.console.specs.Text.{decimalIn, decimalOf, digit}
+use Rattle.console.specs.Format.{decimalIn, decimalOf, digit}
 use Rattle.console.proofs.NumberLaws.{digits-append, numberFrom, number-start, value-append}
 
 -- how many steps are allowed makes no difference, if there are enough

@@ -2,6 +2,6 @@ pub mod LineLaws
 pub mod CutLaws
 pub mod NumberLaws
 pub mod DecimalLaws
-pub mod TextLaws
+pub mod FormatLaws
 pub mod CommandLaws
 pub mod ConsoleExamples

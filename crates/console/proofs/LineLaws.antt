@@ -2,7 +2,7 @@
 use mathlib.Core.Bool.{Bool, true, false, cond, not, _&&_}
 use mathlib.Core.List.{List}
 use mathlib.Core.Path.{_≡_, refl, sym, ap, _∙_}
-use Prim.Native.Nat.{ℕ, _+_, _-_, _≤_, _<_, max, min}
+use Prim.Native.Nat.{ℕ, _+_, _≤_, _<_, max, min}
 use native.Mathlib.Omega.{arith}
 use lib.Dec.{leb, ltb}
 use lib.ListN.{drop, length, take, length-drop, length-take}
@@ -106,9 +106,6 @@ pub record Tested (chunk : List ℕ) (from : ℕ) (buffer : List ℕ) (p : Parti
 module _ {chunk : List ℕ} {from : ℕ} {buffer : List ℕ} {p : Partial} {xs : List ℕ} {n : ℕ} {b : Bool} (s : Tested chunk from buffer p xs n b) where
   room-for : (not (p .long) && b) ≡ true → p .length + (n + 1) ≤ length buffer
   room-for e = leb-true (p .length + (n + 1)) (length buffer) (sym (s .room) ∙ second-true (not (p .long)) b e)
-
-  pub bytes-length : length xs ≡ length chunk - from
-  bytes-length = ap length (s .bytes) ∙ length-drop from chunk
 
   by-tests : (t f : Bool) (r : Piece) (after : List ℕ) → ltb n (length xs) ≡ t → (not (p .long) && b) ≡ f → r ≡ pieceBy t f (from + n) (p .length + n)
       → after ≡ cond f (putAt buffer (p .length) (take (n + 1) xs)) buffer → Taken chunk from buffer p r after

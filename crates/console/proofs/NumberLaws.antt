@@ -2,7 +2,7 @@
 use mathlib.Core.Bool.{true, false, cond, _&&_, and-false}
 use mathlib.Core.List.{List, [], _∷_, _++_}
 use mathlib.Core.Option.{Option, none, some}
-use mathlib.Core.Path.{_≡_, refl}
+use mathlib.Core.Path.{_≡_, refl, sym, _∙_}
 use Prim.Native.Nat.{ℕ, suc, _+_, _-_, _*_, _^_, _≤_, _<_}
 use native.Mathlib.Nat.{pos-of-ne-zero}
 use native.Mathlib.Numerals.{add-one}
@@ -57,7 +57,7 @@ module _ (v b : ℕ) (bs : List ℕ) where
   unfolding numberFrom digits
   first-high h = rw (lt-leb b 57 h, and-false)
 
-pub number-none : (text : List ℕ) → length text ≡ 0 → numberOf text ≡ none
+pub number-none : (text : List ℕ) → length text ≡ 0 → none ≡ numberOf text
 unfolding numberOf
 number-none text h = rw h
 
@@ -65,18 +65,18 @@ pub number-start : (text : List ℕ) → (length text ≡ 0 → ⊥) → numberO
 unfolding numberOf numberFrom
 number-start text h = rw (lt-ltb 0 (length text) (pos-of-ne-zero h))
 
-module _ (text : List ℕ) where
-  -- a loop that reads text from the front
-  module _ (v i : ℕ) (h : i < length text) where
-    pub number-pass : 48 ≤ getD text i 0 → getD text i 0 ≤ 57 → numberFrom v (drop i text) ≡ numberFrom (v * 10 + (getD text i 0 - 48)) (drop (i + 1) text)
-    number-pass l m = rw (add-one, drop-cons text i 0 h) (first-digit v (getD text i 0) (drop (suc i) text) l m)
+-- a loop that reads text from the front: v are the digits before index i
+module _ (text : List ℕ) (v i : ℕ) (so-far : numberOf text ≡ numberFrom v (drop i text)) where
+  module _ (h : i < length text) where
+    pub number-pass : 48 ≤ getD text i 0 → getD text i 0 ≤ 57 → numberOf text ≡ numberFrom (v * 10 + (getD text i 0 - 48)) (drop (i + 1) text)
+    number-pass l m = so-far ∙ rw (add-one, drop-cons text i 0 h) (first-digit v (getD text i 0) (drop (suc i) text) l m)
 
-    pub number-low : getD text i 0 < 48 → numberFrom v (drop i text) ≡ none
-    number-low l = rw (drop-cons text i 0 h) (first-low v (getD text i 0) (drop (suc i) text) l)
+    pub number-low : getD text i 0 < 48 → none ≡ numberOf text
+    number-low l = sym (so-far ∙ rw (drop-cons text i 0 h) (first-low v (getD text i 0) (drop (suc i) text) l))
 
-    pub number-high : 57 < getD text i 0 → numberFrom v (drop i text) ≡ none
-    number-high l = rw (drop-cons text i 0 h) (first-high v (getD text i 0) (drop (suc i) text) l)
+    pub number-high : 57 < getD text i 0 → none ≡ numberOf text
+    number-high l = sym (so-far ∙ rw (drop-cons text i 0 h) (first-high v (getD text i 0) (drop (suc i) text) l))
 
-  pub number-end : (v i : ℕ) → length text ≤ i → v < 2 ^ 64 → numberFrom v (drop i text) ≡ some v
+  pub number-end : length text ≤ i → v < 2 ^ 64 → some v ≡ numberOf text
   unfolding numberFrom digits valueFrom
-  number-end v i h l = rw (drop-of-length-le text h, lt-ltb v (2 ^ 64) l)
+  number-end h l = sym (so-far ∙ rw (drop-of-length-le text h, lt-ltb v (2 ^ 64) l))

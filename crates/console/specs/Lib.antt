@@ -1,3 +1,3 @@
 pub mod Lines
 pub mod Command
-pub mod Text
+pub mod Format

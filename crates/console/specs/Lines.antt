@@ -43,7 +43,7 @@ unfoldable pub bufferOf : List ℕ → List ℕ → Partial → List ℕ
 bufferOf rest buffer p = cond (fitsOf p (indexOf lf rest) (length buffer)) (putAt buffer (p .length) (take (indexOf lf rest + 1) rest)) buffer
 
 -- at the end of the input, a line with no LF is bad
-unfoldable pub lastOf : Partial → Line
+abbrev pub lastOf : Partial → Line
 lastOf p = cond (p .long || ltb 0 (p .length)) Bad More
 
 -- r and the buffer `after` are what `take` makes. The rest follows, and is stated for callers: next is past `from` and no further than the end

@@ -4,7 +4,7 @@ use mathlib.Core.List.{List, [], _∷_}
 use mathlib.Core.Path.{_≡_, refl}
 use Prim.Native.Nat.{ℕ}
 use Rattle.octets.specs.Bytes.{indexOf, lf}
-use Rattle.console.specs.Lines.{fitsOf, held, lastOf, pieceOf}
+use Rattle.console.specs.Lines.{fitsOf, held, pieceOf}
 use Rattle.console.specs.declared.lines.Line.{Line}
 use Rattle.console.specs.declared.lines.Line.the-variants.{More, Whole, Bad}
 use Rattle.input.specs.Input.{emptyInput, inputOf, leftOf, ofPiece, readOf, someLeft}
@@ -39,5 +39,5 @@ left = (refl, refl)
 
 -- the end, with a byte held and with none
 ends : (readOf (held 1) 0 ≡ turn (emptyInput true) Bad) × (readOf (held 0) 0 ≡ turn (emptyInput true) More)
-unfolding readOf lastOf
+unfolding readOf
 ends = (refl, refl)

@@ -20,7 +20,6 @@ unfolding leftOf
 piece-taken e t = record { turn-is = rw (← e, ← t .piece-is); line-is = rw (← e) (t .buffer-is); same-length = t .same-length; whole = t .whole }
 
 last-whole : (p : Partial) (m : ℕ) → lastOf p ≡ Whole m → ⊥
-unfolding lastOf
 last-whole p m = pick (p .long || ltb 0 (p .length))
   where
     pick : (b : Bool) → cond b Bad More ≡ Whole m → ⊥

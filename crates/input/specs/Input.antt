@@ -21,7 +21,7 @@ abbrev pub inputOf : Partial → ℕ → ℕ → Input
 inputOf p at filled = record { partial = p; at = at; filled = filled; ended = false }
 
 -- whether bytes of the chunk, which has size bytes, are left to take
-unfoldable pub someLeft : Input → ℕ → Bool
+abbrev pub someLeft : Input → ℕ → Bool
 someLeft i size = ltb (i .at) (i .filled) && ltb (i .at) size
 
 -- the bytes of the chunk that are left to take

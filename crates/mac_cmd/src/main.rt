@@ -1,13 +1,14 @@
-// mac_cmd: answers requests about labels, ranges, tuples and hex lines, read from standard input. docs/PROGRAMS.md has what it reads and
+// mac_cmd: answers what holds of labels, ranges, tuples and hex lines, with requests read from standard input. docs/PROGRAMS.md has what it reads and
 // prints.
 mod answer;
+mod call;
 mod request;
 mod session;
 
 // Answers the requests of the input, which is read into the chunk. The line at hand is in the second buffer; the third keeps an operand line.
 fn run(chunk: &mut [u8], line: &mut [u8], operand: &mut [u8]) {
     let mut i = input::start();
-    let mut s = session::between();
+    let mut s = session::start();
     let mut turns = u64::MAX;
     while turns > 0 {
         let turn = input::step(i, chunk, line);

@@ -1,5 +1,7 @@
 // The lines of the input as requests: a command line, then as many operand lines as it takes, then one answer.
 use crate::answer;
+use crate::answer::ANSWER_BYTES;
+use crate::call;
 use crate::request;
 use crate::request::Request;
 use console::command;
@@ -7,30 +9,51 @@ use console::lines;
 use console::lines::Line;
 use libc::STDOUT_FILENO;
 
-// Where the requests stand. Between two no operand line is due.
+// The request whose operand lines are due. Between two requests none is.
 pub(crate) struct Session {
     pub request: Request,
-    pub number: u64,
     // How many operand lines are still to come.
     pub due: usize,
     // How many bytes the first of two operand lines has.
     pub kept: usize,
 }
 
-pub(crate) fn between() -> Session {
+fn between() -> Session {
     Session {
-        request: Request::Unknown,
-        number: 0,
+        request: Request::Invalid,
         due: 0,
         kept: 0,
     }
 }
 
-// Prints the answer to a request.
-fn print(r: Request, number: u64, a: &[u8], b: &[u8]) {
-    let mut out = [0u8; 512];
-    let n = answer::answer(r, number, a, b, &mut out);
+pub(crate) fn start() -> Session {
+    between()
+}
+
+// The answer to a request, with its operand lines if it has any.
+fn put_answer(r: Request, a: &[u8], b: &[u8], out: &mut [u8]) -> usize {
+    match r {
+        Request::Invalid => answer::put_invalid(out),
+        Request::Valid(h) => call::valid(h, out),
+        Request::Count => call::one_label(r, a, out),
+        Request::Next(_) => call::one_label(r, a, out),
+        Request::Region => call::one_label(r, a, out),
+        Request::Contains => call::contains(a, b, out),
+        Request::Meet => call::meet(a, b, out),
+        Request::Within => call::within(a, b, out),
+        Request::Empty => call::empty(a, out),
+        Request::Split => call::split(a, out),
+        Request::Echo => call::echo(a, out),
+        _ => call::two_labels(r, a, b, out),
+    }
+}
+
+// Answers a request, with its operand lines if it has any.
+fn respond(r: Request, a: &[u8], b: &[u8]) -> Session {
+    let mut out = [0u8; ANSWER_BYTES];
+    let n = put_answer(r, a, b, &mut out);
     io::write_all(STDOUT_FILENO, lines::front(&out, n));
+    between()
 }
 
 // A line where a command line is due. A bad line comes as no bytes at all.
@@ -39,21 +62,12 @@ fn take_command(line: &[u8]) -> Session {
         return between();
     }
     let r = request::of_line(line);
-    let c = command::parse(line);
-    if !c.valid | (c.count != request::number_count(r)) {
-        print(Request::Unknown, 0, line, line);
-        return between();
-    }
     let due = request::operand_count(r);
-    let numbers = c.numbers;
-    let number = numbers[0];
     if due == 0 {
-        print(r, number, line, line);
-        return between();
+        return respond(r, line, line);
     }
     Session {
         request: r,
-        number,
         due,
         kept: 0,
     }
@@ -66,17 +80,14 @@ fn take_operand(s: Session, line: &[u8], operand: &mut [u8]) -> Session {
         let kept = octets::append(operand, 0, line);
         return Session {
             request: r,
-            number: s.number,
             due: 1,
             kept,
         };
     }
     if request::operand_count(r) > 1 {
-        print(r, s.number, lines::front(operand, s.kept), line);
-    } else {
-        print(r, s.number, line, line);
+        return respond(r, lines::front(operand, s.kept), line);
     }
-    between()
+    respond(r, line, line)
 }
 
 fn take_line(s: Session, line: &[u8], operand: &mut [u8]) -> Session {
@@ -98,7 +109,6 @@ pub(crate) fn take_piece(s: Session, l: Line, line: &[u8], operand: &mut [u8]) -
 // The end of the input: a request that lacks operand lines is refused.
 pub(crate) fn finish(s: Session) {
     if s.due > 0 {
-        let none = [0u8; 1];
-        print(Request::Unknown, 0, &none, &none);
+        respond(Request::Invalid, b"", b"");
     }
 }

@@ -1,11 +1,12 @@
 // monitor_cmd: asks the reference monitor, with requests read from standard input. docs/PROGRAMS.md has what it reads and prints.
+mod answer;
 mod request;
 mod session;
 
 // Answers the requests of the input, which is read into the chunk. The line at hand is in the second buffer.
 fn run(chunk: &mut [u8], line: &mut [u8]) {
     let mut i = input::start();
-    let mut s = session::between();
+    let mut s = session::start();
     let mut turns = u64::MAX;
     while turns > 0 {
         let turn = input::step(i, chunk, line);

@@ -1,4 +1,5 @@
 // The lines of the input as requests: a command line, then its operand lines, then one answer.
+use crate::answer;
 use crate::request;
 use crate::request::Draft;
 use crate::request::NUMBERS;
@@ -7,42 +8,32 @@ use console::command;
 use console::command::MAX_NUMBERS;
 use console::lines;
 use console::lines::Line;
-use console::text;
-use label::errno::Errno;
-use libc::STDOUT_FILENO;
-use monitor::Decision;
 
-// Where the requests stand. Between two no operand line is due.
+// The request whose operand lines are due. Between two requests none is.
 pub(crate) struct Session {
     pub draft: Draft,
     // How many operand lines are still to come.
     pub due: usize,
 }
 
-pub(crate) fn between() -> Session {
+fn between() -> Session {
     Session {
         draft: request::of_numbers([0; MAX_NUMBERS]),
         due: 0,
     }
 }
 
-fn put(d: Decision, out: &mut [u8]) -> usize {
-    match d {
-        Decision::Granted => octets::append(out, 0, b"0\n"),
-        Decision::Privileged => octets::append(out, 0, b"1\n"),
-        Decision::Refused(e) => text::append_error(out, 0, e),
+pub(crate) fn start() -> Session {
+    between()
+}
+
+// Answers a request, with its operand lines.
+fn respond(d: Draft) -> Session {
+    if d.good {
+        answer::print(monitor::check(request::of_draft(d)));
+    } else {
+        answer::print_invalid();
     }
-}
-
-fn print(d: Decision) {
-    let mut out = [0u8; 32];
-    let n = put(d, &mut out);
-    io::write_all(STDOUT_FILENO, lines::front(&out, n));
-}
-
-// Prints that a request is bad; then the next one is due.
-fn refuse() -> Session {
-    print(Decision::Refused(Errno::Invalid));
     between()
 }
 
@@ -53,7 +44,8 @@ fn take_command(line: &[u8]) -> Session {
     }
     let c = command::parse(line);
     if !command::is_word(line, b"check") | !c.valid | (c.count != NUMBERS) {
-        return refuse();
+        answer::print_invalid();
+        return between();
     }
     let numbers = c.numbers;
     Session {
@@ -62,7 +54,7 @@ fn take_command(line: &[u8]) -> Session {
     }
 }
 
-// A line where an operand line is due. After the last of them the request is decided.
+// A line where an operand line is due.
 fn take_operand(s: Session, line: &[u8]) -> Session {
     let draft = request::with_operand(s.draft, s.due, line);
     if s.due > 1 {
@@ -71,11 +63,7 @@ fn take_operand(s: Session, line: &[u8]) -> Session {
             due: s.due - 1,
         };
     }
-    if !draft.good {
-        return refuse();
-    }
-    print(monitor::check(request::of_draft(draft)));
-    between()
+    respond(draft)
 }
 
 fn take_line(s: Session, line: &[u8]) -> Session {
@@ -97,6 +85,6 @@ pub(crate) fn take_piece(s: Session, l: Line, line: &[u8]) -> Session {
 // The end of the input: a request that lacks operand lines is refused.
 pub(crate) fn finish(s: Session) {
     if s.due > 0 {
-        print(Decision::Refused(Errno::Invalid));
+        answer::print_invalid();
     }
 }

@@ -1,27 +1,44 @@
 -- What a request leaves of a call's outcome, and what an operand line that was read decides. Assumes nothing.
-use mathlib.Core.Bool.{true, false, true≢false}
-use mathlib.Core.Path.{_≡_, sym, _∙_}
-use Rattle.label.specs.Answer.{Answer, Answered, granted, grantedOf, refusedBy}
+use mathlib.Core.Bool.{Bool, true, false, true≢false}
+use mathlib.Core.Path.{_≡_, refl, sym, ap, _∙_}
+use Rattle.label.specs.Answer.{Answer, Answered, grantedOf}
 use Rattle.label.specs.declared.answer.Outcome.{Outcome}
 use Rattle.label.specs.declared.answer.Outcome.the-variants.{Granted, Refused}
+use Rattle.label.specs.declared.Label.{Label}
 use Rattle.label.specs.declared.errno.Errno.{Errno}
-use Rattle.segments.specs.Replies.{Grant, Results, Step, replyOf}
+use Rattle.segments.specs.Replies.{Results, Step, left, replyOf}
 use Rattle.segments.specs.declared.Outcome.{Outcome as CallOutcome}
+use Rattle.segments.specs.declared.Reply.{Reply}
+use Rattle.segments.specs.declared.Reply.the-variants.{Done, Opened, Shown, Refused as Refusal}
 use Rattle.segments.specs.declared.SegmentTable.{SegmentTable}
-use Rattle.segments_cmd.specs.Session.{invalid, madeIn, onOperand}
+use Rattle.segments_cmd.specs.Session.{between, invalid, madeIn, onOperand}
+use Rattle.segments_cmd.specs.declared.session.Session.{Session}
+
+-- a reply that is no refusal leaves the new state
+grant-leaves : (s next : SegmentTable) (q : Reply) (l : Label) → ((e : Errno) → q ≡ Refusal e → ⊥) → left s next (replyOf q l) ≡ next
+grant-leaves s next Done l h = refl
+grant-leaves s next (Opened p) l h = refl
+grant-leaves s next (Shown x) l h = refl
+grant-leaves s next (Refusal e) l h = absurd (h e refl)
 
 module _ (s : SegmentTable) (o : CallOutcome) (x : Step) (r : Results o x) where
-  pub made-granted : (g : Grant) → replyOf (o .answer .reply) (o .answer .label) ≡ granted g → Results o (madeIn s x)
-  made-granted g e = let a = sym (r .answer) ∙ e in record { table = rw a (r .table); answer = r .answer; label = r .label }
+  pub made-granted : ((e : Errno) → o .answer .reply ≡ Refusal e → ⊥) → Results o (madeIn s x)
+  made-granted h =
+      record { table = r .table ∙ sym (rw (← r .answer) (grant-leaves s (x .table) (o .answer .reply) (o .answer .label) h)); answer = r .answer; label = r .label }
 
-  pub made-refused : (e : Errno) → replyOf (o .answer .reply) (o .answer .label) ≡ refusedBy e → Results (record { table = s; answer = o .answer }) (madeIn s x)
-  made-refused e h = let a = sym (r .answer) ∙ h in record { table = rw a; answer = r .answer; label = r .label }
+  pub made-refused : (e : Errno) → o .answer .reply ≡ Refusal e → Results (record { table = s; answer = o .answer }) (madeIn s x)
+  made-refused e h = record { table = rw (← r .answer, h); answer = r .answer; label = r .label }
 
-module _ {A : Type 0} where
-  pub operand-granted : (o : Outcome) {v z : A} {x : Answer A} → grantedOf o ≡ true → Answered o v z x → x ≡ granted v
-  operand-granted Granted h a = sym (a .outcome)
-  operand-granted (Refused e) h a = absurd (true≢false (sym h))
+-- an operand line that was read, where b is whether it was granted
+module _ {A : Type 0} (s : SegmentTable) (call : A → Step) (o : CallOutcome) (b : Bool) (v z : A) (x : Answer A) where
+  pub operand-granted : (w : Outcome) → b ≡ grantedOf w → Answered w v z x → b ≡ true → Results o (call v) → Results o (onOperand s x call)
+  operand-granted Granted e a h r = rw (← a .outcome) r
+  operand-granted (Refused n) e a h r = absurd (true≢false (sym h ∙ e))
 
-  pub operand-refused : (s : SegmentTable) (call : A → Step) (o : Outcome) {v z : A} {x : Answer A} → grantedOf o ≡ false → Answered o v z x → onOperand s x call ≡ invalid s
-  operand-refused s call Granted h a = absurd (true≢false h)
-  operand-refused s call (Refused e) h a = rw (← a .outcome)
+  pub operand-refused : (w : Outcome) → b ≡ grantedOf w → Answered w v z x → b ≡ false → Results o (invalid s) → Results o (onOperand s x call)
+  operand-refused Granted e a h r = absurd (true≢false (sym e ∙ h))
+  operand-refused (Refused n) e a h r = rw (← a .outcome) r
+
+-- a session after an outcome is printed
+pub replied : (q : Session) (o : CallOutcome) (s : SegmentTable) → q ≡ between (o .table) → o .table ≡ s → q ≡ between s
+replied q o s e h = e ∙ ap between h

@@ -1,24 +1,26 @@
 -- The categories of a label as text, from one to the next. Assumes nothing.
 use mathlib.Core.Bool.{Bool, false}
 use mathlib.Core.List.{List, [], _∷_, _++_, append-assoc, append-nil}
-use mathlib.Core.Option.{none, some}
 use mathlib.Core.Path.{_≡_, refl, sym, ap, _∙_}
 use Prim.Native.Nat.{ℕ, zero, suc, _+_, _-_, _*_, _≤_, _<_}
 use native.Mathlib.Nat.{add-suc, add-zero}
 use native.Mathlib.Numerals.{add-one}
 use native.Mathlib.Omega.{arith}
 use lib.ListN.{length, length-append}
-use Rattle.octets.specs.Bytes.{blank}
-use Rattle.label.specs.Words.{has, listedIf, membersBelow, membersOf, nextOf}
+use Rattle.octets.specs.Bytes.{ascii}
+use Rattle.label.specs.Words.{foundOf, has, listedIf, membersBelow, membersOf, nextOf}
+use Rattle.label.specs.declared.words.Found.{Found}
+use Rattle.label.specs.declared.words.Found.the-variants.{At, Nothing}
 use Rattle.label.proofs.ListingLaws.{has-within, next-exact, next-none}
+use Rattle.label.proofs.SearchLaws.{Least}
 use Rattle.segments_cmd.specs.Answer.{field}
-use Rattle.segments_cmd.specs.Show.{categoriesText, listText, noneWord}
+use Rattle.segments_cmd.specs.Show.{categoriesText, listText}
 
 -- one category more
-list-more : (cs : List ℕ) (c : ℕ) → listText (cs ++ (c ∷ [])) ≡ listText cs ++ field (blank ∷ []) c
+list-more : (cs : List ℕ) (c : ℕ) → listText (cs ++ (c ∷ [])) ≡ listText cs ++ field (ascii " ") c
 unfolding listText
-list-more [] c = append-nil (field (blank ∷ []) c)
-list-more (x ∷ cs) c = ap (λ (l : List ℕ). field (blank ∷ []) x ++ l) (list-more cs c) ∙ sym (append-assoc (field (blank ∷ []) x) (listText cs) (field (blank ∷ []) c))
+list-more [] c = append-nil (field (ascii " ") c)
+list-more (x ∷ cs) c = ap (λ (l : List ℕ). field (ascii " ") x ++ l) (list-more cs c) ∙ sym (append-assoc (field (ascii " ") x) (listText cs) (field (ascii " ") c))
 
 -- numbers that are no categories are not listed
 pass : (ws : List ℕ) (k d : ℕ) → ((j : ℕ) → k ≤ j → j < k + d → has ws j ≡ false) → membersBelow ws (k + d) ≡ membersBelow ws k
@@ -33,28 +35,32 @@ pass-to ws k m h f =
     let e : m ≡ k + (m - k) = omega arith in
     ap (membersBelow ws) e ∙ pass ws k (m - k) (λ (j : ℕ) (a : k ≤ j) (b : j < k + (m - k)). f j a (omega arith))
 
-module _ (ws : List ℕ) (from c : ℕ) (e : nextOf ws from ≡ some c) where
-  -- the next category is at or above the number that was asked for, and is one that the words have room for
-  pub next-above : from ≤ c
-  next-above = next-exact ws from c .0 e .above
+-- what the search from a number on has found
+module _ (ws : List ℕ) (from : ℕ) (f : Found) (found : foundOf f ≡ nextOf ws from) where
+  module _ (c : ℕ) (at : f ≡ At c) where
+    least : Least (has ws) from c
+    least = next-exact ws from c .0 (sym found ∙ ap foundOf at)
 
-  pub next-below : c < length ws * 64
-  next-below = has-within ws c (next-exact ws from c .0 e .there)
+    -- a category at or above the number, which the words have room for
+    pub next-above : from ≤ c
+    next-above = least .above
 
-  -- and is the one that is listed next
-  pub list-next : listText (membersBelow ws (c + 1)) ≡ listText (membersBelow ws from) ++ field (blank ∷ []) c
-  unfolding membersBelow
-  list-next =
-      let l = next-exact ws from c .0 e in
-      let m : membersBelow ws (c + 1) ≡ membersBelow ws from ++ (c ∷ []) =
-      ap (membersBelow ws) (add-one c) ∙ ap (λ (b : Bool). listedIf b c (membersBelow ws c)) (l .there) ∙ ap (λ (cs : List ℕ). cs ++ (c ∷ [])) (pass-to ws from c (l .above) (l .none-before)) in
-      ap listText m ∙ list-more (membersBelow ws from) c
+    pub next-below : c < length ws * 64
+    next-below = has-within ws c (least .there)
 
--- where there is none, all are listed
-pub list-last : (ws : List ℕ) (from : ℕ) → from ≤ length ws * 64 → nextOf ws from ≡ none → listText (membersBelow ws from) ≡ listText (membersOf ws)
-unfolding membersOf
-list-last ws from h e =
-    ap listText (sym (pass-to ws from (length ws * 64) h (λ (j : ℕ) (a : from ≤ j) (b : j < length ws * 64). next-none ws from .0 e j a)))
+    -- is the one that is listed next
+    pub list-next : listText (membersBelow ws (c + 1)) ≡ listText (membersBelow ws from) ++ field (ascii " ") c
+    unfolding membersBelow
+    list-next =
+        let m : membersBelow ws (c + 1) ≡ membersBelow ws from ++ (c ∷ []) =
+        ap (membersBelow ws) (add-one c) ∙ ap (λ (b : Bool). listedIf b c (membersBelow ws c)) (least .there) ∙ ap (λ (cs : List ℕ). cs ++ (c ∷ [])) (pass-to ws from c (least .above) (least .none-before)) in
+        ap listText m ∙ list-more (membersBelow ws from) c
+
+  -- where there is none, all are listed
+  pub list-last : f ≡ Nothing → from ≤ length ws * 64 → listText (membersBelow ws from) ≡ listText (membersOf ws)
+  unfolding membersOf
+  list-last e h =
+      ap listText (sym (pass-to ws from (length ws * 64) h (λ (j : ℕ) (a : from ≤ j) (b : j < length ws * 64). next-none ws from .0 (sym found ∙ ap foundOf e) j a)))
 
 pub list-end : (ws : List ℕ) (from : ℕ) → from ≡ length ws * 64 → listText (membersBelow ws from) ≡ listText (membersOf ws)
 unfolding membersOf
@@ -62,7 +68,7 @@ list-end ws from e = ap (λ (k : ℕ). listText (membersBelow ws k)) e
 
 -- ---- `-` where there are none
 
-pub none-listed : (cs : List ℕ) → length (listText cs) ≡ 0 → (categoriesText cs ≡ noneWord) × (listText cs ≡ [])
+pub none-listed : (cs : List ℕ) → length (listText cs) ≡ 0 → (categoriesText cs ≡ ascii " -") × (listText cs ≡ [])
 unfolding listText categoriesText
 none-listed [] e = (refl, refl)
 none-listed (c ∷ cs) e = absurd (omega (arith, simp length-append at e))

@@ -3,7 +3,7 @@ use mathlib.Core.List.{List}
 use Prim.Native.Nat.{ℕ, _+_, _^_, _≤_, _<_}
 use native.Mathlib.Omega.{arith}
 use lib.ListN.{length, length-append}
-use Rattle.console.specs.Text.{decimalOf}
+use Rattle.console.specs.Format.{decimalOf}
 use Rattle.console.proofs.DecimalLaws.{decimal-length}
 use Rattle.octets.specs.Bytes.{Appended}
 use Rattle.octets.proofs.ByteLaws.{appended-put, then-appended}

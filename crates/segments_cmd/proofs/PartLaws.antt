@@ -1,40 +1,32 @@
 -- A line that is written to the rest of a buffer. Assumes nothing.
 use mathlib.Core.Bool.{true}
 use mathlib.Core.List.{List, [], append-assoc, append-nil}
-use mathlib.Core.Option.{Option}
 use mathlib.Core.Path.{_≡_, refl, sym, ap, _∙_}
 use Prim.Native.Nat.{ℕ, _+_, _-_, _≤_}
+use native.Mathlib.Nat.{add-zero}
 use native.Mathlib.Omega.{arith}
 use lib.Dec.{leb}
 use lib.ListN.{drop, length, length-drop}
 use lib.Seq.{drop-drop, take-all, drop-length}
 use borrow.Author.Tests.{le-leb}
 use borrow.Rule.Slice.PartMut.{midOf, putMid, put-same}
-use Rattle.octets.specs.Bytes.{Put, putAt}
+use Rattle.octets.specs.Bytes.{putAt}
 use Rattle.octets.proofs.ByteLaws.{put-nil}
 use Rattle.hexline.specs.Line.{labelLineOf}
 use Rattle.hexline.proofs.KindLaws.{label-line-length}
 use Rattle.label.specs.declared.Label.{Label}
-use Rattle.label.specs.Answer.{Answer, granted, refused}
-use Rattle.label.specs.Buffer.{WrittenTo, bufferOf, lengthOf, overlay}
+use Rattle.label.specs.Answer.{Answer, granted, refused, valueOr}
+use Rattle.label.specs.Buffer.{WrittenTo, bufferOf, lengthOf, overlay, writtenOf}
+use Rattle.label.specs.declared.answer.Written.{Written}
 use Rattle.label.specs.declared.answer.Written.the-variants.{Length, Refused}
-use Rattle.label.specs.Errno.{detailOf, numberOf}
 use Rattle.label.specs.declared.errno.Errno.{Errno}
-use Rattle.label.proofs.AnswerLaws.{grants-same}
-use Rattle.segments_cmd.specs.Answer.{hexlineBytes, lineOr}
-
-grant-refused : (n m : ℕ) (detail : Option ℕ) → granted n ≡ refused m detail → ⊥
-grant-refused n m detail e = let z : _≡_ {A = ℕ} 0 1 = cc in omega arith
-
--- the buffer has room for the line, if there is one
-abbrev pub Fits : List ℕ → ℕ → Answer (List ℕ) → Type 0
-Fits out at x = (line : List ℕ) → x ≡ granted line → at + length line ≤ length out
+use Rattle.segments_cmd.specs.Answer.{PutWithin, hexlineBytes, lineText}
 
 -- the line of a label is short
-pub line-bytes : (l : Label) → length (lineOr (labelLineOf l)) ≤ hexlineBytes
+line-bytes : (l : Label) → length (lineText l) ≤ hexlineBytes
 line-bytes l = pick (labelLineOf l) refl
   where
-    pick : (x : Answer (List ℕ)) → labelLineOf l ≡ x → length (lineOr x) ≤ hexlineBytes
+    pick : (x : Answer (List ℕ)) → labelLineOf l ≡ x → length (valueOr [] x) ≤ hexlineBytes
     pick (granted line) e = let h = label-line-length l line e in omega arith
     pick (refused n detail) e = omega arith
 
@@ -49,32 +41,40 @@ module _ (out : List ℕ) (at : ℕ) (within : at ≤ length out) where
   unfolding putAt
   overlaid line = rw (past-is, append-nil, drop-drop, ← append-assoc)
 
-  room : length (midOf at (length out - at) out) ≡ length out - at
-  room = rw part-is (length-drop at out)
-
   fits-in : (line : List ℕ) → at + length line ≤ length out → leb (length line) (length (midOf at (length out - at) out)) ≡ true
-  fits-in line h = let r = room in le-leb (length line) (length (midOf at (length out - at) out)) (omega arith)
+  fits-in line h =
+      let r : length (midOf at (length out - at) out) ≡ length out - at = rw part-is (length-drop at out) in
+      le-leb (length line) (length (midOf at (length out - at) out)) (omega arith)
 
-  -- a line that was written
-  pub part-length : (x : Answer (List ℕ)) (n : ℕ) (ys : List ℕ) → Fits out at x → WrittenTo (Length n) x (midOf at (length out - at) out) ys → n ≡ length (lineOr x)
+  -- a line that fits is written, and no line is not
+  part-length : (x : Answer (List ℕ)) → at + length (valueOr [] x) ≤ length out → valueOr 0 (lengthOf x (length (midOf at (length out - at) out))) ≡ length (valueOr [] x)
   unfolding lengthOf
-  part-length (granted line) n ys fits e = grants-same n (length line) (rw (fits-in line (fits line refl)) at (e .answer))
-  part-length (refused m detail) n ys fits e = absurd (grant-refused n m detail (e .answer))
+  part-length (granted line) h = rw (fits-in line h)
+  part-length (refused n detail) h = refl
 
-  pub part-put : (x : Answer (List ℕ)) (n : ℕ) (ys : List ℕ) → Fits out at x → WrittenTo (Length n) x (midOf at (length out - at) out) ys
-      → Put out at (lineOr x) (at + n) (putMid at (length out - at) out ys)
+  part-put : (x : Answer (List ℕ)) → at + length (valueOr [] x) ≤ length out → putMid at (length out - at) out (bufferOf x (midOf at (length out - at) out)) ≡ putAt out at (valueOr [] x)
   unfolding bufferOf
-  part-put (granted line) n ys fits e =
-      let b : ys ≡ overlay line (drop at out) = rw (fits-in line (fits line refl)) at (e .buffer) ∙ ap (overlay line) part-is in
-      record { past = ap (_+_ at) (part-length (granted line) n ys fits e); written = ap (putMid at (length out - at) out) b ∙ overlaid line }
-  part-put (refused m detail) n ys fits e = let l = part-length (refused m detail) n ys fits e in
-      record { past = ap (_+_ at) l; written = ap (putMid at (length out - at) out) (e .buffer) ∙ put-same at (length out - at) out ∙ sym (put-nil out at) }
+  part-put (granted line) h = rw (fits-in line h, part-is) (overlaid line)
+  part-put (refused n detail) h = put-same at (length out - at) out ∙ sym (put-nil out at)
 
-  -- and one that was not
-  pub part-kept : (x : Answer (List ℕ)) (w : Errno) (ys : List ℕ) → Fits out at x → WrittenTo (Refused w) x (midOf at (length out - at) out) ys
-      → Put out at (lineOr x) at (putMid at (length out - at) out ys)
-  unfolding lengthOf bufferOf
-  part-kept (granted line) w ys fits e =
-      absurd (grant-refused (length line) (numberOf w) (detailOf w) (sym (rw (fits-in line (fits line refl)) at (e .answer))))
-  part-kept (refused m detail) w ys fits e =
-      record { past = omega arith; written = ap (putMid at (length out - at) out) (e .buffer) ∙ put-same at (length out - at) out ∙ sym (put-nil out at) }
+module _ (out : List ℕ) (at : ℕ) (l : Label) (room : at + hexlineBytes ≤ length out) (w : Written) (ys : List ℕ) (e : WrittenTo w (labelLineOf l) (midOf at (length out - at) out) ys) where
+  written-length : valueOr 0 (writtenOf w) ≡ length (lineText l)
+  written-length = let b = line-bytes l in ap (valueOr 0) (e .answer) ∙ part-length out at (omega arith) (labelLineOf l) (omega arith)
+
+  pub written-bytes : valueOr 0 (writtenOf w) ≤ hexlineBytes
+  written-bytes = rw written-length (line-bytes l)
+
+  line-put : (n : ℕ) → valueOr 0 (writtenOf w) ≡ n → PutWithin (at + hexlineBytes) out at (lineText l) (at + n) (putMid at (length out - at) out ys)
+  line-put n h =
+      let b = line-bytes l in
+      let k = written-length in
+      record {
+        put = record { past = omega arith; written = ap (putMid at (length out - at) out) (e .buffer) ∙ part-put out at (omega arith) (labelLineOf l) (omega arith) };
+        within = omega arith;
+      }
+
+  pub line-written : (n : ℕ) → w ≡ Length n → PutWithin (at + hexlineBytes) out at (lineText l) (at + n) (putMid at (length out - at) out ys)
+  line-written n h = line-put n (rw h)
+
+  pub line-left : (q : Errno) → w ≡ Refused q → PutWithin (at + hexlineBytes) out at (lineText l) at (putMid at (length out - at) out ys)
+  line-left q h = rw (add-zero) at (line-put 0 (rw h))

@@ -1,10 +1,10 @@
 -- The answers of calls as text. Assumes nothing.
-use mathlib.Core.List.{List, [], _∷_, _++_}
+use mathlib.Core.List.{List, [], _++_}
 use Prim.Native.Nat.{ℕ, _≤_}
-use Rattle.octets.specs.Bytes.{Put, ascii, blank, lf}
-use Rattle.console.specs.Text.{decimalOf, errorText}
+use Rattle.octets.specs.Bytes.{Put, ascii}
+use Rattle.console.specs.Format.{decimalOf, errorText}
 use Rattle.hexline.specs.Line.{labelLineOf}
-use Rattle.label.specs.Answer.{Answer, granted, refused}
+use Rattle.label.specs.Answer.{valueOr}
 use Rattle.label.specs.declared.Label.{Label}
 use Rattle.segments.specs.declared.Reply.{Reply}
 use Rattle.segments.specs.declared.Reply.the-variants.{Done, Opened, Shown, Refused}
@@ -35,34 +35,23 @@ pub record PutWithin (limit : ℕ) (out : List ℕ) (at : ℕ) (bs : List ℕ) (
   pub put : Put out at bs r after
   pub within : r ≤ limit
 
--- `ok` and LF
-unfoldable pub okLine : List ℕ
-okLine = ascii "ok\n"
-
-unfoldable pub placeWord : List ℕ
-placeWord = ascii "place "
-
-unfoldable pub shownWord : List ℕ
-shownWord = ascii "shown "
-
 unfoldable pub placeText : Slot → List ℕ
-placeText p = field placeWord (p .0) ++ (lf ∷ [])
+placeText p = field (ascii "place ") (p .0) ++ ascii "\n"
 
 -- the first line of what a look shows
 unfoldable pub shownNumbers : Numbers → List ℕ
-shownNumbers x = field shownWord (x .pages) ++ field (blank ∷ []) (x .version) ++ (lf ∷ [])
+shownNumbers x = field (ascii "shown ") (x .pages) ++ field (ascii " ") (x .version) ++ ascii "\n"
 
 -- a label that has no line, which no sound state holds, adds none
-abbrev pub lineOr : Answer (List ℕ) → List ℕ
-lineOr (granted line) = line
-lineOr (refused n detail) = []
+abbrev pub lineText : Label → List ℕ
+lineText l = valueOr [] (labelLineOf l)
 
 unfoldable pub shownText : Numbers → Label → List ℕ
-shownText x l = shownNumbers x ++ lineOr (labelLineOf l)
+shownText x l = shownNumbers x ++ lineText l
 
 -- what a reply prints, with the label beside it
 abbrev pub replyText : Reply → Label → List ℕ
-replyText Done l = okLine
+replyText Done l = ascii "ok\n"
 replyText (Opened p) l = placeText p
 replyText (Shown x) l = shownText x l
 replyText (Refused e) l = errorText e

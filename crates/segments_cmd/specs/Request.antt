@@ -1,6 +1,6 @@
 -- A command line as a request. Assumes nothing.
 use mathlib.Core.Bool.{Bool, true, false, cond}
-use mathlib.Core.List.{List, [], _∷_}
+use mathlib.Core.List.{List}
 use Prim.Native.Nat.{ℕ}
 use lib.Dec.{eqb}
 use lib.ListN.{getD}
@@ -14,54 +14,27 @@ use Rattle.segments.specs.declared.TenantId.{TenantId}
 use Rattle.segments_cmd.specs.declared.request.Request.{Request}
 use Rattle.segments_cmd.specs.declared.request.Request.the-variants.{Invalid, Make, Admit, SetCeiling, Call, Show}
 
-unfoldable pub showWord : List ℕ
-showWord = ascii "show"
-
-unfoldable pub makeWord : List ℕ
-makeWord = ascii "make"
-
-unfoldable pub admitWord : List ℕ
-admitWord = ascii "admit"
-
-unfoldable pub ceilingWord : List ℕ
-ceilingWord = ascii "ceiling"
-
-unfoldable pub openWord : List ℕ
-openWord = ascii "open"
-
-unfoldable pub sizeWord : List ℕ
-sizeWord = ascii "size"
-
-unfoldable pub postWord : List ℕ
-postWord = ascii "post"
-
-unfoldable pub lookWord : List ℕ
-lookWord = ascii "look"
-
-unfoldable pub closeWord : List ℕ
-closeWord = ascii "close"
-
 -- ---- the requests by their words, with 0, 1, 2 and 3 numbers
 
-unfoldable pub ofNone : List ℕ → Request
-ofNone word = cond (sameBytes word showWord) Show Invalid
+abbrev pub ofNone : List ℕ → Request
+ofNone word = cond (sameBytes word (ascii "show")) Show Invalid
 
-unfoldable pub ofOne : List ℕ → ℕ → Request
-ofOne word n = cond (sameBytes word makeWord) (Make n) Invalid
+abbrev pub ofOne : List ℕ → ℕ → Request
+ofOne word n = cond (sameBytes word (ascii "make")) (Make n) Invalid
 
-unfoldable pub ofTwo : List ℕ → TenantId → ℕ → Request
+abbrev pub ofTwo : List ℕ → TenantId → ℕ → Request
 ofTwo word t n =
-    cond (sameBytes word admitWord) (Admit t n)
-    (cond (sameBytes word ceilingWord) (SetCeiling t n)
-    (cond (sameBytes word openWord) (Call t (Open (record { pages = n })))
-    (cond (sameBytes word lookWord) (Call t (Look (record { slot = slot n })))
-    (cond (sameBytes word closeWord) (Call t (Close (record { slot = slot n })))
+    cond (sameBytes word (ascii "admit")) (Admit t n)
+    (cond (sameBytes word (ascii "ceiling")) (SetCeiling t n)
+    (cond (sameBytes word (ascii "open")) (Call t (Open (record { pages = n })))
+    (cond (sameBytes word (ascii "look")) (Call t (Look (record { slot = slot n })))
+    (cond (sameBytes word (ascii "close")) (Call t (Close (record { slot = slot n })))
     Invalid))))
 
-unfoldable pub ofThree : List ℕ → TenantId → Slot → ℕ → Request
+abbrev pub ofThree : List ℕ → TenantId → Slot → ℕ → Request
 ofThree word t p n =
-    cond (sameBytes word sizeWord) (Call t (Size (record { slot = p; pages = n })))
-    (cond (sameBytes word postWord) (Call t (Post (record { slot = p; version = n })))
+    cond (sameBytes word (ascii "size")) (Call t (Size (record { slot = p; pages = n })))
+    (cond (sameBytes word (ascii "post")) (Call t (Post (record { slot = p; version = n })))
     Invalid)
 
 -- ---- command lines

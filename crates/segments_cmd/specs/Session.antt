@@ -63,11 +63,11 @@ abbrev pub afterRequest : SegmentTable → Request → List ℕ → Session
 afterRequest s r line = cond (takesOperand r) (sessionOf s r) (between (tableAfter s r line))
 
 -- a line where a command line is due
-unfoldable pub afterCommand : SegmentTable → List ℕ → Session
+abbrev pub afterCommand : SegmentTable → List ℕ → Session
 afterCommand s line = cond (skippedOf line) (between s) (afterRequest s (requestOf line) line)
 
 -- any line: the operand line of the request that waits for one, else a command line
-unfoldable pub afterLine : Session → List ℕ → Session
+abbrev pub afterLine : Session → List ℕ → Session
 afterLine x line = cond (takesOperand (x .request)) (between (tableAfter (x .table) (x .request) line)) (afterCommand (x .table) line)
 
 -- a step of the input: a bad line is taken as one of no bytes

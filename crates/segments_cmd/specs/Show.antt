@@ -1,11 +1,11 @@
 -- The state as text, a line at a time. Assumes nothing.
 use mathlib.Core.List.{List, [], _∷_, _++_}
 use Prim.Native.Nat.{ℕ, _+_, _*_}
-use Rattle.octets.specs.Bytes.{ascii, blank, lf}
+use Rattle.octets.specs.Bytes.{ascii}
 use Rattle.label.specs.Words.{membersOf, words}
 use Rattle.label.specs.declared.Label.{Label}
 use Rattle.segments.specs.declared.Segment.{Segment}
-use Rattle.segments_cmd.specs.Answer.{field, placeWord}
+use Rattle.segments_cmd.specs.Answer.{field}
 
 -- the most bytes that a label's categories take: a blank and a number each
 abbrev pub categoriesBytes : ℕ
@@ -22,52 +22,28 @@ labelBytes = 42 + categoriesBytes
 abbrev pub lineBytes : ℕ
 lineBytes = 128 + categoriesBytes
 
-unfoldable pub poolWord : List ℕ
-poolWord = ascii "pool "
-
-unfoldable pub tenantWord : List ℕ
-tenantWord = ascii "tenant "
-
-unfoldable pub ceilingWord : List ℕ
-ceilingWord = ascii " ceiling "
-
-unfoldable pub pagesWord : List ℕ
-pagesWord = ascii " pages "
-
-unfoldable pub editionWord : List ℕ
-editionWord = ascii " edition "
-
-unfoldable pub hierarchyWord : List ℕ
-hierarchyWord = ascii " hierarchy "
-
-unfoldable pub categoriesWord : List ℕ
-categoriesWord = ascii " categories"
-
-unfoldable pub noneWord : List ℕ
-noneWord = ascii " -"
-
 -- a blank and a number for each
 unfoldable pub listText : List ℕ → List ℕ
 listText [] = []
-listText (c ∷ cs) = field (blank ∷ []) c ++ listText cs
+listText (c ∷ cs) = field (ascii " ") c ++ listText cs
 
 -- `-` where there are none
 unfoldable pub categoriesText : List ℕ → List ℕ
-categoriesText [] = noneWord
+categoriesText [] = ascii " -"
 categoriesText (c ∷ cs) = listText (c ∷ cs)
 
 unfoldable pub poolText : ℕ → List ℕ
-poolText pool = field poolWord pool ++ (lf ∷ [])
+poolText pool = field (ascii "pool ") pool ++ ascii "\n"
 
 unfoldable pub tenantText : ℕ → ℕ → ℕ → List ℕ
-tenantText t ceiling pages = field tenantWord t ++ field ceilingWord ceiling ++ field pagesWord pages ++ (lf ∷ [])
+tenantText t ceiling pages = field (ascii "tenant ") t ++ field (ascii " ceiling ") ceiling ++ field (ascii " pages ") pages ++ ascii "\n"
 
 -- the line of a filled slot: the segment's numbers, and its label
 unfoldable pub segmentText : ℕ → Segment → List ℕ
-segmentText p x = field placeWord p ++ field pagesWord (x .pages) ++ field editionWord (x .version)
+segmentText p x = field (ascii "place ") p ++ field (ascii " pages ") (x .pages) ++ field (ascii " edition ") (x .version)
 
 unfoldable pub labelText : Label → List ℕ
-labelText l = field hierarchyWord (l .hierarchy) ++ categoriesWord ++ categoriesText (membersOf (l .categories))
+labelText l = field (ascii " hierarchy ") (l .hierarchy) ++ ascii " categories" ++ categoriesText (membersOf (l .categories))
 
 unfoldable pub slotText : ℕ → Segment → List ℕ
-slotText p x = segmentText p x ++ labelText (x .label) ++ (lf ∷ [])
+slotText p x = segmentText p x ++ labelText (x .label) ++ ascii "\n"

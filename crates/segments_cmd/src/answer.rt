@@ -1,6 +1,6 @@
 // The answer of a call as text.
+use console::format;
 use console::lines;
-use console::text;
 use label::Label;
 use label::answer::Written;
 use libc::STDOUT_FILENO;
@@ -11,8 +11,7 @@ use segments::Slot;
 ghost use Prim.Native.Nat.{_+_, _≤_};
 ghost use lib.ListN.{length};
 ghost use Rattle.octets.specs.Bytes.{Appended};
-ghost use Rattle.hexline.specs.Line.{labelLineOf};
-ghost use Rattle.segments_cmd.specs.Answer.{PutWithin, answerBytes, field, hexlineBytes, lineOr, numberBytes, numbersBytes, placeText, replyText, shownNumbers, shownText};
+ghost use Rattle.segments_cmd.specs.Answer.{PutWithin, answerBytes, field, hexlineBytes, lineText, numberBytes, numbersBytes, placeText, replyText, shownNumbers, shownText};
 
 // The size of the buffer for an answer.
 const ANSWER_BYTES: usize = 512;
@@ -23,7 +22,7 @@ pub(crate) fn put_field(out: &mut [u8], at: usize, word: &[u8], n: u64) -> usize
     ensures { λ r. ⌜ PutWithin (at + length (now (word .entry)) + numberBytes) (now (out .entry)) at (field (now (word .entry)) n) r (now (out .exit)) ⌝ }
 {
     let next = octets::append(out, at, word);
-    text::append_decimal(out, next, n)
+    format::append_decimal(out, next, n)
 }
 
 fn put_place(out: &mut [u8], slot: Slot) -> usize
@@ -47,7 +46,7 @@ fn put_numbers(out: &mut [u8], x: Shown) -> usize
 // Appends the hex line of a label. A label that has none, which no sound state holds, adds nothing.
 fn put_label(out: &mut [u8], at: usize, label: Label) -> usize
     requires { ⌜ at + hexlineBytes ≤ length (now out) ⌝ }
-    ensures { λ r. ⌜ PutWithin (at + hexlineBytes) (now (out .entry)) at (lineOr (labelLineOf label)) r (now (out .exit)) ⌝ }
+    ensures { λ r. ⌜ PutWithin (at + hexlineBytes) (now (out .entry)) at (lineText label) r (now (out .exit)) ⌝ }
 {
     let written = hexline::write_label(label, &mut out[at..]);
     match written {
@@ -73,7 +72,7 @@ fn put_reply(out: &mut [u8], reply: Reply, label: Label) -> usize
         Reply::Done => octets::append(out, 0, b"ok\n"),
         Reply::Opened(slot) => put_place(out, slot),
         Reply::Shown(x) => put_shown(out, x, label),
-        Reply::Refused(e) => text::append_error(out, 0, e),
+        Reply::Refused(e) => format::append_error(out, 0, e),
     }
 }
 

@@ -35,10 +35,8 @@ pub(crate) fn make(table: SegmentTable, pool: u64) -> Outcome
     let answer = made.answer;
     let reply = answer.reply;
     match reply {
-        Reply::Done => made,
-        Reply::Opened(_) => made,
-        Reply::Shown(_) => made,
         Reply::Refused(_) => Outcome { table, answer },
+        _ => made,
     }
 }
 

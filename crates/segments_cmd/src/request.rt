@@ -87,19 +87,14 @@ pub(crate) fn of_line(line: &[u8]) -> Request
         return Request::Invalid;
     }
     let numbers = c.numbers;
-    if c.count == 0 {
-        return of_none(line);
+    let count = c.count;
+    match count {
+        0 => of_none(line),
+        1 => of_one(line, numbers[0]),
+        2 => of_two(line, TenantId(numbers[0]), numbers[1]),
+        3 => of_three(line, TenantId(numbers[0]), Slot(numbers[1]), numbers[2]),
+        _ => Request::Invalid,
     }
-    if c.count == 1 {
-        return of_one(line, numbers[0]);
-    }
-    if c.count == 2 {
-        return of_two(line, TenantId(numbers[0]), numbers[1]);
-    }
-    if c.count == 3 {
-        return of_three(line, TenantId(numbers[0]), Slot(numbers[1]), numbers[2]);
-    }
-    Request::Invalid
 }
 
 // Whether a request has an operand line.

@@ -1,7 +1,6 @@
 // Answers, as they are printed.
+use console::format;
 use console::lines;
-use console::text::append_decimal;
-use console::text::append_error;
 use label::LabelAnswer;
 use label::answer::Outcome;
 use label::answer::Written;
@@ -18,7 +17,7 @@ pub(crate) fn print_ok() {
 
 pub(crate) fn print_refusal(e: Errno) {
     let mut out = [0u8; ANSWER_BYTES];
-    let n = append_error(&mut out, 0, e);
+    let n = format::append_error(&mut out, 0, e);
     io::write_all(STDOUT_FILENO, lines::front(&out, n));
 }
 
@@ -31,7 +30,7 @@ pub(crate) fn print_invalid() {
 pub(crate) fn print_count(n: usize) {
     let mut out = [0u8; ANSWER_BYTES];
     let word = octets::append(&mut out, 0, b"table ");
-    let digits = append_decimal(&mut out, word, n as u64);
+    let digits = format::append_decimal(&mut out, word, n as u64);
     let end = octets::append(&mut out, digits, b"\n");
     io::write_all(STDOUT_FILENO, lines::front(&out, end));
 }

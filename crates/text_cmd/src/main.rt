@@ -6,6 +6,7 @@ mod kept;
 mod request;
 mod session;
 
+use crate::kept::MAX_CAPACITY;
 use crate::session::Session;
 use input::Input;
 
@@ -59,6 +60,6 @@ fn main() {
     let mut line = [0u8; 512];
     let mut text = [0u8; 16454];
     let mut table = [0u8; 65536];
-    let mut out = [0u8; 20000];
+    let mut out = [0u8; MAX_CAPACITY];
     run(&mut chunk, &mut line, &mut text, &mut table, &mut out);
 }

@@ -68,16 +68,13 @@ pub(crate) fn of_line(line: &[u8]) -> Request {
         return Request::Invalid;
     }
     let numbers = c.numbers;
-    if c.count == 0 {
-        return of_none(line);
+    let count = c.count;
+    match count {
+        0 => of_none(line),
+        1 => of_one(line, numbers[0]),
+        2 => of_two(line, numbers[0], numbers[1]),
+        _ => Request::Invalid,
     }
-    if c.count == 1 {
-        return of_one(line, numbers[0]);
-    }
-    if c.count == 2 {
-        return of_two(line, numbers[0], numbers[1]);
-    }
-    Request::Invalid
 }
 
 pub(crate) fn operand_of(r: Request) -> Operand {

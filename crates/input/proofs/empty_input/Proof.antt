@@ -2,8 +2,5 @@ use borrow.Author.Needs.{needs}
 use Rattle.input.proofs.empty_input.Statement.{statement}
 use Rattle.input.proofs.empty_input.Tie as tie
 
-returns : tie.Need-returns
-returns c = rw (c .start .ensures)
-
 pub empty-input-spec : {M : Type 1} → statement M
-empty-input-spec = tie.close (tie.spec (search needs) returns)
+empty-input-spec = tie.close (tie.spec (search needs) (λ c. rw (c .start .ensures)))

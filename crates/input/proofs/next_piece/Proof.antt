@@ -3,8 +3,5 @@ use Rattle.input.proofs.InputLaws.{piece-taken}
 use Rattle.input.proofs.next_piece.Statement.{statement}
 use Rattle.input.proofs.next_piece.Tie as tie
 
-returns : tie.Need-returns
-returns c = let t = c .before .before .before in piece-taken (t .before .before .front .ensures) (t .take .ensures)
-
 pub next-piece-spec : {M : Type 1} → statement M
-next-piece-spec = tie.close (tie.spec (search needs) (search needs) (search needs) returns)
+next-piece-spec = tie.close (tie.spec (search needs) (search needs) (search needs) (λ c. search piece-taken))

@@ -1,11 +1,11 @@
 use borrow.Author.Needs.{needs}
 use Rattle.octets.proofs.ByteLaws.{appended-put, then-put}
-use Rattle.segments_cmd.specs.Answer.{shownNumbers, shownWord}
+use Rattle.segments_cmd.specs.Answer.{shownNumbers}
 use Rattle.segments_cmd.proofs.answer.put_numbers.Statement.{statement}
 use Rattle.segments_cmd.proofs.answer.put_numbers.Tie as tie
 
 returns : tie.Need-returns
-unfolding shownNumbers shownWord
+unfolding shownNumbers
 returns c =
     let a = c .before .before in
     let g = a .before .before .before .before .before in

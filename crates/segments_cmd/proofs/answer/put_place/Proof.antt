@@ -1,11 +1,11 @@
 use borrow.Author.Needs.{needs}
 use Rattle.octets.proofs.ByteLaws.{appended-put, then-put}
-use Rattle.segments_cmd.specs.Answer.{placeText, placeWord}
+use Rattle.segments_cmd.specs.Answer.{placeText}
 use Rattle.segments_cmd.proofs.answer.put_place.Statement.{statement}
 use Rattle.segments_cmd.proofs.answer.put_place.Tie as tie
 
 returns : tie.Need-returns
-unfolding placeText placeWord
+unfolding placeText
 returns c =
     let a = c .before .before in
     let f = a .before .before .before .before .before in

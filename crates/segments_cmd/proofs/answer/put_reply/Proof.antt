@@ -1,11 +1,9 @@
 use borrow.Author.Needs.{needs}
 use Rattle.octets.proofs.ByteLaws.{put-appended}
-use Rattle.segments_cmd.specs.Answer.{okLine}
 use Rattle.segments_cmd.proofs.answer.put_reply.Statement.{statement}
 use Rattle.segments_cmd.proofs.answer.put_reply.Tie as tie
 
 returns : tie.Need-returns
-unfolding okLine
 returns c = let a = c .before .before in rw (a .before .before .before .enum-told .given .1) (a .append .ensures)
 
 returns-2 : tie.Need-returns-2

@@ -1,92 +1,44 @@
 use borrow.Author.Needs.{needs}
-use mathlib.Core.Path.{_∙_}
-use borrow.Author.Tests.{eq-eqb, ne-eqb, not-false, not-true}
-use Rattle.segments_cmd.specs.Request.{requestOf}
+use mathlib.Core.Path.{_≡_}
+use borrow.Author.Tests.{ne-eqb, not-false, not-true}
+use denote.Ref.{now}
+use Rattle.console.specs.Command.{wordOf}
+use Rattle.segments_cmd.specs.Request.{byCount, requestOf}
 use Rattle.segments_cmd.proofs.request.of_line.Statement.{statement}
 use Rattle.segments_cmd.proofs.request.of_line.Tie as tie
+
+-- a line that is valid asks for the request of as many numbers as it has
+asked : (c : tie.After-numbers)
+    → let p = c .before .before .before in
+    let line = now (c .before .before .before .before .before .args .line) in
+    requestOf line ≡ byCount (wordOf line) (p .parse .result .count) (p .parse .result .numbers)
+unfolding requestOf
+asked c =
+    let p = c .before .before .before in
+    rw (← p .parse .ensures, not-false (p .parse .result .valid) (c .before .if1 .left))
 
 returns : tie.Need-returns
 unfolding requestOf
 returns c = let p = c .before .before in rw (← p .parse .ensures, not-true (p .parse .result .valid) (c .if1 .taken))
 
 returns-2 : tie.Need-returns-2
-unfolding requestOf
-returns-2 c =
-    let t = c .before in
-    let e1 = t .before .before .before in
-    let p = e1 .before .before in
-    c .of-none .ensures ∙ rw (
-      ← p .parse .ensures,
-      not-false (p .parse .result .valid) (e1 .if1 .left),
-      eq-eqb (p .parse .result .count) 0 (t .if2 .taken),
-    )
+returns-2 c = rw (asked (c .before .before), c .before .match .keys1) (c .of-none .ensures)
 
 returns-3 : tie.Need-returns-3
-unfolding requestOf
-returns-3 c =
-    let t = c .before in
-    let e2 = t .before .before in
-    let e1 = e2 .before .before .before in
-    let p = e1 .before .before in
-    c .of-one .ensures ∙ rw (
-      ← p .parse .ensures,
-      not-false (p .parse .result .valid) (e1 .if1 .left),
-      ne-eqb (p .parse .result .count) 0 (e2 .if2 .left),
-      eq-eqb (p .parse .result .count) 1 (t .if3 .taken),
-    )
+returns-3 c = rw (asked (c .before .before), c .before .match .keys2) (c .of-one .ensures)
 
 returns-4 : tie.Need-returns-4
-unfolding requestOf
-returns-4 c =
-    let t = c .before in
-    let e3 = t .before .before in
-    let e2 = e3 .before .before in
-    let e1 = e2 .before .before .before in
-    let p = e1 .before .before in
-    c .of-two .ensures ∙ rw (
-      ← p .parse .ensures,
-      not-false (p .parse .result .valid) (e1 .if1 .left),
-      ne-eqb (p .parse .result .count) 0 (e2 .if2 .left),
-      ne-eqb (p .parse .result .count) 1 (e3 .if3 .left),
-      eq-eqb (p .parse .result .count) 2 (t .if4 .taken),
-    )
+returns-4 c = rw (asked (c .before .before), c .before .match .keys3) (c .of-two .ensures)
 
 returns-5 : tie.Need-returns-5
-unfolding requestOf
-returns-5 c =
-    let t = c .before in
-    let e4 = t .before .before in
-    let e3 = e4 .before .before in
-    let e2 = e3 .before .before in
-    let e1 = e2 .before .before .before in
-    let p = e1 .before .before in
-    c .of-three .ensures ∙ rw (
-      ← p .parse .ensures,
-      not-false (p .parse .result .valid) (e1 .if1 .left),
-      ne-eqb (p .parse .result .count) 0 (e2 .if2 .left),
-      ne-eqb (p .parse .result .count) 1 (e3 .if3 .left),
-      ne-eqb (p .parse .result .count) 2 (e4 .if4 .left),
-      eq-eqb (p .parse .result .count) 3 (t .if5 .taken),
-    )
+returns-5 c = rw (asked (c .before .before), c .before .match .keys4) (c .of-three .ensures)
 
 returns-6 : tie.Need-returns-6
-unfolding requestOf
 returns-6 c =
-    let e4 = c .before .before in
-    let e3 = e4 .before .before in
-    let e2 = e3 .before .before in
-    let e1 = e2 .before .before .before in
-    let p = e1 .before .before in
-    rw (
-      ← p .parse .ensures,
-      not-false (p .parse .result .valid) (e1 .if1 .left),
-      ne-eqb (p .parse .result .count) 0 (e2 .if2 .left),
-      ne-eqb (p .parse .result .count) 1 (e3 .if3 .left),
-      ne-eqb (p .parse .result .count) 2 (e4 .if4 .left),
-      ne-eqb (p .parse .result .count) 3 (c .if5 .left),
-    )
+    let k = c .match .rest in
+    rw (asked (c .before), ne-eqb _ 0 (k .0 .0 .0 .1), ne-eqb _ 1 (k .0 .0 .1), ne-eqb _ 2 (k .0 .1), ne-eqb _ 3 (k .1))
 
 pub of-line-spec : {M : Type 1} → statement M
 of-line-spec =
-    tie.close (tie.spec (search needs) returns (search needs) returns-2 (search needs) (search needs) returns-3 (search needs)
-    (search needs) (search needs) returns-4 (search needs) (search needs) (search needs) (search needs) returns-5 returns-6)
+    tie.close (tie.spec (search needs) returns (search needs) (search needs) (search needs) (search needs) (search needs) (search needs)
+    (search needs) (search needs) (search needs) (search needs) returns-2 returns-3 returns-4 returns-5 returns-6)

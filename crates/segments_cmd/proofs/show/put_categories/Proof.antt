@@ -6,13 +6,12 @@ use lib.ListN.{length}
 use Rattle.octets.specs.Bytes.{Put}
 use Rattle.label.specs.Words.{membersOf}
 use Rattle.octets.proofs.ByteLaws.{appended-put, then-put}
-use Rattle.segments_cmd.specs.Show.{listText, noneWord}
+use Rattle.segments_cmd.specs.Show.{listText}
 use Rattle.segments_cmd.proofs.CategoryLaws.{none-listed, some-listed}
 use Rattle.segments_cmd.proofs.show.put_categories.Statement.{statement}
 use Rattle.segments_cmd.proofs.show.put_categories.Tie as tie
 
 returns : tie.Need-returns
-unfolding noneWord
 returns c =
     let a = c .before .before in
     let t = a .before .before .before in

@@ -1,12 +1,11 @@
 use borrow.Author.Needs.{needs}
-use mathlib.Core.Option.{some}
-use mathlib.Core.Path.{_≡_, refl, sym, ap, _∙_}
+use mathlib.Core.Path.{_≡_, refl, sym}
 use Prim.Native.Nat.{_+_, _-_, _*_, _≤_, _<_}
 use native.Mathlib.Omega.{arith}
 use lib.ListN.{length}
 use Rattle.octets.specs.Bytes.{Put}
 use Rattle.octets.proofs.ByteLaws.{put-nil, then-put}
-use Rattle.label.specs.Words.{foundOf, membersBelow, nextOf, words}
+use Rattle.label.specs.Words.{membersBelow, words}
 use Rattle.segments_cmd.specs.Show.{listText}
 use Rattle.segments_cmd.proofs.CategoryLaws.{list-end, list-last, list-next, next-above, next-below}
 use Rattle.segments_cmd.proofs.show.put_members.Statement.{statement}
@@ -20,18 +19,14 @@ abbrev μ-loop : tie.MeasureT-loop
 μ-loop out₀ at categories end₀ from₀ t7 out end from = 64 * words - from
 
 -- the category that is found
-found-c : (k : tie.After-known-told Inv-loop μ-loop)
-    → nextOf (k .before .before .before .before .before .before .before .args .categories) (k .before .before .before .before .before .loop .from)
-    ≡ some (k .before .c .given .0 .0)
-found-c k = sym (k .before .before .before .next .ensures) ∙ ap foundOf (k .before .c .given .1)
-
 next-c : (k : tie.After-known-told Inv-loop μ-loop)
     → (k .before .before .before .before .before .loop .from ≤ k .before .c .given .0 .0) × (k .before .c .given .0 .0 < 64 * words)
 next-c k =
-    let l = k .before .before .before .before .before in
+    let n = k .before .before .before in
+    let l = n .before .before in
     let ws = l .before .before .args .categories in
     let h : length ws ≡ words = search needs in
-    let b = next-below ws (l .loop .from) (k .before .c .given .0 .0) (found-c k) in (next-above ws (l .loop .from) (k .before .c .given .0 .0) (found-c k), omega arith)
+    let b = next-below ws (l .loop .from) (n .next .result) (n .next .ensures) (k .before .c .given .0 .0) (k .before .c .given .1) in (search next-above, omega arith)
 
 loop-holds : tie.Need-loop-holds Inv-loop μ-loop
 unfolding listText membersBelow
@@ -44,7 +39,7 @@ returns c =
     let l = n .before .before in
     let ws = l .before .before .args .categories in
     let h : length ws ≡ words = search needs in
-    let e = list-last ws (l .loop .from) (omega arith) (sym (n .next .ensures) ∙ ap foundOf (c .enum-told .given .1)) in
+    let e = list-last ws (l .loop .from) (n .next .result) (n .next .ensures) (c .enum-told .given .1) (omega arith) in
     record { put = rw e at (l .loop .inv .3); within = omega arith }
 
 add-from : tie.Need-add-from Inv-loop μ-loop
@@ -61,7 +56,7 @@ loop-again c =
     let l = n .before .before in
     let ws = l .before .before .args .categories in
     let r = next-c k in
-    let e = list-next ws (l .loop .from) (k .before .c .given .0 .0) (found-c k) in
+    let e = list-next ws (l .loop .from) (n .next .result) (n .next .ensures) (k .before .c .given .0 .0) (k .before .c .given .1) in
     (search needs, omega arith, omega arith, rw e (then-put (omega arith) (l .loop .inv .3) (p .put-field .ensures .put)))
 
 returns-2 : tie.Need-returns-2 Inv-loop μ-loop

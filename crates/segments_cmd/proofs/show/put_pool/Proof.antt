@@ -1,11 +1,11 @@
 use borrow.Author.Needs.{needs}
 use Rattle.octets.proofs.ByteLaws.{then-appended}
-use Rattle.segments_cmd.specs.Show.{poolText, poolWord}
+use Rattle.segments_cmd.specs.Show.{poolText}
 use Rattle.segments_cmd.proofs.show.put_pool.Statement.{statement}
 use Rattle.segments_cmd.proofs.show.put_pool.Tie as tie
 
 returns : tie.Need-returns
-unfolding poolText poolWord
+unfolding poolText
 returns c =
     let a = c .before .before in
     let f = a .before .before .before .before .before in then-appended (search needs) (f .put-field .ensures .put) (a .append .ensures)

@@ -1,12 +1,11 @@
 use borrow.Author.Needs.{needs}
 use Rattle.octets.proofs.ByteLaws.{then-put}
-use Rattle.segments_cmd.specs.Answer.{placeWord}
-use Rattle.segments_cmd.specs.Show.{editionWord, pagesWord, segmentText}
+use Rattle.segments_cmd.specs.Show.{segmentText}
 use Rattle.segments_cmd.proofs.show.put_segment.Statement.{statement}
 use Rattle.segments_cmd.proofs.show.put_segment.Tie as tie
 
 returns : tie.Need-returns
-unfolding segmentText placeWord pagesWord editionWord
+unfolding segmentText
 returns c =
     let e = c .before .before in
     let g = e .before .before .before .before .before in

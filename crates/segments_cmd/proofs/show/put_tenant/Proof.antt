@@ -1,11 +1,11 @@
 use borrow.Author.Needs.{needs}
 use Rattle.octets.proofs.ByteLaws.{then-appended, then-put}
-use Rattle.segments_cmd.specs.Show.{ceilingWord, pagesWord, tenantText, tenantWord}
+use Rattle.segments_cmd.specs.Show.{tenantText}
 use Rattle.segments_cmd.proofs.show.put_tenant.Statement.{statement}
 use Rattle.segments_cmd.proofs.show.put_tenant.Tie as tie
 
 returns : tie.Need-returns
-unfolding tenantText tenantWord ceilingWord pagesWord
+unfolding tenantText
 returns c =
     let a = c .before .before in
     let h = a .before .before .before .before .before in

@@ -1,8 +1,8 @@
 use borrow.Author.Needs.{needs}
 use native.Mathlib.Omega.{arith}
-use Rattle.console.specs.Text.{carriedText}
-use Rattle.console.proofs.text.carried_length.Statement.{statement}
-use Rattle.console.proofs.text.carried_length.Tie as tie
+use Rattle.console.specs.Format.{carriedText}
+use Rattle.console.proofs.format.carried_length.Statement.{statement}
+use Rattle.console.proofs.format.carried_length.Tie as tie
 
 returns : tie.Need-returns
 unfolding carriedText

@@ -1,8 +1,8 @@
 use borrow.Author.Needs.{needs}
 use Rattle.octets.proofs.ByteLaws.{Tested, appended, left-out, room-for}
-use Rattle.console.specs.Text.{decimalOf}
-use Rattle.console.proofs.text.append_decimal.Statement.{statement}
-use Rattle.console.proofs.text.append_decimal.Tie as tie
+use Rattle.console.specs.Format.{decimalOf}
+use Rattle.console.proofs.format.append_decimal.Statement.{statement}
+use Rattle.console.proofs.format.append_decimal.Tie as tie
 
 -- where the two ways part
 tested : (s : tie.After-fits2)

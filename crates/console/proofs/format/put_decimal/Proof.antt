@@ -5,10 +5,10 @@ use native.Mathlib.Omega.{arith}
 use lib.ListN.{length, length-set}
 use Rattle.octets.specs.Bytes.{putAt}
 use Rattle.octets.proofs.ByteLaws.{put-last, put-one}
-use Rattle.console.specs.Text.{decimalOf, digit}
+use Rattle.console.specs.Format.{decimalOf, digit}
 use Rattle.console.proofs.DecimalLaws.{decimal-more, decimal-one, decimal-some, length-more}
-use Rattle.console.proofs.text.put_decimal.Statement.{statement}
-use Rattle.console.proofs.text.put_decimal.Tie as tie
+use Rattle.console.proofs.format.put_decimal.Statement.{statement}
+use Rattle.console.proofs.format.put_decimal.Tie as tie
 
 abbrev Inv-loop : tie.InvT-loop
 Inv-loop out₀ at n end i₀ left₀ out i left = (length out ≡ length out₀) × (i ≤ length out₀) × (i ≡ at + length (decimalOf left)) × (putAt out at (decimalOf left) ≡ putAt out₀ at (decimalOf n))

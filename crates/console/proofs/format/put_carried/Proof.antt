@@ -5,9 +5,9 @@ use native.Mathlib.Omega.{arith}
 use lib.ListN.{length}
 use Rattle.label.specs.Errno.{carriedOf}
 use Rattle.octets.proofs.ByteLaws.{appended-put, nothing-put, then-put}
-use Rattle.console.specs.Text.{carriedText, decimalOf}
-use Rattle.console.proofs.text.put_carried.Statement.{statement}
-use Rattle.console.proofs.text.put_carried.Tie as tie
+use Rattle.console.specs.Format.{carriedText, decimalOf}
+use Rattle.console.proofs.format.put_carried.Statement.{statement}
+use Rattle.console.proofs.format.put_carried.Tie as tie
 
 -- where a number is carried
 text-length : (s : tie.After-carried) → length (carriedText (carriedOf (s .before .before .before .args .carried))) ≡ suc (length (decimalOf (s .carried .given .0 .0)))

@@ -6,7 +6,7 @@ ghost use Prim.Native.Nat.{_+_, _≤_};
 ghost use lib.ListN.{length};
 ghost use Rattle.label.specs.Errno.{carriedOf};
 ghost use Rattle.octets.specs.Bytes.{Appended, Put};
-ghost use Rattle.console.specs.Text.{Counted, carriedText, decimalOf, errorText, refusalText};
+ghost use Rattle.console.specs.Format.{Counted, carriedText, decimalOf, errorText, refusalText};
 
 // How many decimal digits n has.
 fn decimal_length(n: u64) -> usize

@@ -4,10 +4,10 @@ use Prim.Native.Nat.{_+_}
 use native.Mathlib.Omega.{arith}
 use Rattle.label.specs.Errno.{carriedOf}
 use Rattle.octets.proofs.ByteLaws.{appended-put, then-appended, then-put}
-use Rattle.console.specs.Text.{errorWord, refusalText}
-use Rattle.console.proofs.TextLaws.{refusal-length}
-use Rattle.console.proofs.text.put_refusal.Statement.{statement}
-use Rattle.console.proofs.text.put_refusal.Tie as tie
+use Rattle.console.specs.Format.{errorWord, refusalText}
+use Rattle.console.proofs.FormatLaws.{refusal-length}
+use Rattle.console.proofs.format.put_refusal.Statement.{statement}
+use Rattle.console.proofs.format.put_refusal.Tie as tie
 
 -- where the word stands
 word-past : (w : tie.After-append) → w .append .result ≡ w .before .before .before .before .args .at + 6

@@ -3,10 +3,10 @@ use mathlib.Core.Path.{_≡_}
 use Prim.Native.Nat.{_+_, _≤_}
 use native.Mathlib.Omega.{arith}
 use lib.ListN.{length}
-use Rattle.console.specs.Text.{decimalOf}
+use Rattle.console.specs.Format.{decimalOf}
 use Rattle.console.proofs.DecimalLaws.{decimal-length, length-more, length-one}
-use Rattle.console.proofs.text.decimal_length.Statement.{statement}
-use Rattle.console.proofs.text.decimal_length.Tie as tie
+use Rattle.console.proofs.format.decimal_length.Statement.{statement}
+use Rattle.console.proofs.format.decimal_length.Tie as tie
 
 abbrev Inv-loop : tie.InvT-loop
 Inv-loop n k₀ left₀ k left = (k + left ≤ n + 1) × (k + length (decimalOf left) ≡ length (decimalOf n) + 1)

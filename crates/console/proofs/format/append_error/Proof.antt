@@ -5,10 +5,10 @@ use Prim.Native.Nat.{ℕ, _+_}
 use native.Mathlib.Omega.{arith}
 use Rattle.label.specs.Errno.{carriedOf}
 use Rattle.octets.proofs.ByteLaws.{Tested, appended, left-out, room-for}
-use Rattle.console.specs.Text.{errorText, refusalText}
-use Rattle.console.proofs.TextLaws.{refusal-length}
-use Rattle.console.proofs.text.append_error.Statement.{statement}
-use Rattle.console.proofs.text.append_error.Tie as tie
+use Rattle.console.specs.Format.{errorText, refusalText}
+use Rattle.console.proofs.FormatLaws.{refusal-length}
+use Rattle.console.proofs.format.append_error.Statement.{statement}
+use Rattle.console.proofs.format.append_error.Tie as tie
 
 -- where the two ways part: the line to print
 abbrev Line : tie.After-fits2 → List ℕ

@@ -1,0 +1,28 @@
+// Decisions as text.
+use console::format;
+use console::lines;
+use label::errno::Errno;
+use libc::STDOUT_FILENO;
+use monitor::Decision;
+
+// The size of the buffer for an answer.
+const ANSWER_BYTES: usize = 512;
+
+fn put_decision(d: Decision, out: &mut [u8]) -> usize {
+    match d {
+        Decision::Granted => octets::append(out, 0, b"0\n"),
+        Decision::Privileged => octets::append(out, 0, b"1\n"),
+        Decision::Refused(e) => format::append_error(out, 0, e),
+    }
+}
+
+pub(crate) fn print(d: Decision) {
+    let mut out = [0u8; ANSWER_BYTES];
+    let n = put_decision(d, &mut out);
+    io::write_all(STDOUT_FILENO, lines::front(&out, n));
+}
+
+// What is printed of a request that makes no call.
+pub(crate) fn print_invalid() {
+    print(Decision::Refused(Errno::Invalid));
+}
