@@ -10,11 +10,11 @@ use lib.Bits.{bitAnd, bitOr}
 use lib.ListN.{length, getD, set, take, List·getD-eq-default}
 use lib.Seq.{ext-getD}
 use borrow.Author.Tests.{eqb-true, eq-eqb}
-use Rattle.label.specs.Index.{tabulate}
+use Rattle.label.specs.Index.{every, tabulate}
 use Rattle.label.specs.Words.{bit, combine, combinedAt, has, includesAt, includesOf, intersectionOf, sameOf, unionOf, wordAt}
 use Rattle.label.proofs.BitLaws.{among-bits, bit-and, bit-high, bit-or, bits-among, bits-equal}
 use Rattle.label.proofs.BoolLaws.{both, either, exactly-both, first-true, or-first, or-second, same-truth, second-true}
-use Rattle.label.proofs.IndexLaws.{every-all, every-at, fill-done, fill-step, le-or-lt, tabulate-length, tabulate-pad}
+use Rattle.label.proofs.IndexLaws.{every-all, every-at, le-or-lt, tabulate-length, tabulate-pad}
 
 -- ---- by the word
 
@@ -42,14 +42,14 @@ pub union-length : (a b : List ℕ) → length (unionOf a b) ≡ max (length a) 
 unfolding unionOf combine
 union-length a b = tabulate-length (combinedAt bitOr a b) (max (length a) (length b))
 
--- a loop that combines two arrays of n words into r
-module _ (op : ℕ → ℕ → ℕ) (a b r : List ℕ) (i n : ℕ) (filled : take i r ≡ tabulate (combinedAt op a b) i) where
-  pub combine-step : i < length r → take (i + 1) (set r i (op (wordAt a i) (wordAt b i))) ≡ tabulate (combinedAt op a b) (i + 1)
-  combine-step h = fill-step (combinedAt op a b) r i (op (wordAt a i) (wordAt b i)) h refl filled
+-- of two arrays of n words
+pub includes-is : (a b : List ℕ) (n : ℕ) → length a ≡ n → length b ≡ n → every (includesAt a b) n ≡ includesOf a b
+unfolding includesOf
+includes-is a b n h k = let e : n ≡ max (length a) (length b) = omega arith in ap (every (includesAt a b)) e
 
-  pub combine-done : i ≡ n → length r ≡ n → length a ≡ n → length b ≡ n → r ≡ combine op a b
-  unfolding combine
-  combine-done e hr ha hb = fill-done (combinedAt op a b) r i (max (length a) (length b)) (omega arith) (omega arith) filled
+pub combine-is : (op : ℕ → ℕ → ℕ) (a b : List ℕ) (n : ℕ) → length a ≡ n → length b ≡ n → tabulate (combinedAt op a b) n ≡ combine op a b
+unfolding combine
+combine-is op a b n h k = let e : n ≡ max (length a) (length b) = omega arith in ap (tabulate (combinedAt op a b)) e
 
 -- ---- membership
 
