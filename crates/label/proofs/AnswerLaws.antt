@@ -66,12 +66,16 @@ module _ {A : Type 0} {o : Outcome} {value z : A} {x : Answer A} (h : Answered o
 
 -- ---- what an answer tells of the check before it
 
--- a call that tests t and tells the value: where a refusal is taken for a no, it says whether both hold
-pub value-of-test : (u u′ : Test) (t value : Bool) (n : ℕ) → u ≡ u′ → testOf u ≡ require t n (granted value)
-    → valueOr false (testOf u′) ≡ (t && value)
-value-of-test u u′ t value n e h = ap (λ (v : Test). valueOr false (testOf v)) (sym e) ∙ ap (valueOr false) h ∙ by t
+-- a test that a call answers, read by f, and a refusal for a no
+abbrev pub readBy : (Bool → Bool) → Answer Bool → Bool
+readBy f (granted b) = f b
+readBy f (refused n detail) = false
+
+-- where the call tests t and tells the value, that says whether t holds and f of the value
+pub test-read : (f : Bool → Bool) (t value : Bool) (n : ℕ) {u v : Test} → u ≡ v → testOf u ≡ require t n (granted value) → readBy f (testOf v) ≡ (t && f value)
+test-read f t value n e h = ap (λ (w : Test). readBy f (testOf w)) (sym e) ∙ ap (readBy f) h ∙ by t
   where
-    by : (t : Bool) → valueOr false (require t n (granted value)) ≡ (t && value)
+    by : (t : Bool) → readBy f (require t n (granted value)) ≡ (t && f value)
     by true = refl
     by false = refl
 

@@ -8,7 +8,7 @@ use native.Mathlib.Nat.{zero-lt-suc, eq-or-lt-of-le, add-zero, zero-add, suc-add
 use native.Mathlib.Numerals.{add-one}
 use native.Mathlib.Omega.{arith}
 use lib.Dec.{eqb}
-use borrow.Author.Tests.{eqb-true, eqb-false}
+use borrow.Author.Tests.{eqb-true, eqb-false, not-false, not-true}
 use Rattle.label.specs.Index.{any, every, firstFrom, firstOr, lastBelow, sumFrom}
 use Rattle.label.proofs.IndexLaws.{every-at, every-same}
 use Rattle.label.proofs.BoolLaws.{not-so, or-second}
@@ -20,26 +20,15 @@ same-or-not m n = pick (eqb m n) refl
     pick true e = inl (eqb-true m n e)
     pick false e = inr (eqb-false m n e)
 
-not-of-true : (p : Bool) → p ≡ true → not p ≡ false
-not-of-true p e = ap not e
-
-not-of-false : (p : Bool) → not p ≡ true → p ≡ false
-not-of-false true e = sym e
-not-of-false false e = refl
-
 -- ---- some number at which f holds
 
 module _ (f : ℕ → Bool) where
   pub any-of : (n i : ℕ) → i < n → f i ≡ true → any f n ≡ true
   any-of n i l h =
-      ap not (not-so (every (λ j. not (f j)) n) (λ e. true≢false (sym (every-at (λ j. not (f j)) n i e l) ∙ not-of-true (f i) h)))
+      ap not (not-so (every (λ j. not (f j)) n) (λ e. true≢false (sym (every-at (λ j. not (f j)) n i e l) ∙ ap not h)))
 
   pub none-of : (n i : ℕ) → any f n ≡ false → i < n → f i ≡ false
-  none-of n i e l = not-of-false (f i) (every-at (λ j. not (f j)) n i (held (every (λ j. not (f j)) n) e) l)
-    where
-      held : (p : Bool) → not p ≡ false → p ≡ true
-      held true h = refl
-      held false h = sym h
+  none-of n i e l = not-true (f i) (every-at (λ j. not (f j)) n i (not-false (every (λ j. not (f j)) n) e) l)
 
   -- what holds wherever f does holds if f does somewhere
   pub any-then : {A : Type 0} (n : ℕ) → any f n ≡ true → ((i : ℕ) → i < n → f i ≡ true → A) → A

@@ -53,13 +53,19 @@ combine-is op a b n h k = let e : n ≡ max (length a) (length b) = omega arith 
 
 -- ---- membership
 
+union-bit : (a b : List ℕ) (i j : ℕ) → bit (wordAt (unionOf a b) i) j ≡ (bit (wordAt a i) j || bit (wordAt b i) j)
+union-bit a b i j = ap (λ (w : ℕ). bit w j) (union-at a b i) ∙ bit-or (wordAt a i) (wordAt b i) j
+
+intersection-bit : (a b : List ℕ) (i j : ℕ) → bit (wordAt (intersectionOf a b) i) j ≡ (bit (wordAt a i) j && bit (wordAt b i) j)
+intersection-bit a b i j = ap (λ (w : ℕ). bit w j) (intersection-at a b i) ∙ bit-and (wordAt a i) (wordAt b i) j
+
 pub has-union : (a b : List ℕ) (c : ℕ) → has (unionOf a b) c ≡ (has a c || has b c)
 unfolding has
-has-union a b c = ap (λ (w : ℕ). bit w (c % 64)) (union-at a b (c / 64)) ∙ bit-or (wordAt a (c / 64)) (wordAt b (c / 64)) (c % 64)
+has-union a b c = union-bit a b (c / 64) (c % 64)
 
 pub has-intersection : (a b : List ℕ) (c : ℕ) → has (intersectionOf a b) c ≡ (has a c && has b c)
 unfolding has
-has-intersection a b c = ap (λ (w : ℕ). bit w (c % 64)) (intersection-at a b (c / 64)) ∙ bit-and (wordAt a (c / 64)) (wordAt b (c / 64)) (c % 64)
+has-intersection a b c = intersection-bit a b (c / 64) (c % 64)
 
 pub has-at : (a : List ℕ) (i j : ℕ) → j < 64 → has a (i * 64 + j) ≡ bit (wordAt a i) j
 unfolding has
@@ -116,22 +122,16 @@ includes-antisym a b l p q =
 pub union-includes : (a b c : List ℕ) → includesOf c (unionOf a b) ≡ (includesOf c a && includesOf c b)
 union-includes a b c =
     exactly-both (includesOf c (unionOf a b)) (includesOf c a) (includesOf c b)
-    (λ e. bits-include c a (λ i j h. includes-bits c (unionOf a b) e i j (or-bits i j ∙ or-first (bit (wordAt b i) j) h)))
-    (λ e. bits-include c b (λ i j h. includes-bits c (unionOf a b) e i j (or-bits i j ∙ or-second (bit (wordAt a i) j) h)))
-    (λ p q. bits-include c (unionOf a b) (λ i j h. ⊎-elim (includes-bits c a p i j) (includes-bits c b q i j) (either (bit (wordAt a i) j) (bit (wordAt b i) j) (sym (or-bits i j) ∙ h))))
-  where
-    or-bits : (i j : ℕ) → bit (wordAt (unionOf a b) i) j ≡ (bit (wordAt a i) j || bit (wordAt b i) j)
-    or-bits i j = ap (λ (w : ℕ). bit w j) (union-at a b i) ∙ bit-or (wordAt a i) (wordAt b i) j
+    (λ e. bits-include c a (λ i j h. includes-bits c (unionOf a b) e i j (union-bit a b i j ∙ or-first (bit (wordAt b i) j) h)))
+    (λ e. bits-include c b (λ i j h. includes-bits c (unionOf a b) e i j (union-bit a b i j ∙ or-second (bit (wordAt a i) j) h)))
+    (λ p q. bits-include c (unionOf a b) (λ i j h. ⊎-elim (includes-bits c a p i j) (includes-bits c b q i j) (either (bit (wordAt a i) j) (bit (wordAt b i) j) (sym (union-bit a b i j) ∙ h))))
 
 pub includes-intersection : (a b c : List ℕ) → includesOf (intersectionOf a b) c ≡ (includesOf a c && includesOf b c)
 includes-intersection a b c =
     exactly-both (includesOf (intersectionOf a b) c) (includesOf a c) (includesOf b c)
-    (λ e. bits-include a c (λ i j h. first-true (bit (wordAt a i) j) (bit (wordAt b i) j) (sym (and-bits i j) ∙ includes-bits (intersectionOf a b) c e i j h)))
-    (λ e. bits-include b c (λ i j h. second-true (bit (wordAt a i) j) (bit (wordAt b i) j) (sym (and-bits i j) ∙ includes-bits (intersectionOf a b) c e i j h)))
-    (λ p q. bits-include (intersectionOf a b) c (λ i j h. and-bits i j ∙ both (includes-bits a c p i j h) (includes-bits b c q i j h)))
-  where
-    and-bits : (i j : ℕ) → bit (wordAt (intersectionOf a b) i) j ≡ (bit (wordAt a i) j && bit (wordAt b i) j)
-    and-bits i j = ap (λ (w : ℕ). bit w j) (intersection-at a b i) ∙ bit-and (wordAt a i) (wordAt b i) j
+    (λ e. bits-include a c (λ i j h. first-true (bit (wordAt a i) j) (bit (wordAt b i) j) (sym (intersection-bit a b i j) ∙ includes-bits (intersectionOf a b) c e i j h)))
+    (λ e. bits-include b c (λ i j h. second-true (bit (wordAt a i) j) (bit (wordAt b i) j) (sym (intersection-bit a b i j) ∙ includes-bits (intersectionOf a b) c e i j h)))
+    (λ p q. bits-include (intersectionOf a b) c (λ i j h. intersection-bit a b i j ∙ both (includes-bits a c p i j h) (includes-bits b c q i j h)))
 
 -- ---- equality
 
