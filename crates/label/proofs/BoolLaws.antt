@@ -48,6 +48,12 @@ pub not-so : (p : Bool) → (p ≡ true → ⊥) → p ≡ false
 not-so true h = absurd (h refl)
 not-so false h = refl
 
+-- a test among others that the others imply
+pub and-implied : (p q r : Bool) → (p ≡ true → r ≡ true → q ≡ true) → (p && q && r) ≡ (p && r)
+and-implied false q r h = refl
+and-implied true true r h = refl
+and-implied true false r h = sym (not-so r (λ e. true≢false (sym (h refl e))))
+
 pub swap-and : (p q r s : Bool) → ((p && q) && (r && s)) ≡ ((p && r) && (q && s))
 swap-and true q true s = refl
 swap-and true q false s = and-false q
