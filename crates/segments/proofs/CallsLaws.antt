@@ -16,7 +16,7 @@ use Rattle.label.proofs.AnswerLaws.{grant-passed, require-same}
 use Rattle.label.proofs.BoolLaws.{first-true, three-true}
 use Rattle.label.proofs.SearchLaws.{first-same, same-or-not, sum-same}
 use Rattle.range.specs.Tuple
-use Rattle.segments.specs.Calls.{accessOf, answerOf, callOf, callValid, cleared, found, grantOf, lookedAt, numbersValid, pagesFit, permitted, slotFor, slotOr0, stepOf, target, visible, writable, written}
+use Rattle.segments.specs.Calls.{accessOf, answerOf, callOf, callValid, cleared, found, grantOf, lookedAt, numbersValid, pagesFit, permitted, slotFor, slotOr0, slotValid, stepOf, target, visible, writable, written}
 use Rattle.segments.specs.Replies.{Grant, left, shown}
 use Rattle.segments.specs.Segments.{Lengths, ceilingAt, pagesAt, segmentAt, slot, slots, tenants, withSegment}
 use Rattle.segments.specs.Slots.{asSlot, emptyAt, filled, firstSlot, lowestEmpty, owns, pagesOf, slotCount}
@@ -62,6 +62,20 @@ valid-tenant s t l a e =
 pub valid-numbers : (s : SegmentTable) (t : TenantId) (l : Label) (a : Action) → callValid s (callOf t l a) ≡ true → numbersValid a ≡ true
 unfolding callValid
 valid-numbers s t l a e = three-true (admitted s t) (Label.validOf l) (numbersValid a) e .2
+
+slot-in : (q p : Slot) → slotValid q ≡ true → some q ≡ some p → p .0 < slots
+slot-in q p v e = let r : q ≡ p = cc in rw (← r) (ltb-true (q .0) slots v)
+
+-- the slot that a valid call is about is one
+pub valid-slot : (s : SegmentTable) (t : TenantId) (l : Label) (a : Action) (p : Slot) → callValid s (callOf t l a) ≡ true → slotFor s t a ≡ some p → p .0 < slots
+valid-slot s t l a p e f = go a (valid-numbers s t l a e) f
+  where
+    go : (a : Action) → numbersValid a ≡ true → slotFor s t a ≡ some p → p .0 < slots
+    go (Open x) n f = own-slot s t p (lowest-own s t p (valid-tenant s t l a e) f)
+    go (Size x) n f = slot-in (x .slot) p (first-true (slotValid (x .slot)) _ n) f
+    go (Post x) n f = slot-in (x .slot) p n f
+    go (Look x) n f = slot-in (x .slot) p n f
+    go (Close x) n f = slot-in (x .slot) p n f
 
 -- ---- two states that are alike for a tenant
 
@@ -211,7 +225,7 @@ pub record Passed (s : SegmentTable) (t : TenantId) (l : Label) (a : Action) : T
   pub slot-is : slotFor s t a ≡ some slot
   pub fits : pagesFit s t a ≡ true
 
-slot-found : (o : Option Slot) → found o ≡ true → o ≡ some (slotOr0 o)
+pub slot-found : (o : Option Slot) → found o ≡ true → o ≡ some (slotOr0 o)
 slot-found none e = absurd (true≢false (sym e))
 slot-found (some p) e = refl
 
