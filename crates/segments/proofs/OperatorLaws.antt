@@ -7,7 +7,7 @@ use native.Mathlib.Omega.{arith}
 use borrow.Author.Tests.{le-leb, leb-true, lt-ltb, ltb-true}
 use lib.Dec.{leb, ltb}
 use lib.ListN.{getD-replicate}
-use Rattle.label.specs.Answer.{Answer, granted, refused}
+use Rattle.label.specs.Answer.{Answer, granted, refused, require}
 use Rattle.label.specs.Index.{any}
 use Rattle.label.specs.Region.{regions}
 use Rattle.label.specs.declared.Label.{Label}
@@ -20,6 +20,7 @@ use Rattle.range.specs.declared.tuple.RegionRange.{RegionRange}
 use Rattle.range.specs.declared.tuple.Tuple.{Tuple}
 use Rattle.range.proofs.TupleLaws.{absent-valid, empty-none}
 use Rattle.segments.specs.Operator.{admitAnswer, admitOf, makeAnswer, makeOf, setCeilingAnswer, setCeilingOf}
+use Rattle.segments.specs.Parts.{poolAnswer}
 use Rattle.segments.specs.Replies.{Grant, done, left}
 use Rattle.segments.specs.Segments.{Lengths, ceilingAt, clearanceAt, emptyTable, pagesAt, pagesValid, segmentAt, slot, slots, tenantAt, tenantId, tenantOf, tenants, withTenant, zeroSegment, zeroTenant}
 use Rattle.segments.specs.Slots.{ceilingsOf, firstSlot, owns, pagesOf, slotCount}
@@ -115,6 +116,13 @@ not-admitted s t l e =
     ⊎-elim (λ (i : ceilingAt s t ≡ 0). i)
     (λ (i : ceilingAt s t ≡ 0 → ⊥). absurd (true≢false (sym e ∙ ap not (both (lt-ltb _ _ l) (le-leb 1 (ceilingAt s t) (omega (arith, i)))))))
     (same-or-not (ceilingAt s t) 0)
+
+-- so the pool has room for one that is new where the sum is at most the pool
+pub pool-new : (s : SegmentTable) (t : TenantId) (n : ℕ) → t .0 < tenants → admitted s t ≡ false → require (leb (ceilingsOf s + n) (s .pool)) 12 (granted done) ≡ poolAnswer s t n
+pool-new s t n l e =
+    let z = not-admitted s t l (ap not e) in
+    let h : ceilingsOf s ≡ ceilingsOf s - ceilingAt s t = omega arith in
+    ap (λ (k : ℕ). require (leb (k + n) (s .pool)) 12 (granted done)) h
 
 -- a record of at least a page
 tenant-sound-of : (n : ℕ) (c : Tuple) → 1 ≤ n → Tuple.validOf c ≡ true → not (Tuple.emptyOf c) ≡ true → tenantSound (tenantOf n c) ≡ true

@@ -36,6 +36,10 @@ module _ (o : Outcome) (s next : SegmentTable) (x : Answer Grant) where
       → Results o (leaving s next x)
   results-granted r g h k a l = rw (h, k) (record { table = refl; answer = a; label = l })
 
+-- a part that answers what the whole does
+pub results-same : {o : Outcome} (s next : SegmentTable) {x y : Answer Grant} → x ≡ y → Results o (leaving s next y) → Results o (leaving s next x)
+results-same s next e h = rw e h
+
 -- ---- a call that has passed the first checks
 
 module _ (s : SegmentTable) (c : Call) where
