@@ -7,12 +7,13 @@ use Prim.Native.Nat.{ℕ, _+_, _-_, _<_, _≤_}
 use native.Mathlib.Omega.{arith}
 use borrow.Author.Tests.{le-leb, leb-true, ltb-true}
 use lib.Dec.{leb, ltb}
-use Rattle.label.specs.Answer.{Answer, granted, refused, require}
+use Rattle.label.specs.Answer.{Answer, granted, refused, require, testOf}
 use Rattle.label.specs.Index.{any, every}
 use Rattle.label.specs.Label
 use Rattle.label.specs.declared.Label.{Label}
-use Rattle.label.proofs.AnswerLaws.{grant-told, refusal-stopped}
-use Rattle.label.proofs.BoolLaws.{both, not-so, first-true, second-true, three-true}
+use Rattle.label.specs.declared.answer.Test.{Test}
+use Rattle.label.proofs.AnswerLaws.{readBy, test-read}
+use Rattle.label.proofs.BoolLaws.{and-implied, both, first-true, second-true, three-true}
 use Rattle.label.proofs.IndexLaws.{every-all, every-at}
 use Rattle.label.proofs.LabelLaws.{equal-exact}
 use Rattle.label.proofs.SearchLaws.{any-of, any-then, same-or-not, sum-but, sum-same}
@@ -89,33 +90,27 @@ tenant-clearance x e = first-true (Tuple.validOf (x .clearance)) (cond (leb 1 (x
 pub clearance-valid : (s : SegmentTable) (t : TenantId) → tenantsSound s ≡ true → t .0 < tenants → Tuple.validOf (clearanceAt s t) ≡ true
 clearance-valid s t e h = tenant-clearance (tenantAt s t) (every-at (λ i. tenantSound (tenantAt s (tenantId i))) tenants (t .0) e h)
 
--- what a test of a record's tuple tells
+-- what `tuple::is_empty` and `tuple::contains` answer, read as a yes or no
+
+pub empty-read : (f : Bool → Bool) (t : Tuple) {u v : Test} → u ≡ v → testOf u ≡ require (Tuple.validOf t) 22 (granted (Tuple.emptyOf t))
+    → readBy f (testOf v) ≡ (Tuple.validOf t && f (Tuple.emptyOf t))
+empty-read f t e h = test-read f (Tuple.validOf t) (Tuple.emptyOf t) 22 e h
 
 one-of : (p q : Bool) → (p && not q || not p && q) ≡ cond p (not q) q
 one-of true true = refl
 one-of true false = refl
 one-of false q = refl
 
-pub tenant-told : (x : Tenant) (b : Bool) → granted b ≡ require (Tuple.validOf (x .clearance)) 22 (granted (Tuple.emptyOf (x .clearance)))
-    → (leb 1 (x .ceiling) && not b || not (leb 1 (x .ceiling)) && b) ≡ tenantSound x
+pub tenant-read : (x : Tenant) {u v : Test} → u ≡ v → testOf u ≡ require (Tuple.validOf (x .clearance)) 22 (granted (Tuple.emptyOf (x .clearance)))
+    → readBy (λ b. leb 1 (x .ceiling) && not b || not (leb 1 (x .ceiling)) && b) (testOf v) ≡ tenantSound x
 unfolding tenantSound
-tenant-told x b h =
-    let k = grant-told (Tuple.validOf (x .clearance)) 22 b (Tuple.emptyOf (x .clearance)) h in
-    rw (k .0, k .1) (one-of (leb 1 (x .ceiling)) (Tuple.emptyOf (x .clearance)))
+tenant-read x e h = empty-read _ (x .clearance) e h ∙ ap (λ (b : Bool). Tuple.validOf (x .clearance) && b) (one-of (leb 1 (x .ceiling)) (Tuple.emptyOf (x .clearance)))
 
-pub tenant-refused : (x : Tenant) (n : ℕ) (d : Option ℕ) → refused n d ≡ require (Tuple.validOf (x .clearance)) 22 (granted (Tuple.emptyOf (x .clearance)))
-    → false ≡ tenantSound x
-unfolding tenantSound
-tenant-refused x n d h = rw (refusal-stopped (Tuple.validOf (x .clearance)) 22 n d (Tuple.emptyOf (x .clearance)) h)
-
--- what a test of a valid tuple tells is whether it contains the label, and its refusal a no
-pub contains-told : (t : Tuple) (l : Label) (b : Bool) → granted b ≡ require (Tuple.validOf t && Label.validOf l) 22 (granted (Tuple.containsOf t l)) → b ≡ Tuple.containsOf t l
-contains-told t l b h = grant-told (Tuple.validOf t && Label.validOf l) 22 b (Tuple.containsOf t l) h .1
-
-pub contains-refused : (t : Tuple) (l : Label) (n : ℕ) (d : Option ℕ) → Tuple.validOf t ≡ true
-    → refused n d ≡ require (Tuple.validOf t && Label.validOf l) 22 (granted (Tuple.containsOf t l)) → false ≡ Tuple.containsOf t l
-contains-refused t l n d v h =
-    sym (not-so (Tuple.containsOf t l) (λ e. true≢false (sym (both v (contained-valid t l v e)) ∙ refusal-stopped (Tuple.validOf t && Label.validOf l) 22 n d (Tuple.containsOf t l) h)))
+pub contains-read : (t : Tuple) (l : Label) {u v : Test} → Tuple.validOf t ≡ true → u ≡ v
+    → testOf u ≡ require (Tuple.validOf t && Label.validOf l) 22 (granted (Tuple.containsOf t l)) → readBy (λ b. b) (testOf v) ≡ Tuple.containsOf t l
+contains-read t l w e h =
+    test-read (λ b. b) (Tuple.validOf t && Label.validOf l) (Tuple.containsOf t l) 22 e h
+    ∙ and-implied _ _ _ (contained-valid t l) ∙ ap (λ (b : Bool). b && Tuple.containsOf t l) w
 
 -- ---- what a slot may hold
 

@@ -1,12 +1,11 @@
 use borrow.Author.Needs.{needs}
 use mathlib.Core.Bool.{Bool, true, _&&_}
-use mathlib.Core.Path.{_≡_, ap, _∙_}
+use mathlib.Core.Path.{_≡_, ap}
 use Prim.Native.Nat.{_<_}
 use native.Mathlib.Omega.{arith}
 use lib.Dec.{leb}
 use Rattle.label.specs.declared.errno.Errno.the-variants.{Busy, Invalid}
 use Rattle.label.proofs.BoolLaws.{first-true, told-false, told-true}
-use Rattle.segments.specs.Parts.{keptIn}
 use Rattle.segments.specs.Operator.{setCeilingAnswer, setCeilingOf}
 use Rattle.segments.specs.Segments.{tenants}
 use Rattle.segments.specs.Slots.{pagesOf}
@@ -36,7 +35,7 @@ inside c =
 in-use : (c : tie.After-kept) → let a = c .before .before .before .before .before .before .args in c .kept .result ≡ leb (pagesOf (a .t1) (a .tenant)) (a .ceiling)
 in-use c =
     let a = c .before .before .before .before .before .before .args in
-    c .kept .ensures ∙ ap keptIn (c .before .pages-left .ensures) ∙ kept-exact (a .ceiling) (pagesOf (a .t1) (a .tenant))
+    kept-exact (a .ceiling) (pagesOf (a .t1) (a .tenant)) (c .before .pages-left .ensures) (c .kept .ensures)
 
 returns : tie.Need-returns
 unfolding setCeilingOf setCeilingAnswer
