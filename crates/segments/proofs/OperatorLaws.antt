@@ -31,8 +31,8 @@ use Rattle.segments.specs.declared.Slot.{Slot}
 use Rattle.segments.specs.declared.Tenant.{Tenant}
 use Rattle.segments.specs.declared.TenantId.{TenantId}
 use Rattle.segments.proofs.SegmentsLaws.{tenant-kept, tenant-written}
-use Rattle.segments.proofs.SlotsLaws.{count-stays, first-stays, own-bound, owns-stays, same-tenant}
-use Rattle.segments.proofs.SoundLaws.{Sound, admitted-parts, held, parts-sound, slot-held, sound-parts, zeros-held}
+use Rattle.segments.proofs.SlotsLaws.{by-tenant, count-stays, first-stays, own-bound, owns-stays}
+use Rattle.segments.proofs.SoundLaws.{Sound, admitted-parts, clears, clears-parts, held, parts-sound, slot-held, sound-parts, zeros-held}
 
 -- ---- another record for a tenant
 
@@ -56,29 +56,23 @@ module _ (s : SegmentTable) (t : TenantId) (x : Tenant) (lengths : Lengths s) (n
   -- what a slot may hold, it still may where the new clearance has all labels of the old one
   held-with : ((l : Label) → Tuple.containsOf (clearanceAt s t) l ≡ true → Tuple.containsOf (x .clearance) l ≡ true)
       → (p : Slot) (y : Segment) → held s p y ≡ true → held next p y ≡ true
-  held-with h p y e = go (leb 1 (y .pages)) refl e
+  held-with h p y e = go (leb 1 (y .pages)) e
     where
-      clears : (u : TenantId) → Tuple.containsOf (clearanceAt s u) (y .label) ≡ true → Tuple.containsOf (clearanceAt next u) (y .label) ≡ true
-      clears u f =
-          ⊎-elim
-          (λ (i : u .0 ≡ t .0).
-          let j = same-tenant u t i in
-          ap (λ (u : TenantId). Tuple.containsOf (clearanceAt next u) (y .label)) j
-          ∙ ap (λ (z : Tenant). Tuple.containsOf (z .clearance) (y .label)) (tenant-written s t x lengths number)
-          ∙ h (y .label) (ap (λ (u : TenantId). Tuple.containsOf (clearanceAt s u) (y .label)) (sym j) ∙ f))
-          (λ (i : u .0 ≡ t .0 → ⊥). ap (λ (z : Tenant). Tuple.containsOf (z .clearance) (y .label)) (tenant-kept s t u x i) ∙ f)
-          (same-or-not (u .0) (t .0))
+      same : (v w : Tenant) → v ≡ w → Tuple.containsOf (w .clearance) (y .label) ≡ true → Tuple.containsOf (v .clearance) (y .label) ≡ true
+      same v w i f = ap (λ (z : Tenant). Tuple.containsOf (z .clearance) (y .label)) i ∙ f
 
-      go : (b : Bool) → leb 1 (y .pages) ≡ b
-          → cond b (any (λ u. owns s (tenantId u) p && Tuple.containsOf (clearanceAt s (tenantId u)) (y .label)) tenants) (zeros y) ≡ true
-          → cond b (any (λ u. owns next (tenantId u) p && Tuple.containsOf (clearanceAt next (tenantId u)) (y .label)) tenants) (zeros y) ≡ true
-      go false i e = e
-      go true i e =
-          any-then (λ u. owns s (tenantId u) p && Tuple.containsOf (clearanceAt s (tenantId u)) (y .label)) tenants e
+      still : (u : TenantId) → Tuple.containsOf (clearanceAt s u) (y .label) ≡ true → Tuple.containsOf (clearanceAt next u) (y .label) ≡ true
+      still u =
+          by-tenant (λ (u : TenantId). Tuple.containsOf (clearanceAt s u) (y .label) ≡ true → Tuple.containsOf (clearanceAt next u) (y .label) ≡ true) t u
+          (λ f. same (tenantAt next t) x (tenant-written s t x lengths number) (h (y .label) f)) (λ u i. same (tenantAt next u) (tenantAt s u) (tenant-kept s t u x i))
+
+      go : (b : Bool) → cond b (any (clears s p (y .label)) tenants) (zeros y) ≡ true → cond b (any (clears next p (y .label)) tenants) (zeros y) ≡ true
+      go false e = e
+      go true e =
+          any-then (clears s p (y .label)) tenants e
           (λ k l f.
-          any-of (λ u. owns next (tenantId u) p && Tuple.containsOf (clearanceAt next (tenantId u)) (y .label)) tenants k l
-          (both (owns-stays s t (tenantId k) x p ∙ first-true _ (Tuple.containsOf (clearanceAt s (tenantId k)) (y .label)) f)
-          (clears (tenantId k) (second-true (owns s (tenantId k) p) (Tuple.containsOf (clearanceAt s (tenantId k)) (y .label)) f))))
+          let c = clears-parts s p (y .label) k f in
+          any-of (clears next p (y .label)) tenants k l (both (owns-stays s t (tenantId k) x p ∙ c .0) (still (tenantId k) (c .1))))
 
   with-sound : Sound s → tenantSound x ≡ true → ((l : Label) → Tuple.containsOf (clearanceAt s t) l ≡ true → Tuple.containsOf (x .clearance) l ≡ true)
       → ceilingsOf s + x .ceiling ≤ s .pool + ceilingAt s t → pagesOf s t ≤ x .ceiling → Sound next
@@ -86,25 +80,22 @@ module _ (s : SegmentTable) (t : TenantId) (x : Tenant) (lengths : Lengths s) (n
       record {
         pool = h .pool;
         tenant = λ u l.
-            ⊎-elim
-            (λ (i : u .0 ≡ t .0). rw (same-tenant u t i) (ap tenantSound (tenant-written s t x lengths number) ∙ e))
-            (λ (i : u .0 ≡ t .0 → ⊥). ap tenantSound (tenant-kept s t u x i) ∙ h .tenant u l)
-            (same-or-not (u .0) (t .0));
+            by-tenant (λ (u : TenantId). u .0 < tenants → tenantSound (tenantAt next u) ≡ true) t u (λ l. ap tenantSound (tenant-written s t x lengths number) ∙ e)
+            (λ u i l. ap tenantSound (tenant-kept s t u x i) ∙ h .tenant u l) l;
         segment = λ p l. slot-held next p ∙ held-with f p (segmentAt s p) (sym (slot-held s p) ∙ h .segment p l);
         ceilings = let c = ceilings-with in omega arith;
         pages = λ u l.
-            ⊎-elim
-            (λ (i : u .0 ≡ t .0).
+            by-tenant (λ (u : TenantId). u .0 < tenants → pagesOf next u ≤ ceilingAt next u) t u
+            (λ l.
             let a = pages-stay t in
             let b : ceilingAt next t ≡ x .ceiling = ap (λ (y : Tenant). y .ceiling) (tenant-written s t x lengths number) in
-            let g : pagesOf next t ≤ ceilingAt next t = omega arith in
-            rw (same-tenant u t i) g)
-            (λ (i : u .0 ≡ t .0 → ⊥).
+            omega arith)
+            (λ u i l.
             let a = pages-stay u in
             let b : ceilingAt next u ≡ ceilingAt s u = ap (λ (y : Tenant). y .ceiling) (tenant-kept s t u x i) in
             let c = h .pages u l in
             omega arith)
-            (same-or-not (u .0) (t .0));
+            l;
       }
 
 -- ---- the calls
