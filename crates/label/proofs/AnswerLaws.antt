@@ -5,6 +5,7 @@ use mathlib.Core.Path.{_≡_, refl, sym, ap, _∙_}
 use Prim.Native.Nat.{ℕ}
 use Rattle.label.specs.Answer.{Answer, Answered, andThen, granted, grantedOf, isGranted, refused, refusedBy, require, testOf, valueOr}
 use Rattle.label.specs.declared.errno.Errno.{Errno}
+use Rattle.label.specs.declared.errno.Errno.the-variants.{Invalid}
 use Rattle.label.specs.declared.answer.Outcome.{Outcome}
 use Rattle.label.specs.declared.answer.Test.{Test}
 use Rattle.label.specs.declared.answer.Outcome.the-variants.{Granted, Refused}
@@ -25,6 +26,14 @@ answers-grant value z y x e f = record { outcome = ap granted f ∙ sym e; besid
 
 pub answers-refusal : {A : Type 0} (e : Errno) (value z : A) (x : Answer A) → x ≡ refusedBy e → value ≡ z → Answered (Refused e) value z x
 answers-refusal e value z x h f = record { outcome = sym h; beside = rw h f }
+
+-- by the check before it, which the code has tested as r
+module _ {A : Type 0} {t r : Bool} {value z : A} (e : r ≡ t) where
+  pub answers-passed : {y : A} → r ≡ true → value ≡ y → Answered Granted value z (require t 22 (granted y))
+  answers-passed {y} h f = answers-grant value z y _ (passed t 22 (granted y) (sym e ∙ h)) f
+
+  pub answers-invalid : (rest : Answer A) → r ≡ false → value ≡ z → Answered (Refused Invalid) value z (require t 22 rest)
+  answers-invalid rest h f = answers-refusal Invalid value z _ (stopped t 22 rest (sym e ∙ h)) f
 
 pub answers-granted : {A : Type 0} (o : Outcome) {value z : A} {x : Answer A} → Answered o value z x → grantedOf o ≡ isGranted x
 answers-granted Granted a = ap isGranted (a .outcome)

@@ -23,7 +23,7 @@ use Rattle.segments.specs.Operator.{admitAnswer, admitOf, makeAnswer, ma
 use Rattle.segments.specs.Parts.{poolAnswer}
 use Rattle.segments.specs.Replies.{Grant, done, left}
 use Rattle.segments.specs.Segments.{Lengths, ceilingAt, clearanceAt, emptyTable, pagesAt, pagesValid, segmentAt, slot, slots, tenantAt, tenantId, tenantOf, tenants, withTenant, zeroSegment, zeroTenant}
-use Rattle.segments.specs.Slots.{ceilingsOf, firstSlot, owns, pagesOf, slotCount}
+use Rattle.segments.specs.Slots.{ceilingsOf, firstSlot, pagesOf, slotCount}
 use Rattle.segments.specs.Sound.{admitted, sound, tenantSound, zeros}
 use Rattle.segments.specs.declared.Segment.{Segment}
 use Rattle.segments.specs.declared.SegmentTable.{SegmentTable}
