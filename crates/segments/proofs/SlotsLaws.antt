@@ -132,6 +132,10 @@ lowest-own s t p h e = go (firstFrom (emptyAt s) (firstSlot s t) (slotCount s t)
 -- ---- a tenant's own slots, by the first and the count that the code has
 
 module _ (s : SegmentTable) (t : TenantId) (first count : ℕ) (f : first ≡ firstSlot s t) (n : count ≡ slotCount s t) where
+  -- they are slots
+  pub bound-by : t .0 < tenants → first + count ≤ slots
+  bound-by h = let b = own-bound s t h in omega arith
+
   pub pages-by : sumFrom (λ p. pagesAt s (slot p)) first count ≡ pagesOf s t
   unfolding pagesOf
   pages-by = ap₂ (sumFrom (λ p. pagesAt s (slot p))) f n
