@@ -1,14 +1,13 @@
 -- What the proofs of the calls' code need of their answers. Assumes nothing.
-use mathlib.Core.Bool.{Bool, true, false}
+use mathlib.Core.Bool.{true}
 use mathlib.Core.Option.{some}
 use mathlib.Core.Path.{_≡_, refl, sym, ap, subst, _∙_}
-use Prim.Native.Nat.{ℕ, _<_, _≤_}
-use native.Mathlib.Omega.{arith}
-use Rattle.label.specs.Answer.{Answer, granted, refusedBy, require}
+use Prim.Native.Nat.{_<_, _≤_}
+use Rattle.label.specs.Answer.{Answer, andThen, granted, refusedBy, require}
 use Rattle.label.specs.Label
 use Rattle.label.specs.declared.Label.{Label}
 use Rattle.label.specs.declared.errno.Errno.{Errno}
-use Rattle.label.proofs.AnswerLaws.{grant-passed, passed}
+use Rattle.label.proofs.AnswerLaws.{grant-passed, require-then}
 use Rattle.segments.specs.Calls.{accessOf, answerOf, callOf, callValid, cleared, found, grantOf, pagesFit, permitted, slotFor, stepOf, target, written}
 use Rattle.segments.specs.Parts.{Started, startOf, unlabeled}
 use Rattle.segments.specs.Replies.{Grant, Results, done, leaving, replyOf, shownLabel}
@@ -43,16 +42,10 @@ results-same s next e h = rw e h
 -- ---- a call that has passed the first checks
 
 module _ (s : SegmentTable) (c : Call) where
-  pub start-refused : (e : Errno) → refusedBy e ≡ startOf s c → answerOf s c ≡ refusedBy e
+  -- what is answered: the refusal of the first checks, or what follows them
+  answer-start : answerOf s c ≡ andThen (startOf s c) (λ g. accessOf s c)
   unfolding startOf answerOf
-  start-refused e h = go (sound s) (callValid s c) (cleared s c) h
-    where
-      go : (p q r : Bool) → refusedBy {A = Grant} e ≡ require p 22 (require q 22 (require r 1 (granted done)))
-          → require p 22 (require q 22 (require r 1 (accessOf s c))) ≡ refusedBy e
-      go true true true k = let z : _≡_ {A = ℕ} 0 1 = cc in absurd (omega arith)
-      go true true false k = sym k
-      go true false r k = sym k
-      go false q r k = sym k
+  answer-start = sym (simp require-then)
 
   pub start-passed : granted done ≡ startOf s c → Started s c
   unfolding startOf
@@ -64,16 +57,12 @@ module _ (s : SegmentTable) (c : Call) where
 
   pub step-stopped : (o : Outcome) (e : Errno) → o ≡ unlabeled s (Refused e) → refusedBy e ≡ startOf s c → Results o (stepOf s c)
   unfolding stepOf
-  step-stopped o e h k =
-      results-refused o s (withSegment s (target s c) (written (segmentAt s (target s c)) (c .label) (c .action))) (answerOf s c) e h (start-refused e k)
+  step-stopped o e h k = results-refused o s _ _ e h (answer-start ∙ ap (λ (x : Answer Grant). andThen x (λ g. accessOf s c)) (sym k))
 
 module _ (s : SegmentTable) (c : Call) (w : Started s c) where
   started-answer : answerOf s c ≡ accessOf s c
   unfolding answerOf
-  started-answer =
-      passed (sound s) 22 (require (callValid s c) 22 (require (cleared s c) 1 (accessOf s c))) (w .sound)
-      ∙ passed (callValid s c) 22 (require (cleared s c) 1 (accessOf s c)) (w .valid)
-      ∙ passed (cleared s c) 1 (accessOf s c) (w .cleared)
+  started-answer = rw (w .sound, w .valid, w .cleared)
 
   pub started-tenant : c .tenant .0 < tenants
   started-tenant = valid-tenant s (c .tenant) (c .label) (c .action) (w .valid)
@@ -87,8 +76,7 @@ module _ (s : SegmentTable) (c : Call) (w : Started s c) where
 
   pub step-refused : (o : Outcome) (e : Errno) → o ≡ unlabeled s (Refused e) → accessOf s c ≡ refusedBy e → Results o (stepOf s c)
   unfolding stepOf
-  step-refused o e h k =
-      results-refused o s (withSegment s (target s c) (written (segmentAt s (target s c)) (c .label) (c .action))) (answerOf s c) e h (started-answer ∙ k)
+  step-refused o e h k = results-refused o s _ _ e h (started-answer ∙ k)
 
   -- what a granted call leaves: x in the slot p, which is the one that the call is about
   pub step-granted : {o : Outcome} {next : SegmentTable} {p : Slot} {x : Segment} → permitted s (c .tenant) (c .label) (c .action) ≡ true
