@@ -1,7 +1,7 @@
 -- What a tenant call reads and what it changes: its caller's own slots, what no tenant call changes, and, for a look at another's slot,
 -- what is visible of that slot. Nothing above these laws opens `stepOf`. Assumes nothing.
 use mathlib.Core.Bool.{Bool, true, false, not, _&&_, true≢false}
-use mathlib.Core.Logic.{_⊎_, inl, inr, ⊎-elim}
+use mathlib.Core.Logic.{_⊎_, inl, inr}
 use mathlib.Core.Option.{Option, none, some, Option·none-ne-some}
 use mathlib.Core.Path.{_≡_, refl, sym, ap, ap₂, _∙_}
 use Prim.Native.Nat.{ℕ, _+_, _-_, _<_}
@@ -13,7 +13,7 @@ use Rattle.label.specs.Label
 use Rattle.label.specs.declared.Label.{Label}
 use Rattle.label.proofs.AnswerLaws.{grant-passed, require-same}
 use Rattle.label.proofs.BoolLaws.{first-true, three-true}
-use Rattle.label.proofs.SearchLaws.{first-same, same-or-not, sum-same}
+use Rattle.label.proofs.SearchLaws.{first-same, sum-same}
 use Rattle.range.specs.Tuple
 use Rattle.segments.specs.Calls.{accessOf, answerOf, callOf, callValid, cleared, found, grantOf, lookedAt, numbersValid, pagesFit, permitted, slotFor, slotOr0, slotValid, stepOf, target, visible, writable, written}
 use Rattle.segments.specs.Replies.{Grant, left, shown}
@@ -29,7 +29,7 @@ use Rattle.segments.specs.declared.Slot.{Slot}
 use Rattle.segments.specs.declared.Tenant.{Tenant}
 use Rattle.segments.specs.declared.TenantId.{TenantId}
 use Rattle.segments.proofs.SegmentsLaws.{lengths-kept, segment-kept, segment-same, segment-written, tenant-same}
-use Rattle.segments.proofs.SlotsLaws.{lowest-own, count-kept, first-kept, own-of, own-slot, owns-kept, same-slot}
+use Rattle.segments.proofs.SlotsLaws.{by-slot, lowest-own, count-kept, first-kept, own-of, own-slot, owns-kept, same-slot}
 
 -- ---- the slot that a call is about
 
@@ -334,11 +334,9 @@ module _ (t : TenantId) (s u : SegmentTable) (k : Alike t s u) where
   -- the same segment put into the same slot
   written-same : (q : Slot) (x : Segment) (p : Slot) → q .0 < slots → segmentAt s p ≡ segmentAt u p → segmentAt (withSegment s q x) p ≡ segmentAt (withSegment u q x) p
   written-same q x p h e =
-      ⊎-elim
-      (λ (i : p .0 ≡ q .0).
-      rw (same-slot p q i) (segment-written s q x (k .lengths .0) h ∙ sym (segment-written u q x (k .lengths .1) h)))
-      (λ (i : p .0 ≡ q .0 → ⊥). segment-kept s q p x i ∙ e ∙ sym (segment-kept u q p x i))
-      (same-or-not (p .0) (q .0))
+      by-slot (λ (p : Slot). segmentAt s p ≡ segmentAt u p → segmentAt (withSegment s q x) p ≡ segmentAt (withSegment u q x) p) q p
+      (λ e. segment-written s q x (k .lengths .0) h ∙ sym (segment-written u q x (k .lengths .1) h))
+      (λ p i e. segment-kept s q p x i ∙ e ∙ sym (segment-kept u q p x i)) e
 
   pub own-next : (l : Label) (a : Action) (p : Slot) → owns s t p ≡ true → segmentAt (stepOf s (callOf t l a) .table) p ≡ segmentAt (stepOf u (callOf t l a) .table) p
   own-next l a p h = by (effect s t l a)

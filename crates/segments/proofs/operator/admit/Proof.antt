@@ -1,8 +1,8 @@
 use borrow.Author.Needs.{needs}
-use borrow.Author.Tests.{ltb-true, not-false}
 use mathlib.Core.Bool.{Bool, true, false, not, _&&_, and-assoc}
 use mathlib.Core.Path.{_≡_, sym, ap, _∙_}
 use Prim.Native.Nat.{_<_}
+use borrow.Author.Tests.{ltb-true, not-false}
 use lib.Dec.{leb, ltb}
 use Rattle.label.specs.declared.errno.Errno.the-variants.{Busy, Invalid}
 use Rattle.label.proofs.BoolLaws.{three-true, told-false, told-true}
