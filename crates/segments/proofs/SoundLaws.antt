@@ -7,7 +7,7 @@ use native.Mathlib.Omega.{arith}
 use borrow.Author.Tests.{le-leb, leb-true, ltb-true}
 use lib.Dec.{leb, ltb}
 use Rattle.label.specs.Answer.{granted, require, testOf}
-use Rattle.label.specs.Index.{any, every}
+use Rattle.label.specs.Index.{any}
 use Rattle.label.specs.Label
 use Rattle.label.specs.declared.Label.{Label}
 use Rattle.label.specs.declared.answer.Test.{Test}
@@ -19,7 +19,7 @@ use Rattle.label.proofs.SearchLaws.{any-of, any-same, any-then, sum-but, sum-sa
 use Rattle.range.specs.Tuple
 use Rattle.range.specs.declared.tuple.Tuple.{Tuple}
 use Rattle.range.proofs.TupleLaws.{contained-valid}
-use Rattle.segments.specs.Parts.{tenantsSound}
+use Rattle.segments.specs.Parts.{ceilingsKept, slotsSound, tenantsSound}
 use Rattle.segments.specs.Calls.{callOf, cleared, lookedAt, slotFor, slotValid, stepOf, writable, written}
 use Rattle.segments.specs.Segments.{Lengths, ceilingAt, clearanceAt, maxPages, pagesAt, pagesValid, segmentAt, segmentOf, slot, slots, tenantAt, tenantId, tenants, withSegment, zeroSegment}
 use Rattle.segments.specs.Slots.{ceilingsOf, filled, firstSlot, owns, pagesOf, slotCount}
@@ -48,10 +48,10 @@ pub sound-parts : (s : SegmentTable) → sound s ≡ true → Sound s
 unfolding sound underCeiling
 sound-parts s e =
     let a : Bool = pagesValid (s .pool) in
-    let b : Bool = every (λ t. tenantSound (tenantAt s (tenantId t))) tenants in
-    let c : Bool = every (λ p. slotSound s (slot p)) slots in
+    let b : Bool = tenantsSound s in
+    let c : Bool = slotsSound s in
     let d : Bool = leb (ceilingsOf s) (s .pool) in
-    let f : Bool = every (λ t. underCeiling s (tenantId t)) tenants in
+    let f : Bool = ceilingsKept s in
     let h = first-true (((a && b) && c) && d) f e in
     let g = first-true ((a && b) && c) d h in
     let i = three-true a b c g in
