@@ -55,6 +55,13 @@ alike-other t s u c h k =
           untouched s (c .tenant) (c .label) (c .action) p (not-so _ (λ f. h (owner-unique s (c .tenant) t p f o))) ∙ k .own p o;
     }
 
+-- so after a call of t's own both states are alike for t, and after another's the first and what the second was
+alike-next : (t : TenantId) (s u : SegmentTable) (c : Call) → Alike t s u → (b : Bool) → eqb (c .tenant .0) (t .0) ≡ b → Alike t (next s c) (cond b (next u c) u)
+alike-next t s u c k true e =
+    let q = same-tenant (c .tenant) t (eqb-true _ _ e) in
+    subst (λ (t : TenantId). Alike t (next s c) (next u c)) q (alike-own s u c (subst (λ (t : TenantId). Alike t s u) (sym q) k))
+alike-next t s u c k false e = alike-other t s u c (λ q. eqb-false _ _ e (ap (λ (t : TenantId). t .0) q)) k
+
 -- ---- the state after a list, by the calls of one tenant
 
 run-alike : (t : TenantId) (xs : List Call) (s u : SegmentTable) → Alike t s u → Alike t (run s xs) (run u (callsOf t xs))
@@ -66,10 +73,8 @@ run-alike t (c ∷ cs) s u k = go (eqb (c .tenant .0) (t .0)) refl (run-alike t 
         → (Alike t (next s c) (next u c) → Alike t (run (next s c) cs) (run (next u c) (callsOf t cs)))
         → (Alike t (next s c) u → Alike t (run (next s c) cs) (run u (callsOf t cs)))
         → Alike t (run (next s c) cs) (run u (cond b (c ∷ callsOf t cs) (callsOf t cs)))
-    go true e own other =
-        let q = same-tenant (c .tenant) t (eqb-true _ _ e) in
-        own (subst (λ (t : TenantId). Alike t (next s c) (next u c)) q (alike-own s u c (subst (λ (t : TenantId). Alike t s u) (sym q) k)))
-    go false e own other = other (alike-other t s u c (λ q. eqb-false _ _ e (ap (λ (t : TenantId). t .0) q)) k)
+    go true e own other = own (alike-next t s u c k true e)
+    go false e own other = other (alike-next t s u c k false e)
 
 -- ---- the states of a list
 
@@ -79,6 +84,9 @@ record Reached (s u : SegmentTable) : Type 0 where
   pub lengths : Lengths u
   pub pool : u .pool ≡ s .pool
   pub records : u .tenants ≡ s .tenants
+
+reached-itself : (s : SegmentTable) → Lengths s → sound s ≡ true → Reached s s
+reached-itself s l h = record { is-sound = h; lengths = l; pool = refl; records = refl }
 
 reached-next : (s u : SegmentTable) (c : Call) → Reached s u → Reached s (next u c)
 reached-next s u c r =
@@ -121,13 +129,10 @@ unowned p (c ∷ cs) s h =
 same-slots : (s : SegmentTable) (xs ys : List Call) → Lengths s → sound s ≡ true → Interleaving xs ys → (p : Slot) → segmentAt (run s xs) p ≡ segmentAt (run s ys) p
 same-slots s xs ys l h i p = go (any (λ t. owns s (tenantId t) p) tenants) refl
   where
-    start : Reached s s
-    start = record { is-sound = h; lengths = l; pool = refl; records = refl }
-
     after : (t : TenantId) (zs : List Call) → owns s t p ≡ true → segmentAt (run s zs) p ≡ segmentAt (run s (callsOf t zs)) p
     after t zs o =
         let k = run-alike t zs s s (alike-itself t s h l) in
-        k .own p (owns-kept (run s zs) s t p (run-reached zs s s start .records) ∙ o)
+        k .own p (owns-kept (run s zs) s t p (run-reached zs s s (reached-itself s l h) .records) ∙ o)
 
     go : (b : Bool) → any (λ t. owns s (tenantId t) p) tenants ≡ b → segmentAt (run s xs) p ≡ segmentAt (run s ys) p
     go true e =
@@ -219,10 +224,8 @@ follow t (c ∷ cs) s u k = go (eqb (c .tenant .0) (t .0)) refl (follow t cs (ne
         → (Alike t (next s c) (next u c) → Follows t (next u c) (callsOf t cs) (entriesOf t (trace (next s c) cs)))
         → (Alike t (next s c) u → Follows t u (callsOf t cs) (entriesOf t (trace (next s c) cs)))
         → Follows t u (cond b (c ∷ callsOf t cs) (callsOf t cs)) (cond b (entry s c ∷ entriesOf t (trace (next s c) cs)) (entriesOf t (trace (next s c) cs)))
-    go true e own other =
-        let q = same-tenant (c .tenant) t (eqb-true _ _ e) in
-        (refl, q, k, own (subst (λ (t : TenantId). Alike t (next s c) (next u c)) q (alike-own s u c (subst (λ (t : TenantId). Alike t s u) (sym q) k))))
-    go false e own other = other (alike-other t s u c (λ q. eqb-false _ _ e (ap (λ (t : TenantId). t .0) q)) k)
+    go true e own other = (refl, same-tenant (c .tenant) t (eqb-true _ _ e), k, own (alike-next t s u c k true e))
+    go false e own other = other (alike-next t s u c k false e)
 
 agree : (t : TenantId) (u : SegmentTable) (c : Call) (e f : Entry) → e ≡ entry (e .table) c → f ≡ entry (f .table) c → c .tenant ≡ t
     → Alike t (e .table) u → Alike t (f .table) u → Agree e f
@@ -245,7 +248,7 @@ follows-agree t u (c ∷ cs) (e ∷ es) (f ∷ fs) a b =
 
 pub isolation : Isolation
 isolation s l h xs ys i =
-    let start : Reached s s = record { is-sound = h; lengths = l; pool = refl; records = refl } in
+    let start = reached-itself s l h in
     let x = run-reached xs s s start in
     let y = run-reached ys s s start in
     record {

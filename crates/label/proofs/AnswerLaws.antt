@@ -5,6 +5,7 @@ use mathlib.Core.Path.{_≡_, refl, sym, ap, _∙_}
 use Prim.Native.Nat.{ℕ}
 use Rattle.label.specs.Answer.{Answer, Answered, andThen, granted, grantedOf, isGranted, refused, refusedBy, require, testOf, valueOr}
 use Rattle.label.specs.declared.errno.Errno.{Errno}
+use Rattle.label.specs.declared.errno.Errno.the-variants.{Invalid}
 use Rattle.label.specs.declared.answer.Outcome.{Outcome}
 use Rattle.label.specs.declared.answer.Test.{Test}
 use Rattle.label.specs.declared.answer.Outcome.the-variants.{Granted, Refused}
@@ -25,6 +26,14 @@ answers-grant value z y x e f = record { outcome = ap granted f ∙ sym e; besid
 
 pub answers-refusal : {A : Type 0} (e : Errno) (value z : A) (x : Answer A) → x ≡ refusedBy e → value ≡ z → Answered (Refused e) value z x
 answers-refusal e value z x h f = record { outcome = sym h; beside = rw h f }
+
+-- by the check before it, which the code has tested as r
+module _ {A : Type 0} {t r : Bool} {value z : A} (e : r ≡ t) where
+  pub answers-passed : {y : A} → r ≡ true → value ≡ y → Answered Granted value z (require t 22 (granted y))
+  answers-passed {y} h f = answers-grant value z y _ (passed t 22 (granted y) (sym e ∙ h)) f
+
+  pub answers-invalid : (rest : Answer A) → r ≡ false → value ≡ z → Answered (Refused Invalid) value z (require t 22 rest)
+  answers-invalid rest h f = answers-refusal Invalid value z _ (stopped t 22 rest (sym e ∙ h)) f
 
 pub answers-granted : {A : Type 0} (o : Outcome) {value z : A} {x : Answer A} → Answered o value z x → grantedOf o ≡ isGranted x
 answers-granted Granted a = ap isGranted (a .outcome)
@@ -66,12 +75,16 @@ module _ {A : Type 0} {o : Outcome} {value z : A} {x : Answer A} (h : Answered o
 
 -- ---- what an answer tells of the check before it
 
--- a call that tests t and tells the value: where a refusal is taken for a no, it says whether both hold
-pub value-of-test : (u u′ : Test) (t value : Bool) (n : ℕ) → u ≡ u′ → testOf u ≡ require t n (granted value)
-    → valueOr false (testOf u′) ≡ (t && value)
-value-of-test u u′ t value n e h = ap (λ (v : Test). valueOr false (testOf v)) (sym e) ∙ ap (valueOr false) h ∙ by t
+-- a test that a call answers, read by f, and a refusal for a no
+abbrev pub readBy : (Bool → Bool) → Answer Bool → Bool
+readBy f (granted b) = f b
+readBy f (refused n detail) = false
+
+-- where the call tests t and tells the value, that says whether t holds and f of the value
+pub test-read : (f : Bool → Bool) (t value : Bool) (n : ℕ) {u v : Test} → u ≡ v → testOf u ≡ require t n (granted value) → readBy f (testOf v) ≡ (t && f value)
+test-read f t value n e h = ap (λ (w : Test). readBy f (testOf w)) (sym e) ∙ ap (readBy f) h ∙ by t
   where
-    by : (t : Bool) → valueOr false (require t n (granted value)) ≡ (t && value)
+    by : (t : Bool) → readBy f (require t n (granted value)) ≡ (t && f value)
     by true = refl
     by false = refl
 

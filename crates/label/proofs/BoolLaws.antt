@@ -1,7 +1,8 @@
 -- Tests that are true together, or of which one is. Assumes nothing.
-use mathlib.Core.Bool.{Bool, true, false, _&&_, _||_, and-false, true≢false}
+use mathlib.Core.Bool.{Bool, true, false, not, _&&_, _||_, and-false, true≢false}
 use mathlib.Core.Logic.{_⊎_, inl, inr}
-use mathlib.Core.Path.{_≡_, refl, sym}
+use mathlib.Core.Path.{_≡_, refl, sym, _∙_}
+use borrow.Author.Tests.{not-false, not-true}
 
 pub both : {p q : Bool} → p ≡ true → q ≡ true → (p && q) ≡ true
 both {p} {q} e f = rw (e, f)
@@ -47,7 +48,20 @@ pub not-so : (p : Bool) → (p ≡ true → ⊥) → p ≡ false
 not-so true h = absurd (h refl)
 not-so false h = refl
 
+-- a test among others that the others imply
+pub and-implied : (p q r : Bool) → (p ≡ true → r ≡ true → q ≡ true) → (p && q && r) ≡ (p && r)
+and-implied false q r h = refl
+and-implied true true r h = refl
+and-implied true false r h = sym (not-so r (λ e. true≢false (sym (h refl e))))
+
 pub swap-and : (p q r s : Bool) → ((p && q) && (r && s)) ≡ ((p && r) && (q && s))
 swap-and true q true s = refl
 swap-and true q false s = and-false q
 swap-and false q r s = refl
+
+-- what a branch on the negation of r tells of p, where r is ensured to be p
+pub told-true : {p r : Bool} → r ≡ p → not r ≡ false → p ≡ true
+told-true {p} {r} e h = sym e ∙ not-false r h
+
+pub told-false : {p r : Bool} → r ≡ p → not r ≡ true → p ≡ false
+told-false {p} {r} e h = sym e ∙ not-true r h

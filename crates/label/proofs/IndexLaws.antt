@@ -8,7 +8,7 @@ use native.Mathlib.Nat.{eq-or-lt-of-le, le-of-suc-le-suc}
 use native.Mathlib.Numerals.{add-one}
 use native.Mathlib.Omega.{arith}
 use lib.Dec.{leb}
-use lib.ListN.{length, getD, replicate, set, take, getD-replicate, length-append, length-map, length-replicate, List·getD-append, List·getD-eq-default}
+use lib.ListN.{length, getD, replicate, set, take, getD-replicate, length-append, length-map, length-replicate, length-set, List·getD-append, List·getD-eq-default}
 use lib.Seq.{ext-getD, getD-at, take-suc-set, take-all}
 use borrow.Author.Tests.{leb-true, leb-false}
 use Rattle.label.specs.Index.{every, tabulate}
@@ -58,6 +58,25 @@ module _ {A : Type 0} (f : ℕ → A) where
   pub fill-done : (r : List A) (i n : ℕ) → i ≡ n → length r ≡ n → take i r ≡ tabulate f i → r ≡ tabulate f n
   fill-done r i n e h inv = sym (take-all i r (omega arith)) ∙ inv ∙ ap (tabulate f) e
 
+-- such a loop's invariant, for r of n elements
+pub record Filled {A : Type 0} (f : ℕ → A) (n : ℕ) (r : List A) (i : ℕ) : Type 0 where
+  pub upto : i ≤ n
+  pub long : length r ≡ n
+  pub front : take i r ≡ tabulate f i
+
+module _ {A : Type 0} {f : ℕ → A} {n : ℕ} {r : List A} where
+  pub fill-none : length r ≡ n → Filled f n r 0
+  unfolding tabulate
+  fill-none e = record { upto = omega arith; long = e; front = refl }
+
+  pub fill-next : {i : ℕ} {v : A} → Filled f n r i → i < n → v ≡ f i → Filled f n (set r i v) (i + 1)
+  fill-next {i} {v} h l e =
+      let k = h .long in
+      record { upto = omega arith; long = length-set r i v ∙ k; front = fill-step f r i v (omega arith) e (h .front) }
+
+  pub fill-all : {i : ℕ} → Filled f n r i → n ≤ i → r ≡ tabulate f n
+  fill-all {i} h l = let u = h .upto in fill-done f r i n (omega arith) (h .long) (h .front)
+
 -- past the end too, where f goes on with zeros
 pub tabulate-pad : (f : ℕ → ℕ) (n i : ℕ) → (n ≤ i → f i ≡ 0) → getD (tabulate f n) i 0 ≡ f i
 tabulate-pad f n i h =
@@ -87,6 +106,25 @@ module _ (f : ℕ → Bool) where
 
   pub every-done : (n i : ℕ) → i ≡ n → every f i ≡ true → every f n ≡ true
   every-done n i e h = rw e at h
+
+-- such a loop's invariant, for n numbers
+pub record Tested (f : ℕ → Bool) (n i : ℕ) : Type 0 where
+  pub upto : i ≤ n
+  pub true-below : every f i ≡ true
+
+module _ {f : ℕ → Bool} {n : ℕ} where
+  pub test-none : Tested f n 0
+  unfolding every
+  test-none = record { upto = omega arith; true-below = refl }
+
+  pub test-next : {i : ℕ} → Tested f n i → i < n → f i ≡ true → Tested f n (i + 1)
+  test-next {i} h l e = record { upto = omega arith; true-below = every-next f i (h .true-below) e }
+
+  pub test-stop : {i : ℕ} → Tested f n i → i < n → f i ≡ false → false ≡ every f n
+  test-stop {i} h l e = sym (every-stop f n i l e)
+
+  pub test-all : {i : ℕ} → Tested f n i → n ≤ i → true ≡ every f n
+  test-all {i} h l = let u = h .upto in sym (every-done f n i (omega arith) (h .true-below))
 
 -- two tests that agree at each number below n
 pub every-same : (f g : ℕ → Bool) (n : ℕ) → ((i : ℕ) → i < n → f i ≡ g i) → every f n ≡ every g n

@@ -1,14 +1,14 @@
 -- The laws of `any`, `firstFrom`, `lastBelow` and `sumFrom`, and what a loop over the index needs of them. Assumes nothing.
 use mathlib.Core.Bool.{Bool, true, false, not, _&&_, _||_, and-true, true≢false}
 use mathlib.Core.Logic.{_⊎_, inl, inr, ⊎-elim}
-use mathlib.Core.Option.{Option, none, some}
+use mathlib.Core.Option.{Option, none, some, Option·none-ne-some, Option·some-ne-none}
 use mathlib.Core.Path.{_≡_, refl, sym, ap, _∙_}
 use Prim.Native.Nat.{ℕ, zero, suc, _+_, _-_, _≤_, _<_, suc-le-suc}
 use native.Mathlib.Nat.{zero-lt-suc, eq-or-lt-of-le, add-zero, zero-add, suc-add}
 use native.Mathlib.Numerals.{add-one}
 use native.Mathlib.Omega.{arith}
 use lib.Dec.{eqb}
-use borrow.Author.Tests.{eqb-true, eqb-false}
+use borrow.Author.Tests.{eqb-true, eqb-false, not-false, not-true}
 use Rattle.label.specs.Index.{any, every, firstFrom, firstOr, lastBelow, sumFrom}
 use Rattle.label.proofs.IndexLaws.{every-at, every-same}
 use Rattle.label.proofs.BoolLaws.{not-so, or-second}
@@ -20,26 +20,15 @@ same-or-not m n = pick (eqb m n) refl
     pick true e = inl (eqb-true m n e)
     pick false e = inr (eqb-false m n e)
 
-not-of-true : (p : Bool) → p ≡ true → not p ≡ false
-not-of-true p e = ap not e
-
-not-of-false : (p : Bool) → not p ≡ true → p ≡ false
-not-of-false true e = sym e
-not-of-false false e = refl
-
 -- ---- some number at which f holds
 
 module _ (f : ℕ → Bool) where
   pub any-of : (n i : ℕ) → i < n → f i ≡ true → any f n ≡ true
   any-of n i l h =
-      ap not (not-so (every (λ j. not (f j)) n) (λ e. true≢false (sym (every-at (λ j. not (f j)) n i e l) ∙ not-of-true (f i) h)))
+      ap not (not-so (every (λ j. not (f j)) n) (λ e. true≢false (sym (every-at (λ j. not (f j)) n i e l) ∙ ap not h)))
 
   pub none-of : (n i : ℕ) → any f n ≡ false → i < n → f i ≡ false
-  none-of n i e l = not-of-false (f i) (every-at (λ j. not (f j)) n i (held (every (λ j. not (f j)) n) e) l)
-    where
-      held : (p : Bool) → not p ≡ false → p ≡ true
-      held true h = refl
-      held false h = sym h
+  none-of n i e l = not-true (f i) (every-at (λ j. not (f j)) n i (not-false (every (λ j. not (f j)) n) e) l)
 
   -- what holds wherever f does holds if f does somewhere
   pub any-then : {A : Type 0} (n : ℕ) → any f n ≡ true → ((i : ℕ) → i < n → f i ≡ true → A) → A
@@ -87,7 +76,7 @@ module _ (f : ℕ → Bool) where
 
   pub first-least : (k n m : ℕ) → firstFrom f k n ≡ some m → Least k m × (m < k + n)
   unfolding firstFrom
-  first-least k zero m e = let z : _≡_ {A = ℕ} 0 1 = cc in absurd (omega arith)
+  first-least k zero m e = absurd (Option·none-ne-some m e)
   first-least k (suc n) m e = go (f k) refl e (first-least (suc k) n m)
     where
       go : (p : Bool) → f k ≡ p → firstOr p k (firstFrom f (suc k) n) ≡ some m → (firstFrom f (suc k) n ≡ some m → Least (suc k) m × (m < suc k + n)) → Least k m × (m < k + suc n)
@@ -106,7 +95,7 @@ module _ (f : ℕ → Bool) where
   first-none k (suc n) e j a b = go (f k) refl e (λ g u. first-none (suc k) n g j u (omega arith))
     where
       go : (p : Bool) → f k ≡ p → firstOr p k (firstFrom f (suc k) n) ≡ none → (firstFrom f (suc k) n ≡ none → suc k ≤ j → f j ≡ false) → f j ≡ false
-      go true h g ih = let z : _≡_ {A = ℕ} 0 1 = cc in absurd (omega arith)
+      go true h g ih = absurd (Option·some-ne-none k g)
       go false h g ih = ⊎-elim (λ u. ap f (sym u) ∙ h) (ih g) (eq-or-lt-of-le a)
 
 -- two tests that agree at each number that is searched
@@ -163,7 +152,7 @@ module _ (f : ℕ → Bool) where
   -- it is below n, and f holds there
   pub last-holds : (n k : ℕ) → lastBelow f n ≡ some k → (k < n) × (f k ≡ true)
   unfolding lastBelow
-  last-holds zero k e = let z : _≡_ {A = ℕ} 0 1 = cc in absurd (omega arith)
+  last-holds zero k e = absurd (Option·none-ne-some k e)
   last-holds (suc n) k e = go (f n) refl e (last-holds n k)
     where
       go : (p : Bool) → f n ≡ p → firstOr p n (lastBelow f n) ≡ some k → (lastBelow f n ≡ some k → (k < n) × (f k ≡ true)) → (k < suc n) × (f k ≡ true)

@@ -7,14 +7,14 @@ use Prim.Native.Nat.{ℕ, _+_, _*_, _/_, _%_, _^_, _≤_, _<_, max}
 use native.Mathlib.Omega.{arith}
 use lib.Arith.{digits-div, digits-mod}
 use lib.Bits.{bitAnd, bitOr}
-use lib.ListN.{length, getD, set, take, List·getD-eq-default}
+use lib.ListN.{length, getD, List·getD-eq-default}
 use lib.Seq.{ext-getD}
 use borrow.Author.Tests.{eqb-true, eq-eqb}
-use Rattle.label.specs.Index.{tabulate}
+use Rattle.label.specs.Index.{every, tabulate}
 use Rattle.label.specs.Words.{bit, combine, combinedAt, has, includesAt, includesOf, intersectionOf, sameOf, unionOf, wordAt}
 use Rattle.label.proofs.BitLaws.{among-bits, bit-and, bit-high, bit-or, bits-among, bits-equal}
 use Rattle.label.proofs.BoolLaws.{both, either, exactly-both, first-true, or-first, or-second, same-truth, second-true}
-use Rattle.label.proofs.IndexLaws.{every-all, every-at, fill-done, fill-step, le-or-lt, tabulate-length, tabulate-pad}
+use Rattle.label.proofs.IndexLaws.{every-all, every-at, le-or-lt, tabulate-length, tabulate-pad}
 
 -- ---- by the word
 
@@ -42,24 +42,30 @@ pub union-length : (a b : List ℕ) → length (unionOf a b) ≡ max (length a) 
 unfolding unionOf combine
 union-length a b = tabulate-length (combinedAt bitOr a b) (max (length a) (length b))
 
--- a loop that combines two arrays of n words into r
-module _ (op : ℕ → ℕ → ℕ) (a b r : List ℕ) (i n : ℕ) (filled : take i r ≡ tabulate (combinedAt op a b) i) where
-  pub combine-step : i < length r → take (i + 1) (set r i (op (wordAt a i) (wordAt b i))) ≡ tabulate (combinedAt op a b) (i + 1)
-  combine-step h = fill-step (combinedAt op a b) r i (op (wordAt a i) (wordAt b i)) h refl filled
+-- of two arrays of n words
+pub includes-is : (a b : List ℕ) (n : ℕ) → length a ≡ n → length b ≡ n → every (includesAt a b) n ≡ includesOf a b
+unfolding includesOf
+includes-is a b n h k = let e : n ≡ max (length a) (length b) = omega arith in ap (every (includesAt a b)) e
 
-  pub combine-done : i ≡ n → length r ≡ n → length a ≡ n → length b ≡ n → r ≡ combine op a b
-  unfolding combine
-  combine-done e hr ha hb = fill-done (combinedAt op a b) r i (max (length a) (length b)) (omega arith) (omega arith) filled
+pub combine-is : (op : ℕ → ℕ → ℕ) (a b : List ℕ) (n : ℕ) → length a ≡ n → length b ≡ n → tabulate (combinedAt op a b) n ≡ combine op a b
+unfolding combine
+combine-is op a b n h k = let e : n ≡ max (length a) (length b) = omega arith in ap (tabulate (combinedAt op a b)) e
 
 -- ---- membership
 
+union-bit : (a b : List ℕ) (i j : ℕ) → bit (wordAt (unionOf a b) i) j ≡ (bit (wordAt a i) j || bit (wordAt b i) j)
+union-bit a b i j = ap (λ (w : ℕ). bit w j) (union-at a b i) ∙ bit-or (wordAt a i) (wordAt b i) j
+
+intersection-bit : (a b : List ℕ) (i j : ℕ) → bit (wordAt (intersectionOf a b) i) j ≡ (bit (wordAt a i) j && bit (wordAt b i) j)
+intersection-bit a b i j = ap (λ (w : ℕ). bit w j) (intersection-at a b i) ∙ bit-and (wordAt a i) (wordAt b i) j
+
 pub has-union : (a b : List ℕ) (c : ℕ) → has (unionOf a b) c ≡ (has a c || has b c)
 unfolding has
-has-union a b c = ap (λ (w : ℕ). bit w (c % 64)) (union-at a b (c / 64)) ∙ bit-or (wordAt a (c / 64)) (wordAt b (c / 64)) (c % 64)
+has-union a b c = union-bit a b (c / 64) (c % 64)
 
 pub has-intersection : (a b : List ℕ) (c : ℕ) → has (intersectionOf a b) c ≡ (has a c && has b c)
 unfolding has
-has-intersection a b c = ap (λ (w : ℕ). bit w (c % 64)) (intersection-at a b (c / 64)) ∙ bit-and (wordAt a (c / 64)) (wordAt b (c / 64)) (c % 64)
+has-intersection a b c = intersection-bit a b (c / 64) (c % 64)
 
 pub has-at : (a : List ℕ) (i j : ℕ) → j < 64 → has a (i * 64 + j) ≡ bit (wordAt a i) j
 unfolding has
@@ -116,22 +122,16 @@ includes-antisym a b l p q =
 pub union-includes : (a b c : List ℕ) → includesOf c (unionOf a b) ≡ (includesOf c a && includesOf c b)
 union-includes a b c =
     exactly-both (includesOf c (unionOf a b)) (includesOf c a) (includesOf c b)
-    (λ e. bits-include c a (λ i j h. includes-bits c (unionOf a b) e i j (or-bits i j ∙ or-first (bit (wordAt b i) j) h)))
-    (λ e. bits-include c b (λ i j h. includes-bits c (unionOf a b) e i j (or-bits i j ∙ or-second (bit (wordAt a i) j) h)))
-    (λ p q. bits-include c (unionOf a b) (λ i j h. ⊎-elim (includes-bits c a p i j) (includes-bits c b q i j) (either (bit (wordAt a i) j) (bit (wordAt b i) j) (sym (or-bits i j) ∙ h))))
-  where
-    or-bits : (i j : ℕ) → bit (wordAt (unionOf a b) i) j ≡ (bit (wordAt a i) j || bit (wordAt b i) j)
-    or-bits i j = ap (λ (w : ℕ). bit w j) (union-at a b i) ∙ bit-or (wordAt a i) (wordAt b i) j
+    (λ e. bits-include c a (λ i j h. includes-bits c (unionOf a b) e i j (union-bit a b i j ∙ or-first (bit (wordAt b i) j) h)))
+    (λ e. bits-include c b (λ i j h. includes-bits c (unionOf a b) e i j (union-bit a b i j ∙ or-second (bit (wordAt a i) j) h)))
+    (λ p q. bits-include c (unionOf a b) (λ i j h. ⊎-elim (includes-bits c a p i j) (includes-bits c b q i j) (either (bit (wordAt a i) j) (bit (wordAt b i) j) (sym (union-bit a b i j) ∙ h))))
 
 pub includes-intersection : (a b c : List ℕ) → includesOf (intersectionOf a b) c ≡ (includesOf a c && includesOf b c)
 includes-intersection a b c =
     exactly-both (includesOf (intersectionOf a b) c) (includesOf a c) (includesOf b c)
-    (λ e. bits-include a c (λ i j h. first-true (bit (wordAt a i) j) (bit (wordAt b i) j) (sym (and-bits i j) ∙ includes-bits (intersectionOf a b) c e i j h)))
-    (λ e. bits-include b c (λ i j h. second-true (bit (wordAt a i) j) (bit (wordAt b i) j) (sym (and-bits i j) ∙ includes-bits (intersectionOf a b) c e i j h)))
-    (λ p q. bits-include (intersectionOf a b) c (λ i j h. and-bits i j ∙ both (includes-bits a c p i j h) (includes-bits b c q i j h)))
-  where
-    and-bits : (i j : ℕ) → bit (wordAt (intersectionOf a b) i) j ≡ (bit (wordAt a i) j && bit (wordAt b i) j)
-    and-bits i j = ap (λ (w : ℕ). bit w j) (intersection-at a b i) ∙ bit-and (wordAt a i) (wordAt b i) j
+    (λ e. bits-include a c (λ i j h. first-true (bit (wordAt a i) j) (bit (wordAt b i) j) (sym (intersection-bit a b i j) ∙ includes-bits (intersectionOf a b) c e i j h)))
+    (λ e. bits-include b c (λ i j h. second-true (bit (wordAt a i) j) (bit (wordAt b i) j) (sym (intersection-bit a b i j) ∙ includes-bits (intersectionOf a b) c e i j h)))
+    (λ p q. bits-include (intersectionOf a b) c (λ i j h. intersection-bit a b i j ∙ both (includes-bits a c p i j h) (includes-bits b c q i j h)))
 
 -- ---- equality
 

@@ -1,12 +1,14 @@
 -- What a valid request has. Assumes nothing.
 use mathlib.Core.Bool.{Bool, true, false, _&&_, true≢false}
 use mathlib.Core.Path.{_≡_, refl, sym, _∙_}
-use Rattle.label.specs.Answer.{Answer, granted, require}
+use Rattle.label.specs.Answer.{Answer, granted, require, testOf}
 use Rattle.label.specs.Label
 use Rattle.label.specs.declared.Label.{Label}
+use Rattle.label.specs.declared.answer.Test.{Test}
 use Rattle.range.specs.Range
 use Rattle.range.specs.Tuple
-use Rattle.label.proofs.BoolLaws.{both, first-true, not-so, same-truth, second-true, three-true}
+use Rattle.label.proofs.AnswerLaws.{readBy, test-read}
+use Rattle.label.proofs.BoolLaws.{and-implied, both, first-true, not-so, second-true, three-true}
 use Rattle.range.proofs.RangeLaws.{contains-valid}
 use Rattle.monitor.specs.Monitor.{attributeValid, credentialsValid, implies, intentsValid, kindValid, labelOrTuple, labelValid, objectValid, tupleValid, validOf}
 use Rattle.monitor.specs.declared.Credentials.{Credentials}
@@ -45,15 +47,14 @@ subject-valid c e =
     let v = Range.validOf (c .range) in
     contains-valid (c .range) (c .label) (first-true v _ e) (second-true v _ e)
 
--- so that `range::contains`, which tests the label too, tests no more than the credentials
-pub credentials-tested : (c : Credentials) →
-    (Range.validOf (c .range) && Label.validOf (c .label) && Range.containsOf (c .range) (c .label)) ≡ credentialsValid c
+-- so that what `range::contains` answers, which tests the label too, tells of the credentials
+pub credentials-read : (c : Credentials) {u v : Test} → u ≡ v
+    → testOf u ≡ require (Range.validOf (c .range) && Label.validOf (c .label)) 22 (granted (Range.containsOf (c .range) (c .label)))
+    → readBy (λ b. b) (testOf v) ≡ credentialsValid c
 unfolding credentialsValid
-credentials-tested c =
-    let v = Range.validOf (c .range) in
-    let i = Range.containsOf (c .range) (c .label) in
-    same-truth _ _ (λ e. let t = three-true v (Label.validOf (c .label)) i e in both (t .0) (t .2)) (λ e.
-    both (both (first-true v i e) (subject-valid c e)) (second-true v i e))
+credentials-read c e h =
+    test-read (λ b. b) (Range.validOf (c .range) && Label.validOf (c .label)) (Range.containsOf (c .range) (c .label)) 22 e h
+    ∙ and-implied _ _ _ (contains-valid (c .range) (c .label))
 
 pub tuple-valid : (o : Object) → objectValid o ≡ true → tupleValid o ≡ true
 unfolding objectValid

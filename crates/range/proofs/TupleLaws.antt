@@ -312,16 +312,9 @@ cut-labels x l r f k = go (reaches x r) refl
         let b = dominates-parts l (x .low) (s .above) .hierarchy in
         true≢false (sym (both (le-leb (firstOf r) (x .high .hierarchy) (omega arith)) (le-leb (x .low .hierarchy) (lastOf r) (omega arith))) ∙ h)))
 
--- a label in a valid range is valid
-contained-hierarchy : (x : Range) (l : Label) → Range.validOf x ≡ true → Range.containsOf x l ≡ true → l .hierarchy ≤ 199
-contained-hierarchy x l v c =
-    let top = valid-hierarchy (x .high) (valid-parts x v .high) in
-    let a = dominates-parts (x .high) l (contains-parts x l c .below) .hierarchy in
-    omega arith
-
 pub split-labels : (x : Range) (l : Label) → Range.validOf x ≡ true → containsOf (splitOf x) l ≡ Range.containsOf x l
 unfolding splitOf containsOf
 split-labels x l v =
     let r : ℕ = regionOf (l .hierarchy) in
     let w = region-within (l .hierarchy) in
-    ap (λ (e : RegionRange). containsAt e l) (range-of (cutOf x) r (w .known)) ∙ cut-labels x l r (w .first) (λ c. w .last (contained-hierarchy x l v c))
+    ap (λ (e : RegionRange). containsAt e l) (range-of (cutOf x) r (w .known)) ∙ cut-labels x l r (w .first) (λ c. w .last (valid-hierarchy l (contains-valid x l v c)))

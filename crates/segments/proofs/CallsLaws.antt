@@ -1,11 +1,10 @@
 -- What a tenant call reads and what it changes: its caller's own slots, what no tenant call changes, and, for a look at another's slot,
 -- what is visible of that slot. Nothing above these laws opens `stepOf`. Assumes nothing.
 use mathlib.Core.Bool.{Bool, true, false, not, _&&_, true≢false}
-use mathlib.Core.Logic.{_⊎_, inl, inr, ⊎-elim}
-use mathlib.Core.Option.{Option, none, some}
+use mathlib.Core.Logic.{_⊎_, inl, inr}
+use mathlib.Core.Option.{Option, none, some, Option·none-ne-some}
 use mathlib.Core.Path.{_≡_, refl, sym, ap, ap₂, _∙_}
 use Prim.Native.Nat.{ℕ, _+_, _-_, _<_}
-use native.Mathlib.Omega.{arith}
 use borrow.Author.Tests.{ltb-true}
 use lib.Dec.{leb, ltb}
 use Rattle.label.specs.Answer.{Answer, granted, refused, require}
@@ -14,9 +13,9 @@ use Rattle.label.specs.Label
 use Rattle.label.specs.declared.Label.{Label}
 use Rattle.label.proofs.AnswerLaws.{grant-passed, require-same}
 use Rattle.label.proofs.BoolLaws.{first-true, three-true}
-use Rattle.label.proofs.SearchLaws.{first-same, same-or-not, sum-same}
+use Rattle.label.proofs.SearchLaws.{first-same, sum-same}
 use Rattle.range.specs.Tuple
-use Rattle.segments.specs.Calls.{accessOf, answerOf, callOf, callValid, cleared, found, grantOf, lookedAt, numbersValid, pagesFit, permitted, slotFor, slotOr0, stepOf, target, visible, writable, written}
+use Rattle.segments.specs.Calls.{accessOf, answerOf, callOf, callValid, cleared, found, grantOf, lookedAt, numbersValid, pagesFit, permitted, slotFor, slotOr0, slotValid, stepOf, target, visible, writable, written}
 use Rattle.segments.specs.Replies.{Grant, left, shown}
 use Rattle.segments.specs.Segments.{Lengths, ceilingAt, pagesAt, segmentAt, slot, slots, tenants, withSegment}
 use Rattle.segments.specs.Slots.{asSlot, emptyAt, filled, firstSlot, lowestEmpty, owns, pagesOf, slotCount}
@@ -30,7 +29,7 @@ use Rattle.segments.specs.declared.Slot.{Slot}
 use Rattle.segments.specs.declared.Tenant.{Tenant}
 use Rattle.segments.specs.declared.TenantId.{TenantId}
 use Rattle.segments.proofs.SegmentsLaws.{lengths-kept, segment-kept, segment-same, segment-written, tenant-same}
-use Rattle.segments.proofs.SlotsLaws.{lowest-own, count-kept, first-kept, own-of, own-slot, owns-kept, same-slot}
+use Rattle.segments.proofs.SlotsLaws.{by-slot, lowest-own, count-kept, first-kept, own-of, own-slot, owns-kept, same-slot}
 
 -- ---- the slot that a call is about
 
@@ -40,6 +39,10 @@ writable-own s t l p e =
     let h = three-true (owns s t p) (filled s p) (Label.equalOf l (segmentAt s p .label)) e in
     (h .0, h .1)
 
+-- of the slot that a call names
+pub writable-at : (s : SegmentTable) (t : TenantId) (l : Label) (q p : Slot) → some q ≡ some p → writable s t l q ≡ true → writable s t l p ≡ true
+writable-at s t l q p f e = let i : q ≡ p = cc in rw (← i) e
+
 -- a call that looks, if at all, at a slot of its caller's own
 abbrev pub LooksAtOwn : SegmentTable → TenantId → Action → Type 0
 LooksAtOwn s t a = (p : Slot) → lookedAt a ≡ some p → owns s t p ≡ true
@@ -48,10 +51,10 @@ LooksAtOwn s t a = (p : Slot) → lookedAt a ≡ some p → owns s t p ≡ true
 pub target-own : (s : SegmentTable) (t : TenantId) (l : Label) (a : Action) (p : Slot) → t .0 < tenants → LooksAtOwn s t a
     → permitted s t l a ≡ true → slotFor s t a ≡ some p → owns s t p ≡ true
 target-own s t l (Open x) p h m e f = lowest-own s t p h f
-target-own s t l (Size x) p h m e f = let q : x .slot ≡ p = cc in ap (owns s t) (sym q) ∙ writable-own s t l (x .slot) e .0
-target-own s t l (Post x) p h m e f = let q : x .slot ≡ p = cc in ap (owns s t) (sym q) ∙ writable-own s t l (x .slot) e .0
+target-own s t l (Size x) p h m e f = writable-own s t l p (writable-at s t l (x .slot) p f e) .0
+target-own s t l (Post x) p h m e f = writable-own s t l p (writable-at s t l (x .slot) p f e) .0
 target-own s t l (Look x) p h m e f = m p f
-target-own s t l (Close x) p h m e f = let q : x .slot ≡ p = cc in ap (owns s t) (sym q) ∙ writable-own s t l (x .slot) e .0
+target-own s t l (Close x) p h m e f = writable-own s t l p (writable-at s t l (x .slot) p f e) .0
 
 -- a valid call's tenant is one
 pub valid-tenant : (s : SegmentTable) (t : TenantId) (l : Label) (a : Action) → callValid s (callOf t l a) ≡ true → t .0 < tenants
@@ -62,6 +65,20 @@ valid-tenant s t l a e =
 pub valid-numbers : (s : SegmentTable) (t : TenantId) (l : Label) (a : Action) → callValid s (callOf t l a) ≡ true → numbersValid a ≡ true
 unfolding callValid
 valid-numbers s t l a e = three-true (admitted s t) (Label.validOf l) (numbersValid a) e .2
+
+slot-in : (q p : Slot) → slotValid q ≡ true → some q ≡ some p → p .0 < slots
+slot-in q p v e = let r : q ≡ p = cc in rw (← r) (ltb-true (q .0) slots v)
+
+-- the slot that a valid call is about is one
+pub valid-slot : (s : SegmentTable) (t : TenantId) (l : Label) (a : Action) (p : Slot) → callValid s (callOf t l a) ≡ true → slotFor s t a ≡ some p → p .0 < slots
+valid-slot s t l a p e f = go a (valid-numbers s t l a e) f
+  where
+    go : (a : Action) → numbersValid a ≡ true → slotFor s t a ≡ some p → p .0 < slots
+    go (Open x) n f = own-slot s t p (lowest-own s t p (valid-tenant s t l a e) f)
+    go (Size x) n f = slot-in (x .slot) p (first-true (slotValid (x .slot)) _ n) f
+    go (Post x) n f = slot-in (x .slot) p n f
+    go (Look x) n f = slot-in (x .slot) p n f
+    go (Close x) n f = slot-in (x .slot) p n f
 
 -- ---- two states that are alike for a tenant
 
@@ -211,7 +228,7 @@ pub record Passed (s : SegmentTable) (t : TenantId) (l : Label) (a : Action) : T
   pub slot-is : slotFor s t a ≡ some slot
   pub fits : pagesFit s t a ≡ true
 
-slot-found : (o : Option Slot) → found o ≡ true → o ≡ some (slotOr0 o)
+pub slot-found : (o : Option Slot) → found o ≡ true → o ≡ some (slotOr0 o)
 slot-found none e = absurd (true≢false (sym e))
 slot-found (some p) e = refl
 
@@ -259,18 +276,11 @@ abbrev lookOf : Slot → Action
 lookOf p = Look (record { slot = p })
 
 looks : (a : Action) (p : Slot) → lookedAt a ≡ some p → a ≡ lookOf p
-looks (Open x) p e = let z : _≡_ {A = ℕ} 0 1 = cc in absurd (omega arith)
-looks (Size x) p e = let z : _≡_ {A = ℕ} 0 1 = cc in absurd (omega arith)
-looks (Post x) p e = let z : _≡_ {A = ℕ} 0 1 = cc in absurd (omega arith)
+looks (Open x) p e = absurd (Option·none-ne-some p e)
+looks (Size x) p e = absurd (Option·none-ne-some p e)
+looks (Post x) p e = absurd (Option·none-ne-some p e)
 looks (Look x) p e = let q : x .slot ≡ p = cc in ap lookOf q
-looks (Close x) p e = let z : _≡_ {A = ℕ} 0 1 = cc in absurd (omega arith)
-
-pub look-or-not : {A : Type 0} (a : Action) → (lookedAt a ≡ none → A) → ((p : Slot) → lookedAt a ≡ some p → A) → A
-look-or-not {A} a f g = go (lookedAt a) refl
-  where
-    go : (o : Option Slot) → lookedAt a ≡ o → A
-    go none e = f e
-    go (some p) e = g p e
+looks (Close x) p e = absurd (Option·none-ne-some p e)
 
 -- a look changes nothing
 pub look-next : (s : SegmentTable) (t : TenantId) (l : Label) (a : Action) (p : Slot) → lookedAt a ≡ some p → stepOf s (callOf t l a) .table ≡ s
@@ -289,60 +299,60 @@ look-access s t l a p e = ap (λ (a : Action). accessOf s (callOf t l a)) (looks
 
 -- a call that doesn't look
 pub looks-at-own : (s : SegmentTable) (t : TenantId) (a : Action) → lookedAt a ≡ none → LooksAtOwn s t a
-looks-at-own s t a e p f = let z : none ≡ some p = sym e ∙ f in let y : _≡_ {A = ℕ} 0 1 = cc in absurd (omega arith)
+looks-at-own s t a e p f = absurd (Option·none-ne-some p (sym e ∙ f))
+
+-- what a call does: it looks, is refused, or puts what it writes into a slot of its caller's own
+pub data Effect (s : SegmentTable) (t : TenantId) (l : Label) (a : Action) : Type 0 where
+  looking : (p : Slot) → lookedAt a ≡ some p → Effect s t l a
+  refusing : (n : ℕ) (detail : Option ℕ) → lookedAt a ≡ none → answerOf s (callOf t l a) ≡ refused n detail → Effect s t l a
+  writing : (g : Grant) → lookedAt a ≡ none → answerOf s (callOf t l a) ≡ granted g → (r : Passed s t l a) → owns s t (r .slot) ≡ true
+      → stepOf s (callOf t l a) .table ≡ withSegment s (r .slot) (written (segmentAt s (r .slot)) l a) → Effect s t l a
+
+pub effect : (s : SegmentTable) (t : TenantId) (l : Label) (a : Action) → Effect s t l a
+effect s t l a = go (lookedAt a) refl (answerOf s (callOf t l a)) refl
+  where
+    go : (o : Option Slot) → lookedAt a ≡ o → (x : Answer Grant) → answerOf s (callOf t l a) ≡ x → Effect s t l a
+    go (some p) m x e = looking p m
+    go none m (refused n detail) e = refusing n detail m e
+    go none m (granted g) e =
+        let r = granted-passed s t l a g e in
+        writing g m e r (target-own s t l a (r .slot) (valid-tenant s t l a (r .is-valid)) (looks-at-own s t a m) (r .is-permitted) (r .slot-is))
+        (next-granted s (callOf t l a) g e ∙ ap (λ (p : Slot). withSegment s p (written (segmentAt s p) l a)) (ap slotOr0 (r .slot-is)))
 
 -- a call leaves the slots of all others as they were
 pub untouched : (s : SegmentTable) (t : TenantId) (l : Label) (a : Action) (p : Slot) → owns s t p ≡ false → segmentAt (stepOf s (callOf t l a) .table) p ≡ segmentAt s p
-untouched s t l a p h =
-    look-or-not a (λ e. other (looks-at-own s t a e) (answerOf s (callOf t l a)) refl)
-    (λ q e. ap (λ (u : SegmentTable). segmentAt u p) (look-next s t l a q e))
+untouched s t l a p h = by (effect s t l a)
   where
-    other : LooksAtOwn s t a → (x : Answer Grant) → answerOf s (callOf t l a) ≡ x → segmentAt (stepOf s (callOf t l a) .table) p ≡ segmentAt s p
-    other m (refused n detail) e = ap (λ (u : SegmentTable). segmentAt u p) (next-refused s (callOf t l a) n detail e)
-    other m (granted g) e =
-        let r = granted-passed s t l a g e in
-        let q = slotOr0 (slotFor s t a) in
-        let o : owns s t (r .slot) ≡ true = target-own s t l a (r .slot) (valid-tenant s t l a (r .is-valid)) m (r .is-permitted) (r .slot-is) in
-        let w : slotOr0 (slotFor s t a) ≡ r .slot = ap slotOr0 (r .slot-is) in
-        ap (λ (u : SegmentTable). segmentAt u p) (next-granted s (callOf t l a) g e)
-        ∙ segment-kept s q p _ (λ i. true≢false (sym (ap (owns s t) (same-slot p (r .slot) (i ∙ ap (λ (p : Slot). p .0) w)) ∙ o) ∙ h))
+    by : Effect s t l a → segmentAt (stepOf s (callOf t l a) .table) p ≡ segmentAt s p
+    by (looking q e) = ap (λ (u : SegmentTable). segmentAt u p) (look-next s t l a q e)
+    by (refusing n detail m e) = ap (λ (u : SegmentTable). segmentAt u p) (next-refused s (callOf t l a) n detail e)
+    by (writing g m e r o f) =
+        ap (λ (u : SegmentTable). segmentAt u p) f ∙ segment-kept s (r .slot) p _ (λ i. true≢false (sym (ap (owns s t) (same-slot p (r .slot) i) ∙ o) ∙ h))
 
 -- what a call makes of its caller's own slots depends on these and on what never changes
 module _ (t : TenantId) (s u : SegmentTable) (k : Alike t s u) where
   -- the same segment put into the same slot
   written-same : (q : Slot) (x : Segment) (p : Slot) → q .0 < slots → segmentAt s p ≡ segmentAt u p → segmentAt (withSegment s q x) p ≡ segmentAt (withSegment u q x) p
   written-same q x p h e =
-      ⊎-elim
-      (λ (i : p .0 ≡ q .0).
-      rw (same-slot p q i) (segment-written s q x (k .lengths .0) h ∙ sym (segment-written u q x (k .lengths .1) h)))
-      (λ (i : p .0 ≡ q .0 → ⊥). segment-kept s q p x i ∙ e ∙ sym (segment-kept u q p x i))
-      (same-or-not (p .0) (q .0))
+      by-slot (λ (p : Slot). segmentAt s p ≡ segmentAt u p → segmentAt (withSegment s q x) p ≡ segmentAt (withSegment u q x) p) q p
+      (λ e. segment-written s q x (k .lengths .0) h ∙ sym (segment-written u q x (k .lengths .1) h))
+      (λ p i e. segment-kept s q p x i ∙ e ∙ sym (segment-kept u q p x i)) e
 
   pub own-next : (l : Label) (a : Action) (p : Slot) → owns s t p ≡ true → segmentAt (stepOf s (callOf t l a) .table) p ≡ segmentAt (stepOf u (callOf t l a) .table) p
-  own-next l a p h =
-      look-or-not a (λ e. other (looks-at-own s t a e) (answerOf s (callOf t l a)) refl)
-      (λ q e. rw (look-next s t l a q e, look-next u t l a q e) (k .own p h))
+  own-next l a p h = by (effect s t l a)
     where
-      next : (v : SegmentTable) (g : Grant) → answerOf v (callOf t l a) ≡ granted g
-          → segmentAt (stepOf v (callOf t l a) .table) p ≡ segmentAt (withSegment v (slotOr0 (slotFor v t a)) (written (segmentAt v (slotOr0 (slotFor v t a))) l a)) p
-      next v g e = ap (λ (w : SegmentTable). segmentAt w p) (next-granted v (callOf t l a) g e)
-
-      other : LooksAtOwn s t a → (x : Answer Grant) → answerOf s (callOf t l a) ≡ x
-          → segmentAt (stepOf s (callOf t l a) .table) p ≡ segmentAt (stepOf u (callOf t l a) .table) p
-      other m (refused n detail) e =
-          rw (next-refused s (callOf t l a) n detail e, next-refused u (callOf t l a) n detail (sym (answer-same t s u k l a m) ∙ e)) (k .own p h)
-      other m (granted g) e =
-          let r = granted-passed s t l a g e in
-          let v = valid-tenant s t l a (r .is-valid) in
-          let i : slotOr0 (slotFor s t a) ≡ slotOr0 (slotFor u t a) = target-same t s u k v l a in
-          let w : slotOr0 (slotFor s t a) ≡ r .slot = ap slotOr0 (r .slot-is) in
-          let o : owns s t (slotOr0 (slotFor s t a)) ≡ true = ap (owns s t) w ∙ target-own s t l a (r .slot) v m (r .is-permitted) (r .slot-is) in
-          let f : segmentAt s (slotOr0 (slotFor s t a)) ≡ segmentAt u (slotOr0 (slotFor s t a)) = k .own _ o in
-          next s g e
-          ∙ written-same (slotOr0 (slotFor s t a)) (written (segmentAt s (slotOr0 (slotFor s t a))) l a) p (own-slot s t _ o) (k .own p h)
-          ∙ ap (λ (x : Segment). segmentAt (withSegment u (slotOr0 (slotFor s t a)) (written x l a)) p) f
-          ∙ ap (λ (q : Slot). segmentAt (withSegment u q (written (segmentAt u q) l a)) p) i
-          ∙ sym (next u g (sym (answer-same t s u k l a m) ∙ e))
+      by : Effect s t l a → segmentAt (stepOf s (callOf t l a) .table) p ≡ segmentAt (stepOf u (callOf t l a) .table) p
+      by (looking q e) = rw (look-next s t l a q e, look-next u t l a q e) (k .own p h)
+      by (refusing n detail m e) =
+          rw (next-refused s (callOf t l a) n detail e, next-refused u (callOf t l a) n detail (sym (answer-same t s u k l a (looks-at-own s t a m)) ∙ e)) (k .own p h)
+      by (writing g m e r o f) =
+          let i : slotOr0 (slotFor u t a) ≡ r .slot = sym (target-same t s u k (valid-tenant s t l a (r .is-valid)) l a) ∙ ap slotOr0 (r .slot-is) in
+          let w : stepOf u (callOf t l a) .table ≡ withSegment u (r .slot) (written (segmentAt u (r .slot)) l a) =
+          next-granted u (callOf t l a) g (sym (answer-same t s u k l a (looks-at-own s t a m)) ∙ e) ∙ ap (λ (q : Slot). withSegment u q (written (segmentAt u q) l a)) i in
+          ap (λ (v : SegmentTable). segmentAt v p) f
+          ∙ written-same (r .slot) (written (segmentAt s (r .slot)) l a) p (own-slot s t (r .slot) o) (k .own p h)
+          ∙ ap (λ (x : Segment). segmentAt (withSegment u (r .slot) (written x l a)) p) (k .own (r .slot) o)
+          ∙ sym (ap (λ (v : SegmentTable). segmentAt v p) w)
 
 -- ---- what two states that are alike answer before a slot is looked into
 

@@ -1,6 +1,6 @@
 -- What is left of a limit, and what fits into it. Assumes nothing.
 use mathlib.Core.Bool.{Bool, true, false, cond}
-use mathlib.Core.Option.{none, some}
+use mathlib.Core.Option.{Option, none, some}
 use mathlib.Core.Path.{_≡_, refl, ap, _∙_}
 use Prim.Native.Nat.{ℕ, _+_, _-_, _≤_, _<_}
 use native.Mathlib.Nat.{add-zero}
@@ -68,8 +68,9 @@ left-never limit used h e =
     let z : _≡_ {A = ℕ} 0 1 = cc in
     omega arith
 
-pub kept-exact : (limit n : ℕ) → keptIn (leftOf limit n) ≡ leb n limit
-kept-exact limit n = by (leb n limit)
+-- whether the limit is kept is told by what is left of it
+pub kept-exact : (limit n : ℕ) {x : Option ℕ} {r : Bool} → x ≡ leftOf limit n → r ≡ keptIn x → r ≡ leb n limit
+kept-exact limit n e f = f ∙ ap keptIn e ∙ by (leb n limit)
   where
     by : (p : Bool) → keptIn (cond p (some (limit - n)) none) ≡ p
     by true = refl

@@ -7,7 +7,7 @@ use native.Mathlib.Omega.{arith}
 use borrow.Author.Tests.{le-leb, leb-true, lt-ltb, ltb-true}
 use lib.Dec.{leb, ltb}
 use lib.ListN.{getD-replicate}
-use Rattle.label.specs.Answer.{Answer, granted, refused}
+use Rattle.label.specs.Answer.{Answer, granted, refused, require}
 use Rattle.label.specs.Index.{any}
 use Rattle.label.specs.Region.{regions}
 use Rattle.label.specs.declared.Label.{Label}
@@ -20,9 +20,10 @@ use Rattle.range.specs.declared.tuple.RegionRange.{RegionRange}
 use Rattle.range.specs.declared.tuple.Tuple.{Tuple}
 use Rattle.range.proofs.TupleLaws.{absent-valid, empty-none}
 use Rattle.segments.specs.Operator.{admitAnswer, admitOf, makeAnswer, makeOf, setCeilingAnswer, setCeilingOf}
+use Rattle.segments.specs.Parts.{poolAnswer}
 use Rattle.segments.specs.Replies.{Grant, done, left}
 use Rattle.segments.specs.Segments.{Lengths, ceilingAt, clearanceAt, emptyTable, pagesAt, pagesValid, segmentAt, slot, slots, tenantAt, tenantId, tenantOf, tenants, withTenant, zeroSegment, zeroTenant}
-use Rattle.segments.specs.Slots.{ceilingsOf, firstSlot, owns, pagesOf, slotCount}
+use Rattle.segments.specs.Slots.{ceilingsOf, firstSlot, pagesOf, slotCount}
 use Rattle.segments.specs.Sound.{admitted, sound, tenantSound, zeros}
 use Rattle.segments.specs.declared.Segment.{Segment}
 use Rattle.segments.specs.declared.SegmentTable.{SegmentTable}
@@ -30,8 +31,8 @@ use Rattle.segments.specs.declared.Slot.{Slot}
 use Rattle.segments.specs.declared.Tenant.{Tenant}
 use Rattle.segments.specs.declared.TenantId.{TenantId}
 use Rattle.segments.proofs.SegmentsLaws.{tenant-kept, tenant-written}
-use Rattle.segments.proofs.SlotsLaws.{count-stays, first-stays, own-bound, owns-stays, same-tenant}
-use Rattle.segments.proofs.SoundLaws.{Sound, admitted-parts, held, parts-sound, slot-held, sound-parts, zeros-held}
+use Rattle.segments.proofs.SlotsLaws.{by-tenant, count-stays, first-stays, own-bound, owns-stays}
+use Rattle.segments.proofs.SoundLaws.{Sound, admitted-parts, clears, clears-parts, held, parts-sound, slot-held, sound-parts, zeros-held}
 
 -- ---- another record for a tenant
 
@@ -55,29 +56,23 @@ module _ (s : SegmentTable) (t : TenantId) (x : Tenant) (lengths : Lengths s) (n
   -- what a slot may hold, it still may where the new clearance has all labels of the old one
   held-with : ((l : Label) → Tuple.containsOf (clearanceAt s t) l ≡ true → Tuple.containsOf (x .clearance) l ≡ true)
       → (p : Slot) (y : Segment) → held s p y ≡ true → held next p y ≡ true
-  held-with h p y e = go (leb 1 (y .pages)) refl e
+  held-with h p y e = go (leb 1 (y .pages)) e
     where
-      clears : (u : TenantId) → Tuple.containsOf (clearanceAt s u) (y .label) ≡ true → Tuple.containsOf (clearanceAt next u) (y .label) ≡ true
-      clears u f =
-          ⊎-elim
-          (λ (i : u .0 ≡ t .0).
-          let j = same-tenant u t i in
-          ap (λ (u : TenantId). Tuple.containsOf (clearanceAt next u) (y .label)) j
-          ∙ ap (λ (z : Tenant). Tuple.containsOf (z .clearance) (y .label)) (tenant-written s t x lengths number)
-          ∙ h (y .label) (ap (λ (u : TenantId). Tuple.containsOf (clearanceAt s u) (y .label)) (sym j) ∙ f))
-          (λ (i : u .0 ≡ t .0 → ⊥). ap (λ (z : Tenant). Tuple.containsOf (z .clearance) (y .label)) (tenant-kept s t u x i) ∙ f)
-          (same-or-not (u .0) (t .0))
+      same : (v w : Tenant) → v ≡ w → Tuple.containsOf (w .clearance) (y .label) ≡ true → Tuple.containsOf (v .clearance) (y .label) ≡ true
+      same v w i f = ap (λ (z : Tenant). Tuple.containsOf (z .clearance) (y .label)) i ∙ f
 
-      go : (b : Bool) → leb 1 (y .pages) ≡ b
-          → cond b (any (λ u. owns s (tenantId u) p && Tuple.containsOf (clearanceAt s (tenantId u)) (y .label)) tenants) (zeros y) ≡ true
-          → cond b (any (λ u. owns next (tenantId u) p && Tuple.containsOf (clearanceAt next (tenantId u)) (y .label)) tenants) (zeros y) ≡ true
-      go false i e = e
-      go true i e =
-          any-then (λ u. owns s (tenantId u) p && Tuple.containsOf (clearanceAt s (tenantId u)) (y .label)) tenants e
+      still : (u : TenantId) → Tuple.containsOf (clearanceAt s u) (y .label) ≡ true → Tuple.containsOf (clearanceAt next u) (y .label) ≡ true
+      still u =
+          by-tenant (λ (u : TenantId). Tuple.containsOf (clearanceAt s u) (y .label) ≡ true → Tuple.containsOf (clearanceAt next u) (y .label) ≡ true) t u
+          (λ f. same (tenantAt next t) x (tenant-written s t x lengths number) (h (y .label) f)) (λ u i. same (tenantAt next u) (tenantAt s u) (tenant-kept s t u x i))
+
+      go : (b : Bool) → cond b (any (clears s p (y .label)) tenants) (zeros y) ≡ true → cond b (any (clears next p (y .label)) tenants) (zeros y) ≡ true
+      go false e = e
+      go true e =
+          any-then (clears s p (y .label)) tenants e
           (λ k l f.
-          any-of (λ u. owns next (tenantId u) p && Tuple.containsOf (clearanceAt next (tenantId u)) (y .label)) tenants k l
-          (both (owns-stays s t (tenantId k) x p ∙ first-true _ (Tuple.containsOf (clearanceAt s (tenantId k)) (y .label)) f)
-          (clears (tenantId k) (second-true (owns s (tenantId k) p) (Tuple.containsOf (clearanceAt s (tenantId k)) (y .label)) f))))
+          let c = clears-parts s p (y .label) k f in
+          any-of (clears next p (y .label)) tenants k l (both (owns-stays s t (tenantId k) x p ∙ c .0) (still (tenantId k) (c .1))))
 
   with-sound : Sound s → tenantSound x ≡ true → ((l : Label) → Tuple.containsOf (clearanceAt s t) l ≡ true → Tuple.containsOf (x .clearance) l ≡ true)
       → ceilingsOf s + x .ceiling ≤ s .pool + ceilingAt s t → pagesOf s t ≤ x .ceiling → Sound next
@@ -85,25 +80,22 @@ module _ (s : SegmentTable) (t : TenantId) (x : Tenant) (lengths : Lengths s) (n
       record {
         pool = h .pool;
         tenant = λ u l.
-            ⊎-elim
-            (λ (i : u .0 ≡ t .0). rw (same-tenant u t i) (ap tenantSound (tenant-written s t x lengths number) ∙ e))
-            (λ (i : u .0 ≡ t .0 → ⊥). ap tenantSound (tenant-kept s t u x i) ∙ h .tenant u l)
-            (same-or-not (u .0) (t .0));
+            by-tenant (λ (u : TenantId). u .0 < tenants → tenantSound (tenantAt next u) ≡ true) t u (λ l. ap tenantSound (tenant-written s t x lengths number) ∙ e)
+            (λ u i l. ap tenantSound (tenant-kept s t u x i) ∙ h .tenant u l) l;
         segment = λ p l. slot-held next p ∙ held-with f p (segmentAt s p) (sym (slot-held s p) ∙ h .segment p l);
         ceilings = let c = ceilings-with in omega arith;
         pages = λ u l.
-            ⊎-elim
-            (λ (i : u .0 ≡ t .0).
+            by-tenant (λ (u : TenantId). u .0 < tenants → pagesOf next u ≤ ceilingAt next u) t u
+            (λ l.
             let a = pages-stay t in
             let b : ceilingAt next t ≡ x .ceiling = ap (λ (y : Tenant). y .ceiling) (tenant-written s t x lengths number) in
-            let g : pagesOf next t ≤ ceilingAt next t = omega arith in
-            rw (same-tenant u t i) g)
-            (λ (i : u .0 ≡ t .0 → ⊥).
+            omega arith)
+            (λ u i l.
             let a = pages-stay u in
             let b : ceilingAt next u ≡ ceilingAt s u = ap (λ (y : Tenant). y .ceiling) (tenant-kept s t u x i) in
             let c = h .pages u l in
             omega arith)
-            (same-or-not (u .0) (t .0));
+            l;
       }
 
 -- ---- the calls
@@ -115,6 +107,13 @@ not-admitted s t l e =
     ⊎-elim (λ (i : ceilingAt s t ≡ 0). i)
     (λ (i : ceilingAt s t ≡ 0 → ⊥). absurd (true≢false (sym e ∙ ap not (both (lt-ltb _ _ l) (le-leb 1 (ceilingAt s t) (omega (arith, i)))))))
     (same-or-not (ceilingAt s t) 0)
+
+-- so the pool has room for one that is new where the sum is at most the pool
+pub pool-new : (s : SegmentTable) (t : TenantId) (n : ℕ) → t .0 < tenants → admitted s t ≡ false → require (leb (ceilingsOf s + n) (s .pool)) 12 (granted done) ≡ poolAnswer s t n
+pool-new s t n l e =
+    let z = not-admitted s t l (ap not e) in
+    let h : ceilingsOf s ≡ ceilingsOf s - ceilingAt s t = omega arith in
+    ap (λ (k : ℕ). require (leb (k + n) (s .pool)) 12 (granted done)) h
 
 -- a record of at least a page
 tenant-sound-of : (n : ℕ) (c : Tuple) → 1 ≤ n → Tuple.validOf c ≡ true → not (Tuple.emptyOf c) ≡ true → tenantSound (tenantOf n c) ≡ true

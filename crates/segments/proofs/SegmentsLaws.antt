@@ -5,7 +5,7 @@ use Prim.Native.Nat.{_<_}
 use native.Mathlib.Omega.{arith}
 use lib.ListN.{length-set}
 use lib.Seq.{ext-getD, getD-set-other, getD-set-same, set-getD}
-use Rattle.segments.specs.Segments.{Lengths, segmentAt, segmentOf, slot, slots, tableOf, tenantAt, tenants, withSegment, withTenant}
+use Rattle.segments.specs.Segments.{Lengths, segmentAt, slot, slots, tableOf, tenantAt, tenants, withSegment, withTenant}
 use Rattle.segments.specs.declared.Segment.{Segment}
 use Rattle.segments.specs.declared.SegmentTable.{SegmentTable}
 use Rattle.segments.specs.declared.Slot.{Slot}
@@ -34,11 +34,6 @@ module _ (s : SegmentTable) where
 -- states with the same records have the same record for each tenant
 pub tenant-same : (s u : SegmentTable) (t : TenantId) → s .tenants ≡ u .tenants → tenantAt s t ≡ tenantAt u t
 tenant-same s u t e = ap (λ (ts : List Tenant). tenantAt (tableOf 0 ts (s .segments)) t) e
-
--- segments with the same three things are the same
-pub same-segment : (x y : Segment) → x .label ≡ y .label → x .pages ≡ y .pages → x .version ≡ y .version → x ≡ y
-same-segment x y e f g =
-    ap (λ l. segmentOf l (x .pages) (x .version)) e ∙ ap₂ (segmentOf (y .label)) f g
 
 -- states with the same pool, the same records and the same segment in each slot are the same
 pub same-table : (s u : SegmentTable) → Lengths s → Lengths u → s .pool ≡ u .pool → s .tenants ≡ u .tenants

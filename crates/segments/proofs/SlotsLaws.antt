@@ -1,8 +1,9 @@
 -- Whose a slot is, and a tenant's own slots. The laws of `firstSlot`, `slotCount` and `owns` stand here: nothing else opens these three.
 -- Assumes nothing.
-use mathlib.Core.Bool.{true, false, _&&_, true≢false}
-use mathlib.Core.Option.{Option, none, some}
-use mathlib.Core.Path.{_≡_, refl, sym, ap, ap₂, _∙_}
+use mathlib.Core.Bool.{true, false, _&&_}
+use mathlib.Core.Logic.{⊎-elim}
+use mathlib.Core.Option.{Option, none, some, Option·none-ne-some}
+use mathlib.Core.Path.{_≡_, refl, sym, ap, ap₂, subst, _∙_}
 use Prim.Native.Nat.{ℕ, _+_, _<_, _≤_}
 use native.Mathlib.Nat.{add-zero}
 use native.Mathlib.Omega.{arith}
@@ -10,8 +11,7 @@ use borrow.Author.Tests.{le-leb, leb-true, lt-ltb, ltb-true}
 use lib.Dec.{leb, ltb}
 use Rattle.label.specs.Index.{firstFrom, sumFrom}
 use Rattle.label.proofs.BoolLaws.{both, first-true, not-so, same-truth, second-true, three-true}
-use Rattle.label.proofs.SearchLaws.{first-least, hit, pass, sum-term}
-use Rattle.segments.specs.Calls.{found, slotOr0}
+use Rattle.label.proofs.SearchLaws.{first-least, hit, pass, same-or-not, sum-term}
 use Rattle.segments.specs.Segments.{ceilingAt, pagesAt, slot, slots, tenantId, tenants, withTenant}
 use Rattle.segments.specs.Slots.{asSlot, ceilingsOf, emptyAt, firstSlot, lowestEmpty, owns, pagesOf, slotCount}
 use Rattle.segments.specs.declared.SegmentTable.{SegmentTable}
@@ -25,6 +25,16 @@ same-slot p q e = ap slot e
 
 pub same-tenant : (t u : TenantId) → t .0 ≡ u .0 → t ≡ u
 same-tenant t u e = ap tenantId e
+
+-- what holds of one, and of any other, holds of each
+by-number : {A : Type 0} (number : A → ℕ) → ((x y : A) → number x ≡ number y → x ≡ y) → (P : A → Type 0) (x y : A) → P x → ((y : A) → (number y ≡ number x → ⊥) → P y) → P y
+by-number number same P x y h k = ⊎-elim (λ (e : number y ≡ number x). subst P (same x y (sym e)) h) (k y) (same-or-not (number y) (number x))
+
+pub by-slot : (P : Slot → Type 0) (p q : Slot) → P p → ((q : Slot) → (q .0 ≡ p .0 → ⊥) → P q) → P q
+by-slot = by-number (λ p. p .0) same-slot
+
+pub by-tenant : (P : TenantId → Type 0) (t u : TenantId) → P t → ((u : TenantId) → (u .0 ≡ t .0 → ⊥) → P u) → P u
+by-tenant = by-number (λ t. t .0) same-tenant
 
 -- ---- a tenant's own slots are those from its first on, as many as it has
 
@@ -113,23 +123,19 @@ unfolding lowestEmpty
 lowest-own s t p h e = go (firstFrom (emptyAt s) (firstSlot s t) (slotCount s t)) refl e
   where
     go : (o : Option ℕ) → firstFrom (emptyAt s) (firstSlot s t) (slotCount s t) ≡ o → asSlot o ≡ some p → owns s t p ≡ true
-    go none f e = let z : _≡_ {A = ℕ} 0 1 = cc in absurd (omega arith)
+    go none f e = absurd (Option·none-ne-some p e)
     go (some k) f e =
         let q : slot k ≡ p = cc in
         let r = first-least (emptyAt s) (firstSlot s t) (slotCount s t) k f in
         ap (owns s t) (sym q) ∙ own-of s t (slot k) h (r .0 .above) (r .1)
 
--- so it is a slot of the state
-pub found-slot : (s : SegmentTable) (t : TenantId) → t .0 < tenants → found (lowestEmpty s t) ≡ true → slotOr0 (lowestEmpty s t) .0 < slots
-found-slot s t h e = go (lowestEmpty s t) refl e
-  where
-    go : (x : Option Slot) → lowestEmpty s t ≡ x → found x ≡ true → slotOr0 x .0 < slots
-    go none k g = absurd (true≢false (sym g))
-    go (some p) k g = own-slot s t p (lowest-own s t p h k)
-
 -- ---- a tenant's own slots, by the first and the count that the code has
 
 module _ (s : SegmentTable) (t : TenantId) (first count : ℕ) (f : first ≡ firstSlot s t) (n : count ≡ slotCount s t) where
+  -- they are slots
+  pub bound-by : t .0 < tenants → first + count ≤ slots
+  bound-by h = let b = own-bound s t h in omega arith
+
   pub pages-by : sumFrom (λ p. pagesAt s (slot p)) first count ≡ pagesOf s t
   unfolding pagesOf
   pages-by = ap₂ (sumFrom (λ p. pagesAt s (slot p))) f n

@@ -1,27 +1,26 @@
 -- Soundness part by part, and that every call keeps it. Assumes nothing.
-use mathlib.Core.Bool.{Bool, true, false, cond, not, _&&_, _||_, true≢false}
-use mathlib.Core.Logic.{⊎-elim}
-use mathlib.Core.Option.{Option, none, some}
+use mathlib.Core.Bool.{Bool, true, false, cond, not, _&&_, _||_}
+use mathlib.Core.Option.{none, some, Option·some-ne-none}
 use mathlib.Core.Path.{_≡_, refl, sym, ap, _∙_}
 use Prim.Native.Nat.{ℕ, _+_, _-_, _<_, _≤_}
 use native.Mathlib.Omega.{arith}
 use borrow.Author.Tests.{le-leb, leb-true, ltb-true}
 use lib.Dec.{leb, ltb}
-use Rattle.label.specs.Answer.{Answer, granted, refused, require}
-use Rattle.label.specs.Index.{any, every}
+use Rattle.label.specs.Answer.{granted, require, testOf}
+use Rattle.label.specs.Index.{any}
 use Rattle.label.specs.Label
 use Rattle.label.specs.declared.Label.{Label}
-use Rattle.label.proofs.AnswerLaws.{grant-told, refusal-stopped}
-use Rattle.label.proofs.BoolLaws.{both, not-so, first-true, second-true, three-true}
+use Rattle.label.specs.declared.answer.Test.{Test}
+use Rattle.label.proofs.AnswerLaws.{readBy, test-read}
+use Rattle.label.proofs.BoolLaws.{and-implied, both, first-true, second-true, three-true}
 use Rattle.label.proofs.IndexLaws.{every-all, every-at}
 use Rattle.label.proofs.LabelLaws.{equal-exact}
-use Rattle.label.proofs.SearchLaws.{any-of, any-then, same-or-not, sum-but, sum-same}
+use Rattle.label.proofs.SearchLaws.{any-of, any-same, any-then, sum-but, sum-same}
 use Rattle.range.specs.Tuple
 use Rattle.range.specs.declared.tuple.Tuple.{Tuple}
 use Rattle.range.proofs.TupleLaws.{contained-valid}
-use Rattle.segments.specs.Parts.{tenantsSound}
-use Rattle.segments.specs.Calls.{answerOf, callOf, cleared, lookedAt, slotFor, slotOr0, slotValid, stepOf, writable, written}
-use Rattle.segments.specs.Replies.{Grant}
+use Rattle.segments.specs.Parts.{ceilingsKept, slotsSound, tenantsSound}
+use Rattle.segments.specs.Calls.{callOf, cleared, lookedAt, slotFor, slotValid, stepOf, writable, written}
 use Rattle.segments.specs.Segments.{Lengths, ceilingAt, clearanceAt, maxPages, pagesAt, pagesValid, segmentAt, segmentOf, slot, slots, tenantAt, tenantId, tenants, withSegment, zeroSegment}
 use Rattle.segments.specs.Slots.{ceilingsOf, filled, firstSlot, owns, pagesOf, slotCount}
 use Rattle.segments.specs.Sound.{admitted, clearedBy, slotSound, sound, tenantSound, underCeiling, zeros}
@@ -32,9 +31,9 @@ use Rattle.segments.specs.declared.SegmentTable.{SegmentTable}
 use Rattle.segments.specs.declared.Slot.{Slot}
 use Rattle.segments.specs.declared.Tenant.{Tenant}
 use Rattle.segments.specs.declared.TenantId.{TenantId}
-use Rattle.segments.proofs.CallsLaws.{Passed, granted-passed, looks-at-own, look-next, look-or-not, next-granted, next-refused, target-own, valid-numbers, valid-tenant, writable-own}
+use Rattle.segments.proofs.CallsLaws.{Effect, Passed, effect, look-next, looking, next-refused, refusing, valid-numbers, valid-tenant, writable-at, writable-own, writing}
 use Rattle.segments.proofs.SegmentsLaws.{segment-kept, segment-written}
-use Rattle.segments.proofs.SlotsLaws.{lowest-own, count-kept, first-kept, own-of, own-pages, own-parts, own-slot, owner-unique, owns-kept, same-slot, same-tenant}
+use Rattle.segments.proofs.SlotsLaws.{by-slot, by-tenant, lowest-own, count-kept, first-kept, own-of, own-pages, own-parts, own-slot, owner-unique, owns-kept, same-slot}
 
 -- ---- the parts
 
@@ -49,10 +48,10 @@ pub sound-parts : (s : SegmentTable) → sound s ≡ true → Sound s
 unfolding sound underCeiling
 sound-parts s e =
     let a : Bool = pagesValid (s .pool) in
-    let b : Bool = every (λ t. tenantSound (tenantAt s (tenantId t))) tenants in
-    let c : Bool = every (λ p. slotSound s (slot p)) slots in
+    let b : Bool = tenantsSound s in
+    let c : Bool = slotsSound s in
     let d : Bool = leb (ceilingsOf s) (s .pool) in
-    let f : Bool = every (λ t. underCeiling s (tenantId t)) tenants in
+    let f : Bool = ceilingsKept s in
     let h = first-true (((a && b) && c) && d) f e in
     let g = first-true ((a && b) && c) d h in
     let i = three-true a b c g in
@@ -89,72 +88,78 @@ tenant-clearance x e = first-true (Tuple.validOf (x .clearance)) (cond (leb 1 (x
 pub clearance-valid : (s : SegmentTable) (t : TenantId) → tenantsSound s ≡ true → t .0 < tenants → Tuple.validOf (clearanceAt s t) ≡ true
 clearance-valid s t e h = tenant-clearance (tenantAt s t) (every-at (λ i. tenantSound (tenantAt s (tenantId i))) tenants (t .0) e h)
 
--- what a test of a record's tuple tells
+-- what `tuple::is_empty` and `tuple::contains` answer, read as a yes or no
+
+pub empty-read : (f : Bool → Bool) (t : Tuple) {u v : Test} → u ≡ v → testOf u ≡ require (Tuple.validOf t) 22 (granted (Tuple.emptyOf t))
+    → readBy f (testOf v) ≡ (Tuple.validOf t && f (Tuple.emptyOf t))
+empty-read f t e h = test-read f (Tuple.validOf t) (Tuple.emptyOf t) 22 e h
 
 one-of : (p q : Bool) → (p && not q || not p && q) ≡ cond p (not q) q
 one-of true true = refl
 one-of true false = refl
 one-of false q = refl
 
-pub tenant-told : (x : Tenant) (b : Bool) → granted b ≡ require (Tuple.validOf (x .clearance)) 22 (granted (Tuple.emptyOf (x .clearance)))
-    → (leb 1 (x .ceiling) && not b || not (leb 1 (x .ceiling)) && b) ≡ tenantSound x
+pub tenant-read : (x : Tenant) {u v : Test} → u ≡ v → testOf u ≡ require (Tuple.validOf (x .clearance)) 22 (granted (Tuple.emptyOf (x .clearance)))
+    → readBy (λ b. leb 1 (x .ceiling) && not b || not (leb 1 (x .ceiling)) && b) (testOf v) ≡ tenantSound x
 unfolding tenantSound
-tenant-told x b h =
-    let k = grant-told (Tuple.validOf (x .clearance)) 22 b (Tuple.emptyOf (x .clearance)) h in
-    rw (k .0, k .1) (one-of (leb 1 (x .ceiling)) (Tuple.emptyOf (x .clearance)))
+tenant-read x e h = empty-read _ (x .clearance) e h ∙ ap (λ (b : Bool). Tuple.validOf (x .clearance) && b) (one-of (leb 1 (x .ceiling)) (Tuple.emptyOf (x .clearance)))
 
-pub tenant-refused : (x : Tenant) (n : ℕ) (d : Option ℕ) → refused n d ≡ require (Tuple.validOf (x .clearance)) 22 (granted (Tuple.emptyOf (x .clearance)))
-    → false ≡ tenantSound x
-unfolding tenantSound
-tenant-refused x n d h = rw (refusal-stopped (Tuple.validOf (x .clearance)) 22 n d (Tuple.emptyOf (x .clearance)) h)
-
--- what a test of a valid tuple tells is whether it contains the label, and its refusal a no
-pub contains-told : (t : Tuple) (l : Label) (b : Bool) → granted b ≡ require (Tuple.validOf t && Label.validOf l) 22 (granted (Tuple.containsOf t l)) → b ≡ Tuple.containsOf t l
-contains-told t l b h = grant-told (Tuple.validOf t && Label.validOf l) 22 b (Tuple.containsOf t l) h .1
-
-pub contains-refused : (t : Tuple) (l : Label) (n : ℕ) (d : Option ℕ) → Tuple.validOf t ≡ true
-    → refused n d ≡ require (Tuple.validOf t && Label.validOf l) 22 (granted (Tuple.containsOf t l)) → false ≡ Tuple.containsOf t l
-contains-refused t l n d v h =
-    sym (not-so (Tuple.containsOf t l) (λ e. true≢false (sym (both v (contained-valid t l v e)) ∙ refusal-stopped (Tuple.validOf t && Label.validOf l) 22 n d (Tuple.containsOf t l) h)))
+pub contains-read : (t : Tuple) (l : Label) {u v : Test} → Tuple.validOf t ≡ true → u ≡ v
+    → testOf u ≡ require (Tuple.validOf t && Label.validOf l) 22 (granted (Tuple.containsOf t l)) → readBy (λ b. b) (testOf v) ≡ Tuple.containsOf t l
+contains-read t l w e h =
+    test-read (λ b. b) (Tuple.validOf t && Label.validOf l) (Tuple.containsOf t l) 22 e h
+    ∙ and-implied _ _ _ (contained-valid t l) ∙ ap (λ (b : Bool). b && Tuple.containsOf t l) w
 
 -- ---- what a slot may hold
 
+-- whether tenant t owns slot p and l is in its clearance
+abbrev pub clears : SegmentTable → Slot → Label → ℕ → Bool
+clears s p l t = owns s (tenantId t) p && Tuple.containsOf (clearanceAt s (tenantId t)) l
+
+pub clears-parts : (s : SegmentTable) (p : Slot) (l : Label) (t : ℕ) → clears s p l t ≡ true → (owns s (tenantId t) p ≡ true) × (Tuple.containsOf (clearanceAt s (tenantId t)) l ≡ true)
+clears-parts s p l t e =
+    let b : Bool = owns s (tenantId t) p in
+    let d : Bool = Tuple.containsOf (clearanceAt s (tenantId t)) l in
+    (first-true b d e, second-true b d e)
+
 -- whether slot p may hold x
 abbrev pub held : SegmentTable → Slot → Segment → Bool
-held s p x = cond (leb 1 (x .pages)) (any (λ t. owns s (tenantId t) p && Tuple.containsOf (clearanceAt s (tenantId t)) (x .label)) tenants) (zeros x)
+held s p x = cond (leb 1 (x .pages)) (any (clears s p (x .label)) tenants) (zeros x)
 
 pub slot-held : (s : SegmentTable) (p : Slot) → slotSound s p ≡ held s p (segmentAt s p)
 unfolding slotSound filled clearedBy
 slot-held s p = refl
 
-pub held-filled : (s : SegmentTable) (p : Slot) (x : Segment) (u : TenantId) → 1 ≤ x .pages → u .0 < tenants → owns s u p ≡ true → Tuple.containsOf (clearanceAt s u) (x .label) ≡ true → held s p x ≡ true
-held-filled s p x u h l o e =
-    rw (le-leb 1 (x .pages) h)
-    (any-of (λ t. owns s (tenantId t) p && Tuple.containsOf (clearanceAt s (tenantId t)) (x .label)) tenants (u .0) l (both o e))
+held-filled : (s : SegmentTable) (p : Slot) (x : Segment) (u : TenantId) → 1 ≤ x .pages → u .0 < tenants → owns s u p ≡ true → Tuple.containsOf (clearanceAt s u) (x .label) ≡ true → held s p x ≡ true
+held-filled s p x u h l o e = rw (le-leb 1 (x .pages) h) (any-of (clears s p (x .label)) tenants (u .0) l (both o e))
 
--- where a filled slot may hold x, x's label is in its owner's clearance
-pub held-cleared : (s : SegmentTable) (p : Slot) (x : Segment) (t : TenantId) → 1 ≤ x .pages → owns s t p ≡ true → held s p x ≡ true → Tuple.containsOf (clearanceAt s t) (x .label) ≡ true
+-- where a filled slot may hold x, some tenant clears it
+held-by : (s : SegmentTable) (p : Slot) (x : Segment) → 1 ≤ x .pages → held s p x ≡ true → any (clears s p (x .label)) tenants ≡ true
+held-by s p x h e = sym (ap (λ (b : Bool). cond b (any (clears s p (x .label)) tenants) (zeros x)) (le-leb 1 (x .pages) h)) ∙ e
+
+-- which is its owner
+held-cleared : (s : SegmentTable) (p : Slot) (x : Segment) (t : TenantId) → 1 ≤ x .pages → owns s t p ≡ true → held s p x ≡ true → Tuple.containsOf (clearanceAt s t) (x .label) ≡ true
 held-cleared s p x t h o e =
-    any-then (λ u. owns s (tenantId u) p && Tuple.containsOf (clearanceAt s (tenantId u)) (x .label)) tenants
-    (sym (ap (λ (b : Bool). cond b (any (λ t. owns s (tenantId t) p && Tuple.containsOf (clearanceAt s (tenantId t)) (x .label)) tenants) (zeros x)) (le-leb 1 (x .pages) h)) ∙ e)
+    any-then (clears s p (x .label)) tenants (held-by s p x h e)
     (λ i l f.
-    let a = first-true (owns s (tenantId i) p) (Tuple.containsOf (clearanceAt s (tenantId i)) (x .label)) f in
-    let b = second-true (owns s (tenantId i) p) (Tuple.containsOf (clearanceAt s (tenantId i)) (x .label)) f in
-    ap (λ (u : TenantId). Tuple.containsOf (clearanceAt s u) (x .label)) (owner-unique s t (tenantId i) p o a) ∙ b)
+    let c = clears-parts s p (x .label) i f in
+    ap (λ (u : TenantId). Tuple.containsOf (clearanceAt s u) (x .label)) (owner-unique s t (tenantId i) p o (c .0)) ∙ c .1)
 
 pub zeros-held : (s : SegmentTable) (p : Slot) → held s p zeroSegment ≡ true
 unfolding zeros
 zeros-held s p = rw (equal-exact Label.zeroLabel Label.zeroLabel refl .1 refl)
 
+filled-pages : (s : SegmentTable) (p : Slot) → filled s p ≡ true → 1 ≤ pagesAt s p
+unfolding filled
+filled-pages s p e = leb-true 1 (pagesAt s p) e
+
 -- a filled slot of a sound state holds a valid label, so that what a look shows has a hex line
 pub filled-valid : (s : SegmentTable) (p : Slot) → Sound s → p .0 < slots → filled s p ≡ true → Label.validOf (segmentAt s p .label) ≡ true
-unfolding slotSound clearedBy
 filled-valid s p h l e =
-    any-then (λ t. clearedBy s p (tenantId t)) tenants
-    (sym (ap (λ (b : Bool). cond b (any (λ t. clearedBy s p (tenantId t)) tenants) (zeros (segmentAt s p))) e) ∙ h .segment p l)
+    any-then (clears s p (segmentAt s p .label)) tenants (held-by s p (segmentAt s p) (filled-pages s p e) (sym (slot-held s p) ∙ h .segment p l))
     (λ t i f.
     contained-valid (clearanceAt s (tenantId t)) (segmentAt s p .label) (tenant-clearance (tenantAt s (tenantId t)) (h .tenant (tenantId t) i))
-    (second-true (owns s (tenantId t) p) (Tuple.containsOf (clearanceAt s (tenantId t)) (segmentAt s p .label)) f))
+    (clears-parts s p (segmentAt s p .label) t f .1))
 
 -- ---- a segment put into a slot of its tenant's own
 
@@ -164,9 +169,9 @@ module _ (s : SegmentTable) (t : TenantId) (q : Slot) (x : Segment) (lengths : L
 
   held-same : (p : Slot) (y : Segment) → held next p y ≡ held s p y
   held-same p y =
-      let e : _≡_ {A = ℕ → Bool} (λ u. owns next (tenantId u) p && Tuple.containsOf (clearanceAt s (tenantId u)) (y .label)) (λ u. owns s (tenantId u) p && Tuple.containsOf (clearanceAt s (tenantId u)) (y .label)) =
-      λ i u. owns-kept next s (tenantId u) p refl i && Tuple.containsOf (clearanceAt s (tenantId u)) (y .label) in
-      ap (λ (f : ℕ → Bool). cond (leb 1 (y .pages)) (any f tenants) (zeros y)) e
+      ap (λ (b : Bool). cond (leb 1 (y .pages)) b (zeros y))
+      (any-same (clears next p (y .label)) (clears s p (y .label)) tenants
+      (λ u l. ap (λ (b : Bool). b && Tuple.containsOf (clearanceAt s (tenantId u)) (y .label)) (owns-kept next s (tenantId u) p refl)))
 
   here : segmentAt next q ≡ x
   here = segment-written s q x lengths (own-slot s t q own)
@@ -197,20 +202,12 @@ module _ (s : SegmentTable) (t : TenantId) (q : Slot) (x : Segment) (lengths : L
         tenant = h .tenant;
         segment = λ p l.
             slot-held next p ∙ held-same p (segmentAt next p)
-            ∙ ⊎-elim
-            (λ (i : p .0 ≡ q .0). ap (λ (p : Slot). held s p (segmentAt next p)) (same-slot p q i) ∙ ap (held s q) here ∙ e)
-            (λ (i : p .0 ≡ q .0 → ⊥). ap (held s p) (segment-kept s q p x i) ∙ sym (slot-held s p) ∙ h .segment p l)
-            (same-or-not (p .0) (q .0));
+            ∙ by-slot (λ (p : Slot). p .0 < slots → held s p (segmentAt next p) ≡ true) q p (λ l. ap (held s q) here ∙ e)
+            (λ p i l. ap (held s p) (segment-kept s q p x i) ∙ sym (slot-held s p) ∙ h .segment p l) l;
         ceilings = h .ceilings;
         pages = λ u l.
-            ⊎-elim
-            (λ (i : u .0 ≡ t .0).
-            let j = same-tenant u t i in
-            let k = pages-written in
-            let g : pagesOf next t ≤ ceilingAt s t = omega arith in
-            rw j g)
-            (λ (i : u .0 ≡ t .0 → ⊥). rw (pages-others u l i) (h .pages u l))
-            (same-or-not (u .0) (t .0));
+            by-tenant (λ (u : TenantId). u .0 < tenants → pagesOf next u ≤ ceilingAt s u) t u (λ l. let k = pages-written in omega arith)
+            (λ u i l. rw (pages-others u l i) (h .pages u l)) l;
       }
 
 -- ---- a tenant call
@@ -224,34 +221,31 @@ valid-pages n e = leb-true 1 n (first-true (leb 1 n) (leb n maxPages) e)
 
 -- what a granted call writes may be held by its slot
 module _ (s : SegmentTable) (t : TenantId) (l : Label) (h : Sound s) where
-  filled-pages : (p : Slot) → filled s p ≡ true → 1 ≤ pagesAt s p
-  unfolding filled
-  filled-pages p e = leb-true 1 (pagesAt s p) e
-
   -- a slot that is its caller's own and filled holds a label in its caller's clearance
   own-cleared : (p : Slot) → writable s t l p ≡ true → Tuple.containsOf (clearanceAt s t) (segmentAt s p .label) ≡ true
   own-cleared p e =
       let w = writable-own s t l p e in
-      held-cleared s p (segmentAt s p) t (filled-pages p (w .1)) (w .0) (sym (slot-held s p) ∙ h .segment p (own-slot s t p (w .0)))
+      held-cleared s p (segmentAt s p) t (filled-pages s p (w .1)) (w .0) (sym (slot-held s p) ∙ h .segment p (own-slot s t p (w .0)))
 
   -- a segment of at least a page under a label of the caller's clearance
   own-held : (p : Slot) (x : Segment) → owns s t p ≡ true → 1 ≤ x .pages → Tuple.containsOf (clearanceAt s t) (x .label) ≡ true → held s p x ≡ true
   own-held p x o g e = held-filled s p x t g (own-parts s t p o .tenant) o e
+
+  -- or of the label that the slot had
+  label-kept : (p : Slot) (pages version : ℕ) → writable s t l p ≡ true → 1 ≤ pages → held s p (segmentOf (segmentAt s p .label) pages version) ≡ true
+  label-kept p pages version w g = own-held p (segmentOf (segmentAt s p .label) pages version) (writable-own s t l p w .0) g (own-cleared p w)
 
   written-held : (a : Action) (p : Slot) → Passed s t l a → lookedAt a ≡ none → slotFor s t a ≡ some p → held s p (written (segmentAt s p) l a) ≡ true
   written-held (Open x) p r n f =
       own-held p (segmentOf l (x .pages) 0) (lowest-own s t p (valid-tenant s t l (Open x) (r .is-valid)) f)
       (valid-pages (x .pages) (valid-numbers s t l (Open x) (r .is-valid))) (cleared-label s t l (Open x) (r .is-cleared))
   written-held (Size x) p r n f =
-      let q : x .slot ≡ p = cc in
-      let w : writable s t l p ≡ true = ap (writable s t l) (sym q) ∙ r .is-permitted in
-      own-held p (segmentOf (segmentAt s p .label) (x .pages) (segmentAt s p .version)) (writable-own s t l p w .0)
-      (valid-pages (x .pages) (second-true (slotValid (x .slot)) (pagesValid (x .pages)) (valid-numbers s t l (Size x) (r .is-valid)))) (own-cleared p w)
+      label-kept p (x .pages) (segmentAt s p .version) (writable-at s t l (x .slot) p f (r .is-permitted))
+      (valid-pages (x .pages) (second-true (slotValid (x .slot)) (pagesValid (x .pages)) (valid-numbers s t l (Size x) (r .is-valid))))
   written-held (Post x) p r n f =
-      let q : x .slot ≡ p = cc in
-      let w : writable s t l p ≡ true = ap (writable s t l) (sym q) ∙ r .is-permitted in
-      own-held p (segmentOf (segmentAt s p .label) (segmentAt s p .pages) (x .version)) (writable-own s t l p w .0) (filled-pages p (writable-own s t l p w .1)) (own-cleared p w)
-  written-held (Look x) p r n f = let z : _≡_ {A = ℕ} 0 1 = cc in absurd (omega arith)
+      let w = writable-at s t l (x .slot) p f (r .is-permitted) in
+      label-kept p (segmentAt s p .pages) (x .version) w (filled-pages s p (writable-own s t l p w .1))
+  written-held (Look x) p r n f = absurd (Option·some-ne-none (x .slot) n)
   written-held (Close x) p r n f = zeros-held s p
 
   -- and its caller's pages stay under the ceiling
@@ -270,15 +264,12 @@ module _ (s : SegmentTable) (t : TenantId) (l : Label) (h : Sound s) where
 
 -- every tenant call keeps soundness
 pub call-sound : (s : SegmentTable) (t : TenantId) (l : Label) (a : Action) → Lengths s → sound s ≡ true → sound (stepOf s (callOf t l a) .table) ≡ true
-call-sound s t l a n h =
-    look-or-not a (λ e. other e (answerOf s (callOf t l a)) refl) (λ p e. ap sound (look-next s t l a p e) ∙ h)
+call-sound s t l a n h = by (effect s t l a)
   where
-    other : lookedAt a ≡ none → (x : Answer Grant) → answerOf s (callOf t l a) ≡ x → sound (stepOf s (callOf t l a) .table) ≡ true
-    other m (refused k detail) e = ap sound (next-refused s (callOf t l a) k detail e) ∙ h
-    other m (granted g) e =
-        let r = granted-passed s t l a g e in
-        let i : slotOr0 (slotFor s t a) ≡ r .slot = ap slotOr0 (r .slot-is) in
-        let o : owns s t (r .slot) ≡ true = target-own s t l a (r .slot) (valid-tenant s t l a (r .is-valid)) (looks-at-own s t a m) (r .is-permitted) (r .slot-is) in
+    by : Effect s t l a → sound (stepOf s (callOf t l a) .table) ≡ true
+    by (looking p e) = ap sound (look-next s t l a p e) ∙ h
+    by (refusing k detail m e) = ap sound (next-refused s (callOf t l a) k detail e) ∙ h
+    by (writing g m e r o f) =
         let z = sound-parts s h in
-        ap sound (next-granted s (callOf t l a) g e ∙ ap (λ (p : Slot). withSegment s p (written (segmentAt s p) l a)) i)
+        ap sound f
         ∙ parts-sound _ (written-sound s t (r .slot) (written (segmentAt s (r .slot)) l a) n o z (written-held s t l z a (r .slot) r m (r .slot-is)) (written-fits s t l z a (r .slot) r (r .slot-is) o))

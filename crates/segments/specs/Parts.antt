@@ -11,13 +11,15 @@ use Rattle.label.specs.Label
 use Rattle.label.specs.declared.Label.{Label}
 use Rattle.segments.specs.Calls.{callValid, cleared}
 use Rattle.segments.specs.Replies.{Grant, done}
-use Rattle.segments.specs.Segments.{slot, slots, tenantAt, tenantId, tenants}
+use Rattle.segments.specs.Segments.{ceilingAt, slot, slots, tenantAt, tenantId, tenants}
+use Rattle.segments.specs.Slots.{ceilingsOf}
 use Rattle.segments.specs.Sound.{clearedBy, slotSound, sound, tenantSound, underCeiling}
 use Rattle.segments.specs.declared.Call.{Call}
 use Rattle.segments.specs.declared.Outcome.{Outcome}
 use Rattle.segments.specs.declared.Reply.{Reply}
 use Rattle.segments.specs.declared.SegmentTable.{SegmentTable}
 use Rattle.segments.specs.declared.Slot.{Slot}
+use Rattle.segments.specs.declared.TenantId.{TenantId}
 use Rattle.segments.specs.declared.slots.Free.{Free}
 use Rattle.segments.specs.declared.slots.Free.the-variants.{At, Nothing}
 use Rattle.segments.specs.declared.slots.Remaining.{Remaining}
@@ -48,6 +50,10 @@ keptIn (some left) = true
 abbrev pub fitsIn : Option ℕ → ℕ → ℕ → Bool
 fitsIn none replaced wanted = false
 fitsIn (some left) replaced wanted = leb wanted (left + replaced)
+
+-- whether the pool has room for the ceiling n in place of t's: 12 if not
+abbrev pub poolAnswer : SegmentTable → TenantId → ℕ → Answer Grant
+poolAnswer s t n = require (leb (ceilingsOf s - ceilingAt s t + n) (s .pool)) 12 (granted done)
 
 -- ---- the parts of a sound state
 

@@ -16,6 +16,7 @@ use crate::SizeCall;
 use crate::Slot;
 use crate::TenantId;
 use crate::slots;
+use crate::slots::Free;
 use crate::state;
 use crate::unlabeled;
 use label::Label;
@@ -25,12 +26,13 @@ use label::errno::Errno;
 ghost use mathlib.Core.Path.{_≡_};
 ghost use mathlib.Core.Bool.{true};
 ghost use Prim.Native.Nat.{_<_};
+ghost use Rattle.label.specs.Answer as answers;
 ghost use Rattle.label.specs.Answer.{outcomeOf};
 ghost use Rattle.label.specs.Label as labels;
 ghost use Rattle.segments.specs.Calls as rules;
-ghost use Rattle.segments.specs.Calls.{closeCall, lookCall, numbersValid, openCall, postCall, sizeCall, slotValid, stepOf};
-ghost use Rattle.segments.specs.Parts.{Started, fitsIn, leftOf, startOf};
-ghost use Rattle.segments.specs.Replies.{Results, done};
+ghost use Rattle.segments.specs.Calls.{callOf, closeCall, lookCall, numbersValid, openCall, postCall, sizeCall, slotValid, stepOf};
+ghost use Rattle.segments.specs.Parts.{Started, fitsIn, freeOf, leftOf, startOf};
+ghost use Rattle.segments.specs.Replies.{Results, done, leaving};
 ghost use Rattle.segments.specs.Segments.{ceilingAt, slots, tenants};
 ghost use Rattle.segments.specs.Slots.{pagesOf};
 ghost use Rattle.segments.specs.Sound.{sound};
@@ -138,14 +140,120 @@ fn has_room(table: SegmentTable, tenant: TenantId, replaced: u64, pages: u64) ->
     slots::fits(slots::pages_left(table, tenant, ceiling), replaced, pages)
 }
 
-// ---- each call, once it has passed the checks that all have
+// ---- what each action asks, writes and answers
 
-fn open_started(table: SegmentTable, tenant: TenantId, label: Label, pages: u64) -> Outcome
-    requires { ⌜ Started table (openCall tenant label pages) ⌝ }
-    ensures { λ r. ⌜ Results r (stepOf table (openCall tenant label pages)) ⌝ }
+// Whether the subject may do that to the slot that it names. An open names none.
+fn permitted(table: SegmentTable, call: Call) -> bool
+    requires { ⌜ Started table call ⌝ }
+    ensures { λ r. ⌜ r ≡ rules.permitted table (call .tenant) (call .label) (call .action) ⌝ }
 {
-    let free = slots::lowest_empty(table, tenant);
-    let room = has_room(table, tenant, 0, pages);
+    let tenant = call.tenant;
+    let label = call.label;
+    let action = call.action;
+    match action {
+        Action::Open(_) => true,
+        Action::Size(x) => writable(table, tenant, label, x.slot),
+        Action::Post(x) => writable(table, tenant, label, x.slot),
+        Action::Look(x) => visible(table, label, x.slot),
+        Action::Close(x) => writable(table, tenant, label, x.slot),
+    }
+}
+
+// The slot that the call is about, if there is one: for an open, the tenant's lowest empty one.
+fn slot_for(table: SegmentTable, call: Call) -> Free
+    requires { ⌜ call .tenant .0 < tenants ⌝ }
+    ensures { λ r. ⌜ freeOf r ≡ rules.slotFor table (call .tenant) (call .action) ⌝ }
+{
+    let tenant = call.tenant;
+    let action = call.action;
+    match action {
+        Action::Open(_) => slots::lowest_empty(table, tenant),
+        Action::Size(x) => Free::At(Slot(x.slot.0)),
+        Action::Post(x) => Free::At(Slot(x.slot.0)),
+        Action::Look(x) => Free::At(Slot(x.slot.0)),
+        Action::Close(x) => Free::At(Slot(x.slot.0)),
+    }
+}
+
+// Whether the tenant's pages would then be at most its ceiling.
+fn pages_fit(table: SegmentTable, call: Call) -> bool
+    requires { ⌜ Started table call ⌝ }
+    requires { ⌜ rules.permitted table (call .tenant) (call .label) (call .action) ≡ true ⌝ }
+    ensures { λ r. ⌜ r ≡ rules.pagesFit table (call .tenant) (call .action) ⌝ }
+{
+    let tenant = call.tenant;
+    let action = call.action;
+    match action {
+        Action::Open(x) => has_room(table, tenant, 0, x.pages),
+        Action::Size(x) => {
+            let replaced = table.segments[x.slot.0 as usize].pages;
+            has_room(table, tenant, replaced, x.pages)
+        }
+        Action::Post(_) => true,
+        Action::Look(_) => true,
+        Action::Close(_) => true,
+    }
+}
+
+// What the slot holds after the call.
+fn written(segment: Segment, label: Label, action: Action) -> Segment
+    ensures { λ r. ⌜ r ≡ rules.written segment label action ⌝ }
+{
+    let kept = segment.label;
+    match action {
+        Action::Open(x) => Segment {
+            label,
+            pages: x.pages,
+            version: 0,
+        },
+        Action::Size(x) => Segment {
+            label: kept,
+            pages: x.pages,
+            version: segment.version,
+        },
+        Action::Post(x) => Segment {
+            label: kept,
+            pages: segment.pages,
+            version: x.version,
+        },
+        Action::Look(_) => segment,
+        Action::Close(_) => state::zero_segment(),
+    }
+}
+
+// The state that a granted call leaves, and its answer: the slot of an open, what a look found, or that it is done.
+fn granted(table: SegmentTable, slot: Slot, segment: Segment, action: Action) -> Outcome
+    ensures { λ r. ⌜ Results r (leaving table table (answers.granted (rules.grantOf slot segment action))) ⌝ }
+{
+    let shown = segment.label;
+    match action {
+        Action::Open(_) => unlabeled(table, Reply::Opened(slot)),
+        Action::Size(_) => unlabeled(table, Reply::Done),
+        Action::Post(_) => unlabeled(table, Reply::Done),
+        Action::Look(_) => Outcome {
+            table,
+            answer: Answer {
+                reply: Reply::Shown(Shown {
+                    pages: segment.pages,
+                    version: segment.version,
+                }),
+                label: shown,
+            },
+        },
+        Action::Close(_) => unlabeled(table, Reply::Done),
+    }
+}
+
+// The checks that look into slots, in document 01's order, and the grant.
+fn started(table: SegmentTable, call: Call) -> Outcome
+    requires { ⌜ Started table call ⌝ }
+    ensures { λ r. ⌜ Results r (stepOf table call) ⌝ }
+{
+    if !permitted(table, call) {
+        return unlabeled(table, Reply::Refused(Errno::Access));
+    }
+    let free = slot_for(table, call);
+    let room = pages_fit(table, call);
     if !slots::found(free) {
         return unlabeled(table, Reply::Refused(Errno::NoSpace));
     }
@@ -153,103 +261,11 @@ fn open_started(table: SegmentTable, tenant: TenantId, label: Label, pages: u64)
         return unlabeled(table, Reply::Refused(Errno::NoMem));
     }
     let slot = slots::slot_or_0(free);
-    let segment = Segment {
-        label,
-        pages,
-        version: 0,
-    };
-    let opened = state::with_segment(table, slot, segment);
-    unlabeled(opened, Reply::Opened(slot))
-}
-
-fn size_started(
-    table: SegmentTable,
-    tenant: TenantId,
-    label: Label,
-    slot: Slot,
-    pages: u64,
-) -> Outcome
-    requires { ⌜ Started table (sizeCall tenant label slot pages) ⌝ }
-    ensures { λ r. ⌜ Results r (stepOf table (sizeCall tenant label slot pages)) ⌝ }
-{
-    if !writable(table, tenant, label, slot) {
-        return unlabeled(table, Reply::Refused(Errno::Access));
-    }
-    let mut segment = table.segments[slot.0 as usize];
-    if !has_room(table, tenant, segment.pages, pages) {
-        return unlabeled(table, Reply::Refused(Errno::NoMem));
-    }
-    segment.pages = pages;
-    let resized = state::with_segment(table, slot, segment);
-    unlabeled(resized, Reply::Done)
-}
-
-fn post_started(
-    table: SegmentTable,
-    tenant: TenantId,
-    label: Label,
-    slot: Slot,
-    version: u64,
-) -> Outcome
-    requires { ⌜ Started table (postCall tenant label slot version) ⌝ }
-    ensures { λ r. ⌜ Results r (stepOf table (postCall tenant label slot version)) ⌝ }
-{
-    if !writable(table, tenant, label, slot) {
-        return unlabeled(table, Reply::Refused(Errno::Access));
-    }
-    let mut segment = table.segments[slot.0 as usize];
-    segment.version = version;
-    let posted = state::with_segment(table, slot, segment);
-    unlabeled(posted, Reply::Done)
-}
-
-fn look_started(table: SegmentTable, tenant: TenantId, label: Label, slot: Slot) -> Outcome
-    requires { ⌜ Started table (lookCall tenant label slot) ⌝ }
-    ensures { λ r. ⌜ Results r (stepOf table (lookCall tenant label slot)) ⌝ }
-{
-    if !visible(table, label, slot) {
-        return unlabeled(table, Reply::Refused(Errno::Access));
-    }
     let segment = table.segments[slot.0 as usize];
-    let shown = segment.label;
-    Outcome {
-        table,
-        answer: Answer {
-            reply: Reply::Shown(Shown {
-                pages: segment.pages,
-                version: segment.version,
-            }),
-            label: shown,
-        },
-    }
-}
-
-fn close_started(table: SegmentTable, tenant: TenantId, label: Label, slot: Slot) -> Outcome
-    requires { ⌜ Started table (closeCall tenant label slot) ⌝ }
-    ensures { λ r. ⌜ Results r (stepOf table (closeCall tenant label slot)) ⌝ }
-{
-    if !writable(table, tenant, label, slot) {
-        return unlabeled(table, Reply::Refused(Errno::Access));
-    }
-    let closed = state::with_segment(table, slot, state::zero_segment());
-    unlabeled(closed, Reply::Done)
-}
-
-// The call's own checks, and what it does.
-fn started(table: SegmentTable, call: Call) -> Outcome
-    requires { ⌜ Started table call ⌝ }
-    ensures { λ r. ⌜ Results r (stepOf table call) ⌝ }
-{
-    let tenant = call.tenant;
     let label = call.label;
     let action = call.action;
-    match action {
-        Action::Open(x) => open_started(table, tenant, label, x.pages),
-        Action::Size(x) => size_started(table, tenant, label, x.slot, x.pages),
-        Action::Post(x) => post_started(table, tenant, label, x.slot, x.version),
-        Action::Look(x) => look_started(table, tenant, label, x.slot),
-        Action::Close(x) => close_started(table, tenant, label, x.slot),
-    }
+    let next = state::with_segment(table, slot, written(segment, label, action));
+    granted(next, slot, segment, action)
 }
 
 // ---- the calls
@@ -265,11 +281,10 @@ pub fn step(table: SegmentTable, call: Call) -> Outcome
     }
 }
 
-// The tenant's lowest empty slot gets the label and the pages; the slot is answered.
-pub fn open(table: SegmentTable, tenant: TenantId, label: Label, pages: u64) -> Outcome
-    ensures { λ r. ⌜ Results r (stepOf table (openCall tenant label pages)) ⌝ }
+// The same, of an action.
+fn act(table: SegmentTable, tenant: TenantId, label: Label, action: Action) -> Outcome
+    ensures { λ r. ⌜ Results r (stepOf table (callOf tenant label action)) ⌝ }
 {
-    let action = Action::Open(OpenCall { pages });
     step(
         table,
         Call {
@@ -280,19 +295,20 @@ pub fn open(table: SegmentTable, tenant: TenantId, label: Label, pages: u64) -> 
     )
 }
 
+// The tenant's lowest empty slot gets the label and the pages; the slot is answered.
+pub fn open(table: SegmentTable, tenant: TenantId, label: Label, pages: u64) -> Outcome
+    ensures { λ r. ⌜ Results r (stepOf table (openCall tenant label pages)) ⌝ }
+{
+    let action = Action::Open(OpenCall { pages });
+    act(table, tenant, label, action)
+}
+
 // The slot gets another number of pages.
 pub fn size(table: SegmentTable, tenant: TenantId, label: Label, slot: Slot, pages: u64) -> Outcome
     ensures { λ r. ⌜ Results r (stepOf table (sizeCall tenant label slot pages)) ⌝ }
 {
     let action = Action::Size(SizeCall { slot, pages });
-    step(
-        table,
-        Call {
-            tenant,
-            label,
-            action,
-        },
-    )
+    act(table, tenant, label, action)
 }
 
 // The slot gets another version.
@@ -306,14 +322,7 @@ pub fn post(
     ensures { λ r. ⌜ Results r (stepOf table (postCall tenant label slot version)) ⌝ }
 {
     let action = Action::Post(PostCall { slot, version });
-    step(
-        table,
-        Call {
-            tenant,
-            label,
-            action,
-        },
-    )
+    act(table, tenant, label, action)
 }
 
 // What the slot holds is shown: its label, pages and version.
@@ -321,14 +330,7 @@ pub fn look(table: SegmentTable, tenant: TenantId, label: Label, slot: Slot) -> 
     ensures { λ r. ⌜ Results r (stepOf table (lookCall tenant label slot)) ⌝ }
 {
     let action = Action::Look(LookCall { slot });
-    step(
-        table,
-        Call {
-            tenant,
-            label,
-            action,
-        },
-    )
+    act(table, tenant, label, action)
 }
 
 // The slot is zeros, and its pages are free.
@@ -336,12 +338,5 @@ pub fn close(table: SegmentTable, tenant: TenantId, label: Label, slot: Slot) ->
     ensures { λ r. ⌜ Results r (stepOf table (closeCall tenant label slot)) ⌝ }
 {
     let action = Action::Close(CloseCall { slot });
-    step(
-        table,
-        Call {
-            tenant,
-            label,
-            action,
-        },
-    )
+    act(table, tenant, label, action)
 }

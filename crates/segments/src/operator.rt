@@ -14,11 +14,14 @@ use label::errno::Errno;
 use range::tuple;
 use range::tuple::Tuple;
 ghost use mathlib.Core.Path.{_≡_};
-ghost use mathlib.Core.Bool.{not, _&&_};
+ghost use mathlib.Core.Bool.{true, not, _&&_};
+ghost use Prim.Native.Nat.{_<_};
 ghost use Rattle.range.specs.Tuple as tuples;
 ghost use Rattle.segments.specs.Operator.{admitOf, makeOf, setCeilingOf};
-ghost use Rattle.segments.specs.Replies.{Results};
-ghost use Rattle.segments.specs.Segments.{emptyTable};
+ghost use Rattle.segments.specs.Parts.{poolAnswer};
+ghost use Rattle.segments.specs.Replies.{Results, leaving};
+ghost use Rattle.segments.specs.Segments.{emptyTable, tenants, withTenant};
+ghost use Rattle.segments.specs.Sound.{sound};
 
 // The state with no tenants.
 fn empty_table(pool: u64) -> SegmentTable
@@ -57,6 +60,20 @@ fn clearance_valid(t: Tuple) -> bool
     }
 }
 
+// Gives a tenant another record, if the pool has room for its ceiling in place of the old one.
+fn set_record(table: SegmentTable, tenant: TenantId, x: Tenant) -> Outcome
+    requires { ⌜ sound table ≡ true ⌝ }
+    requires { ⌜ tenant .0 < tenants ⌝ }
+    ensures { λ r. ⌜ Results r (leaving table (withTenant table tenant x) (poolAnswer table tenant (x .ceiling))) ⌝ }
+{
+    let old = table.tenants[tenant.0 as usize].ceiling;
+    if !slots::fits(slots::pool_left(table), old, x.ceiling) {
+        return unlabeled(table, Reply::Refused(Errno::NoMem));
+    }
+    let next = state::with_tenant(table, tenant, x);
+    unlabeled(next, Reply::Done)
+}
+
 // Admits a tenant, with a ceiling on its pages and a clearance.
 pub fn admit(table: SegmentTable, tenant: TenantId, ceiling: u64, clearance: Tuple) -> Outcome
     ensures { λ r. ⌜ Results r (admitOf table tenant ceiling clearance) ⌝ }
@@ -70,12 +87,8 @@ pub fn admit(table: SegmentTable, tenant: TenantId, ceiling: u64, clearance: Tup
     if state::admitted(table, tenant) {
         return unlabeled(table, Reply::Refused(Errno::Busy));
     }
-    if !slots::fits(slots::pool_left(table), 0, ceiling) {
-        return unlabeled(table, Reply::Refused(Errno::NoMem));
-    }
     let admitted = Tenant { ceiling, clearance };
-    let next = state::with_tenant(table, tenant, admitted);
-    unlabeled(next, Reply::Done)
+    set_record(table, tenant, admitted)
 }
 
 // Gives an admitted tenant another ceiling.
@@ -92,11 +105,7 @@ pub fn set_ceiling(table: SegmentTable, tenant: TenantId, ceiling: u64) -> Outco
         return unlabeled(table, Reply::Refused(Errno::Busy));
     }
     let old = table.tenants[tenant.0 as usize];
-    if !slots::fits(slots::pool_left(table), old.ceiling, ceiling) {
-        return unlabeled(table, Reply::Refused(Errno::NoMem));
-    }
     let clearance = old.clearance;
     let changed = Tenant { ceiling, clearance };
-    let next = state::with_tenant(table, tenant, changed);
-    unlabeled(next, Reply::Done)
+    set_record(table, tenant, changed)
 }

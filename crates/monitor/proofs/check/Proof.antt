@@ -1,8 +1,8 @@
 use borrow.Author.Needs.{needs}
 use mathlib.Core.Path.{sym, ap, _∙_}
-use Rattle.label.specs.Answer.{granted, testOf}
+use Rattle.label.specs.Answer.{testOf}
 use Rattle.label.specs.Errno.{detailOf, numberOf}
-use Rattle.label.proofs.AnswerLaws.{grant-passed, grants-same, refusal-stopped, stopped}
+use Rattle.label.proofs.AnswerLaws.{grant-told, refusal-stopped, stopped}
 use Rattle.monitor.specs.Monitor.{underTuple}
 use Rattle.monitor.proofs.ValidLaws.{implies-first, tested, tuple-refused}
 use Rattle.monitor.proofs.NeedsLaws.{decide-needed}
@@ -14,8 +14,8 @@ check-tested-requires c κs =
     let k = c .before .before .before in
     let r = k .before .args .r in
     let inside = underTuple (r .credentials .label) (r .object) in
-    let h = grant-passed (tested (r .credentials .label) (r .object)) 22 (c .before .t .given .0 .0) (granted inside) (ap testOf (sym (c .before .t .given .1)) ∙ k .contained .ensures) in
-    (implies-first (r .object .present .tuple) _ _ (h .0), grants-same _ inside (h .1))
+    let h = grant-told (tested (r .credentials .label) (r .object)) 22 _ inside (ap testOf (sym (c .before .t .given .1)) ∙ k .contained .ensures) in
+    (implies-first (r .object .present .tuple) _ _ (h .0), h .1)
 
 returns-2 : tie.Need-returns-2
 returns-2 c =

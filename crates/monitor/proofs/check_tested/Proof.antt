@@ -1,7 +1,7 @@
 use borrow.Author.Needs.{needs}
-use borrow.Author.Tests.{not-false, not-true}
 use mathlib.Core.Path.{sym, ap, _∙_}
 use Rattle.label.proofs.AnswerLaws.{passed, stopped}
+use Rattle.label.proofs.BoolLaws.{told-false, told-true}
 use Rattle.monitor.specs.Needs.{answerBy}
 use Rattle.monitor.specs.declared.Privileges.{Privileges}
 use Rattle.monitor.proofs.NeedsLaws.{decide-needed}
@@ -9,7 +9,7 @@ use Rattle.monitor.proofs.check_tested.Statement.{statement}
 use Rattle.monitor.proofs.check_tested.Tie as tie
 
 returns : tie.Need-returns
-returns c = sym (decide-needed _ ∙ stopped _ 22 _ (sym (c .before .valid .ensures) ∙ not-true _ (c .if1 .taken)))
+returns c = sym (decide-needed _ ∙ stopped _ 22 _ (told-false (c .before .valid .ensures) (c .if1 .taken)))
 
 returns-2 : tie.Need-returns-2
 returns-2 c =
@@ -17,7 +17,7 @@ returns-2 c =
     let r = e .before .before .args .r in
     c .answer .ensures
     ∙ ap (λ (n : Privileges). answerBy n (r .credentials .privileges)) (c .before .needed .ensures)
-    ∙ sym (decide-needed r ∙ passed _ 22 _ (sym (e .before .valid .ensures) ∙ not-false _ (e .if1 .left)))
+    ∙ sym (decide-needed r ∙ passed _ 22 _ (told-true (e .before .valid .ensures) (e .if1 .left)))
 
 pub check-tested-spec : {M : Type 1} → statement M
 check-tested-spec = tie.close (tie.spec (λ c. search needs) returns (λ c. search needs) (search needs) returns-2)

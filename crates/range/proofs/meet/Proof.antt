@@ -2,8 +2,8 @@ use borrow.Author.Needs.{needs}
 use mathlib.Core.Bool.{true, _&&_}
 use mathlib.Core.Path.{_≡_, sym, ap₂, _∙_}
 use Rattle.range.specs.Range.{validOf, zeroRange}
-use Rattle.label.specs.declared.errno.Errno.the-variants.{Domain, Invalid}
-use Rattle.label.proofs.AnswerLaws.{answers-grant, answers-refusal, passed, stopped}
+use Rattle.label.specs.declared.errno.Errno.the-variants.{Domain}
+use Rattle.label.proofs.AnswerLaws.{answers-grant, answers-invalid, answers-refusal, passed, stopped}
 use Rattle.range.proofs.meet.Statement.{statement}
 use Rattle.range.proofs.meet.Tie as tie
 
@@ -23,7 +23,7 @@ returns-2 c =
 returns-3 : tie.Need-returns-3
 returns-3 c =
     let e = c .before in
-    answers-refusal Invalid _ zeroRange _ (stopped _ 22 _ (ap₂ _&&_ (sym (e .before .before .valid .ensures)) (sym (e .before .valid2 .ensures)) ∙ e .if1 .left)) (c .zero2 .ensures)
+    answers-invalid (ap₂ _&&_ (e .before .before .valid .ensures) (e .before .valid2 .ensures)) _ (e .if1 .left) (c .zero2 .ensures)
 
 pub meet-spec : {M : Type 1} → statement M
 meet-spec =

@@ -1,39 +1,28 @@
 use borrow.Author.Needs.{needs}
-use mathlib.Core.Path.{_≡_, refl, ap}
-use Prim.Native.Nat.{_≤_, _-_}
-use native.Mathlib.Omega.{arith}
-use lib.ListN.{length, take}
-use Rattle.label.specs.Index.{tabulate}
+use mathlib.Core.Path.{refl, ap}
+use Prim.Native.Nat.{_-_}
 use Rattle.label.specs.Region.{regions}
-use Rattle.label.proofs.IndexLaws.{fill-done, fill-step}
+use Rattle.label.proofs.IndexLaws.{Filled, fill-all, fill-next, fill-none}
 use Rattle.range.specs.Tuple.{cutOf, splitOf, tupleOf}
 use Rattle.range.proofs.tuple.cut_regions.Statement.{statement}
 use Rattle.range.proofs.tuple.cut_regions.Tie as tie
 
 abbrev Inv-loop : tie.InvT-loop
-Inv-loop x ranges₀ r₀ ranges r = (r ≤ regions) × (length ranges ≡ regions) × (take r ranges ≡ tabulate (cutOf x) r)
+Inv-loop x ranges₀ r₀ ranges r = Filled (cutOf x) regions ranges r
 
 abbrev μ-loop : tie.MeasureT-loop
 μ-loop x ranges₀ r₀ ranges r = regions - r
 
 loop-holds : tie.Need-loop-holds Inv-loop μ-loop
-unfolding tabulate
-loop-holds c = (search needs, refl, refl)
+loop-holds c = fill-none refl
 
 loop-again : tie.Need-loop-again Inv-loop μ-loop
-loop-again c =
-    let h = c .before .before in
-    let x = h .before .before .args .x in
-    (search needs, search needs, fill-step (cutOf x) (h .loop .ranges) (h .loop .r) _ (search needs) (c .cut .ensures) (h .loop .inv .2))
+loop-again c = let h = c .before in fill-next (h .before .loop .inv) (h .loop-test .taken) (c .cut .ensures)
 
 returns : tie.Need-returns Inv-loop μ-loop
 unfolding splitOf
-returns c =
-    let h = c .before in
-    let x = h .before .before .args .x in
-    ap tupleOf (fill-done (cutOf x) (h .loop .ranges) (h .loop .r) regions (omega arith) (search needs) (h .loop .inv .2))
+returns c = ap tupleOf (fill-all (c .before .loop .inv) (c .loop-test .left))
 
 pub cut-regions-spec : {M : Type 1} → statement M
 cut-regions-spec =
-    tie.close (tie.spec Inv-loop μ-loop (search needs) loop-holds (search needs) (search needs) (search needs) (search needs)
-    (search needs) loop-again returns)
+    tie.close (tie.spec Inv-loop μ-loop (search needs) loop-holds (search needs) (search needs) (search needs) (search needs) (search needs) loop-again returns)

@@ -1,50 +1,32 @@
 use borrow.Author.Needs.{needs}
-use mathlib.Core.Bool.{true}
-use mathlib.Core.Path.{_≡_, refl, sym, _∙_}
-use Prim.Native.Nat.{_≤_, _-_}
-use native.Mathlib.Omega.{arith}
-use borrow.Author.Tests.{not-false, not-true}
-use Rattle.label.specs.Index.{every}
+use Prim.Native.Nat.{_-_}
 use Rattle.label.specs.Region.{regions}
-use Rattle.label.proofs.IndexLaws.{every-done, every-next, every-stop}
-use Rattle.range.specs.Tuple.{withinOf, rangeAt, withinAt}
+use Rattle.label.proofs.BoolLaws.{told-false, told-true}
+use Rattle.label.proofs.IndexLaws.{Tested, test-all, test-next, test-none, test-stop}
+use Rattle.range.specs.Tuple.{rangeAt, withinAt, withinOf}
 use Rattle.range.proofs.tuple.within_regions.Statement.{statement}
 use Rattle.range.proofs.tuple.within_regions.Tie as tie
 
 abbrev Inv-loop : tie.InvT-loop
-Inv-loop t u r₀ r = (r ≤ regions) × (every (λ k. withinAt (rangeAt t k) (rangeAt u k)) r ≡ true)
+Inv-loop t u r₀ r = Tested (λ k. withinAt (rangeAt t k) (rangeAt u k)) regions r
 
 abbrev μ-loop : tie.MeasureT-loop
 μ-loop t u r₀ r = regions - r
 
 loop-holds : tie.Need-loop-holds Inv-loop μ-loop
-unfolding every
-loop-holds c = (search needs, refl)
+loop-holds c = test-none
 
 returns : tie.Need-returns Inv-loop μ-loop
 unfolding withinOf
-returns c =
-    let h = c .before .before .before .before .before in
-    let t = h .before .args .t1 in
-    let u = h .before .args .t2 in
-    sym (every-stop (λ k. withinAt (rangeAt t k) (rangeAt u k)) regions (h .loop .r) (omega arith) (sym (c .before .within-at .ensures) ∙ not-true _ (c .if1 .taken)))
+returns c = let h = c .before .before .before .before in test-stop (h .before .loop .inv) (h .loop-test .taken) (told-false (c .before .within-at .ensures) (c .if1 .taken))
 
 loop-again : tie.Need-loop-again Inv-loop μ-loop
-loop-again c =
-    let h = c .before .before .before .before .before in
-    let t = h .before .args .t1 in
-    let u = h .before .args .t2 in
-    (search needs, every-next (λ k. withinAt (rangeAt t k) (rangeAt u k)) (h .loop .r) (h .loop .inv .1) (sym (c .before .within-at .ensures) ∙ not-false _ (c .if1 .left)))
+loop-again c = let h = c .before .before .before .before in test-next (h .before .loop .inv) (h .loop-test .taken) (told-true (c .before .within-at .ensures) (c .if1 .left))
 
 returns-2 : tie.Need-returns-2 Inv-loop μ-loop
 unfolding withinOf
-returns-2 c =
-    let h = c .before in
-    let t = h .before .args .t1 in
-    let u = h .before .args .t2 in
-    sym (every-done (λ k. withinAt (rangeAt t k) (rangeAt u k)) regions (h .loop .r) (omega arith) (h .loop .inv .1))
+returns-2 c = test-all (c .before .loop .inv) (c .loop-test .left)
 
 pub within-regions-spec : {M : Type 1} → statement M
 within-regions-spec =
-    tie.close (tie.spec Inv-loop μ-loop loop-holds (search needs) (search needs) (search needs) (search needs) (search needs) returns
-    (search needs) (search needs) loop-again returns-2)
+    tie.close (tie.spec Inv-loop μ-loop loop-holds (search needs) (search needs) (search needs) (search needs) (search needs) returns (search needs) (search needs) loop-again returns-2)

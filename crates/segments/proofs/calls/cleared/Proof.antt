@@ -8,19 +8,19 @@ use Rattle.segments.proofs.calls.cleared.Statement.{statement}
 use Rattle.segments.proofs.calls.cleared.Tie as tie
 
 -- the tenant is one of the state's
-callee : (c : tie.Start) → c .args .call .tenant .0 < tenants
-callee c = valid-tenant (c .args .t1) (c .args .call .tenant) (c .args .call .label) (c .args .call .action) (c .pre .1)
+inside : (c : tie.Start) → c .args .call .tenant .0 < tenants
+inside c = valid-tenant (c .args .t1) (c .args .call .tenant) (c .args .call .label) (c .args .call .action) (c .pre .1)
 
 mul-tenant : tie.Need-mul-tenant
-mul-tenant c = let h = callee c in omega arith
+mul-tenant c = let h = inside c in omega arith
 
 element-copy-out-tenant : tie.Need-element-copy-out-tenant
-element-copy-out-tenant c = let h = callee c in omega arith
+element-copy-out-tenant c = let h = inside c in omega arith
 
 contains-requires : tie.Need-contains-requires
 contains-requires c κs =
     let s = c .before in
-    tenant-clearance _ (sound-parts (s .args .t1) (s .pre .0) .tenant (s .args .call .tenant) (callee s))
+    tenant-clearance _ (sound-parts (s .args .t1) (s .pre .0) .tenant (s .args .call .tenant) (inside s))
 
 returns : tie.Need-returns
 unfolding cleared

@@ -6,8 +6,7 @@ use native.Mathlib.Omega.{arith}
 use borrow.Author.Count.{below-more}
 use Rattle.segments.specs.Segments.{slots}
 use Rattle.segments.specs.Slots.{emptyAt}
-use Rattle.segments.proofs.SlotsLaws.{own-bound}
-use Rattle.segments.proofs.SlotsLaws.{lowest-found, lowest-none}
+use Rattle.segments.proofs.SlotsLaws.{bound-by, lowest-found, lowest-none}
 use Rattle.segments.proofs.slots.lowest_empty.Statement.{statement}
 use Rattle.segments.proofs.slots.lowest_empty.Tie as tie
 
@@ -19,10 +18,7 @@ abbrev μ-loop : tie.MeasureT-loop
 
 -- the slots that are looked at are slots of the state
 bound : (c : tie.After-slot-count Inv-loop μ-loop) → c .before .first-slot .result + c .slot-count .result ≤ slots
-bound c =
-    let a = c .before .before .args in
-    let b = own-bound (a .s) (a .t) (c .before .before .pre) in
-    omega arith
+bound c = bound-by _ _ _ _ (c .before .first-slot .ensures) (c .slot-count .ensures) (c .before .before .pre)
 
 loop-holds : tie.Need-loop-holds Inv-loop μ-loop
 loop-holds c = (search needs, λ j l. absurd (omega arith))

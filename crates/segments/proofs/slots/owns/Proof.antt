@@ -1,14 +1,12 @@
 use borrow.Author.Needs.{needs}
 use native.Mathlib.Omega.{arith}
-use Rattle.segments.proofs.SlotsLaws.{own-bound}
-use Rattle.segments.proofs.SlotsLaws.{owns-inside, owns-outside}
+use Rattle.segments.proofs.SlotsLaws.{bound-by, owns-inside, owns-outside}
 use Rattle.segments.proofs.slots.owns.Statement.{statement}
 use Rattle.segments.proofs.slots.owns.Tie as tie
 
 add-end : tie.Need-add-end
 add-end c =
-    let a = c .before .before .before .before .args in
-    let b = own-bound (a .s) (a .t) (c .before .before .if1 .taken) in
+    let b = bound-by _ _ _ _ (c .before .first-slot .ensures) (c .slot-count .ensures) (c .before .before .if1 .taken) in
     omega arith
 
 returns : tie.Need-returns

@@ -1,12 +1,13 @@
 use borrow.Author.Needs.{needs}
-use mathlib.Core.Path.{sym, ap, _∙_}
+use mathlib.Core.Path.{_≡_, sym, ap, _∙_}
 use Prim.Native.Nat.{_+_, _-_, _≤_}
 use native.Mathlib.Omega.{arith}
+use Rattle.label.specs.Index.{sumFrom}
 use Rattle.segments.specs.Parts.{leftOf}
 use Rattle.segments.specs.Segments.{pagesAt, slot, slots}
-use Rattle.segments.proofs.SlotsLaws.{own-bound}
+use Rattle.segments.specs.Slots.{pagesOf}
 use Rattle.segments.proofs.LimitLaws.{Taken, take-all, take-next, take-none, take-over}
-use Rattle.segments.proofs.SlotsLaws.{pages-by}
+use Rattle.segments.proofs.SlotsLaws.{bound-by, pages-by}
 use Rattle.segments.proofs.slots.pages_left.Statement.{statement}
 use Rattle.segments.proofs.slots.pages_left.Tie as tie
 
@@ -16,12 +17,15 @@ Inv-loop limit s first count left₀ i₀ left i = Taken (λ p. pagesAt s (slot 
 abbrev μ-loop : tie.MeasureT-loop
 μ-loop limit s first count left₀ i₀ left i = count - i
 
--- the slots that are read are slots of the state
+-- what the functions before the loop tell of the slots that are read
 bound : (c : tie.After-slot-count Inv-loop μ-loop) → c .before .first-slot .result + c .slot-count .result ≤ slots
-bound c =
+bound c = bound-by _ _ _ _ (c .before .first-slot .ensures) (c .slot-count .ensures) (c .before .before .pre)
+
+total : (c : tie.After-slot-count Inv-loop μ-loop) → let a = c .before .before .args in
+    leftOf (a .limit) (sumFrom (λ p. pagesAt (a .t1) (slot p)) (c .before .first-slot .result) (c .slot-count .result)) ≡ leftOf (a .limit) (pagesOf (a .t1) (a .t))
+total c =
     let a = c .before .before .args in
-    let b = own-bound (a .t1) (a .t) (c .before .before .pre) in
-    omega arith
+    ap (leftOf (a .limit)) (pages-by (a .t1) (a .t) _ _ (c .before .first-slot .ensures) (c .slot-count .ensures))
 
 loop-holds : tie.Need-loop-holds Inv-loop μ-loop
 loop-holds c = take-none _ _ _ _
@@ -36,21 +40,13 @@ element-copy-out-pages : tie.Need-element-copy-out-pages Inv-loop μ-loop
 element-copy-out-pages c = let b = bound (c .before .before) in omega arith
 
 returns : tie.Need-returns Inv-loop μ-loop
-returns c =
-    let h = c .before .before in
-    let n = h .before in
-    let a = n .before .before .args in
-    sym (ap (leftOf (a .limit)) (sym (pages-by (a .t1) (a .t) _ _ (n .before .first-slot .ensures) (n .slot-count .ensures))) ∙ take-over _ _ _ _ _ _ (c .before .loop-test .taken) (c .if1 .taken) (h .loop .inv))
+returns c = let h = c .before .before in sym (take-over _ _ _ _ _ _ (c .before .loop-test .taken) (c .if1 .taken) (h .loop .inv)) ∙ total (h .before)
 
 loop-again : tie.Need-loop-again Inv-loop μ-loop
 loop-again c = take-next _ _ _ _ _ _ (c .before .loop-test .taken) (c .if1 .left) (c .before .before .loop .inv)
 
 returns-2 : tie.Need-returns-2 Inv-loop μ-loop
-returns-2 c =
-    let h = c .before in
-    let n = h .before in
-    let a = n .before .before .args in
-    sym (ap (leftOf (a .limit)) (sym (pages-by (a .t1) (a .t) _ _ (n .before .first-slot .ensures) (n .slot-count .ensures))) ∙ take-all _ _ _ _ _ _ (c .loop-test .left) (h .loop .inv))
+returns-2 c = let h = c .before in sym (take-all _ _ _ _ _ _ (c .loop-test .left) (h .loop .inv)) ∙ total (h .before)
 
 pub pages-left-spec : {M : Type 1} → statement M
 pages-left-spec =

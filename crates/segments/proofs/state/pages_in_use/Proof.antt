@@ -3,8 +3,8 @@ use mathlib.Core.Bool.{true}
 use mathlib.Core.Path.{_≡_, sym, ap, _∙_}
 use Prim.Native.Nat.{_≤_, _<_}
 use native.Mathlib.Omega.{arith}
-use borrow.Author.Tests.{not-false, not-true}
 use Rattle.label.specs.Answer.{granted}
+use Rattle.label.proofs.BoolLaws.{told-false, told-true}
 use Rattle.segments.specs.Parts.{remainingOf}
 use Rattle.segments.specs.Segments.{ceilingAt, tenants}
 use Rattle.segments.specs.Slots.{pagesOf}
@@ -15,10 +15,10 @@ use Rattle.segments.proofs.state.pages_in_use.Statement.{statement}
 use Rattle.segments.proofs.state.pages_in_use.Tie as tie
 
 is-sound : (c : tie.Else1) → sound (c .before .before .args .t1) ≡ true
-is-sound c = sym (c .before .sound .ensures) ∙ not-false _ (c .if1 .left)
+is-sound c = told-true (c .before .sound .ensures) (c .if1 .left)
 
 is-admitted : (c : tie.Else2) → let a = c .before .before .before .before .args in admitted (a .t1) (a .t) ≡ true
-is-admitted c = sym (c .before .admitted .ensures) ∙ not-false _ (c .if2 .left)
+is-admitted c = told-true (c .before .admitted .ensures) (c .if2 .left)
 
 inside : (c : tie.Else2) → c .before .before .before .before .args .t .0 < tenants
 inside c = admitted-parts _ _ (is-admitted c) .0
@@ -27,10 +27,10 @@ in-ceiling : (c : tie.Else2) → let a = c .before .before .before .before .args
 in-ceiling c = sound-parts _ (is-sound (c .before .before)) .pages _ (inside c)
 
 returns : tie.Need-returns
-returns c = rw (sym (c .before .sound .ensures) ∙ not-true _ (c .if1 .taken))
+returns c = rw (told-false (c .before .sound .ensures) (c .if1 .taken))
 
 returns-2 : tie.Need-returns-2
-returns-2 c = rw (is-sound (c .before .before), sym (c .before .admitted .ensures) ∙ not-true _ (c .if2 .taken))
+returns-2 c = rw (is-sound (c .before .before), told-false (c .before .admitted .ensures) (c .if2 .taken))
 
 mul-ceiling : tie.Need-mul-ceiling
 mul-ceiling c = let h = inside c in omega arith

@@ -1,8 +1,8 @@
 use borrow.Author.Needs.{needs}
 use mathlib.Core.Bool.{_&&_}
-use mathlib.Core.Path.{sym, ap, ap₂, _∙_}
+use mathlib.Core.Path.{_≡_, sym, ap₂, _∙_}
 use Rattle.label.proofs.BoolLaws.{second-true}
-use Rattle.segments.specs.Parts.{keptIn}
+use Rattle.segments.specs.Parts.{tenantsSound}
 use Rattle.segments.specs.Segments.{pagesValid}
 use Rattle.segments.specs.Slots.{ceilingsOf}
 use Rattle.segments.specs.Sound.{sound}
@@ -10,8 +10,12 @@ use Rattle.segments.proofs.LimitLaws.{kept-exact}
 use Rattle.segments.proofs.state.sound.Statement.{statement}
 use Rattle.segments.proofs.state.sound.Tie as tie
 
+-- the first test
+tested : (c : tie.After-tenants-sound) → let s = c .before .before .args .s in (pagesValid (s .pool) && tenantsSound s) ≡ (c .before .pages-valid .result && c .tenants-sound .result)
+tested c = ap₂ _&&_ (sym (c .before .pages-valid .ensures)) (sym (c .tenants-sound .ensures))
+
 slots-sound-requires : tie.Need-slots-sound-requires
-slots-sound-requires c κs = second-true (pagesValid (c .before .before .before .args .s .pool)) _ (ap₂ _&&_ (sym (c .before .before .pages-valid .ensures)) (sym (c .before .tenants-sound .ensures)) ∙ c .if1 .taken)
+slots-sound-requires c κs = second-true (pagesValid (c .before .before .before .args .s .pool)) _ (tested (c .before) ∙ c .if1 .taken)
 
 returns : tie.Need-returns
 unfolding sound
@@ -22,11 +26,11 @@ returns c =
     let t = x .before in
     let s = t .before .before .before .args .s in
     rw
-    (ap₂ _&&_ (sym (t .before .before .pages-valid .ensures)) (sym (t .before .tenants-sound .ensures)) ∙ t .if1 .taken, x .slots-sound .ensures, k .kept .ensures ∙ ap keptIn (l .pool-left .ensures) ∙ kept-exact (s .pool) (ceilingsOf s), c .ceilings-kept .ensures)
+    (tested (t .before) ∙ t .if1 .taken, x .slots-sound .ensures, kept-exact (s .pool) (ceilingsOf s) (l .pool-left .ensures) (k .kept .ensures), c .ceilings-kept .ensures)
 
 returns-2 : tie.Need-returns-2
 unfolding sound
-returns-2 c = rw (ap₂ _&&_ (sym (c .before .before .pages-valid .ensures)) (sym (c .before .tenants-sound .ensures)) ∙ c .if1 .left)
+returns-2 c = rw (tested (c .before) ∙ c .if1 .left)
 
 pub sound-spec : {M : Type 1} → statement M
 sound-spec =

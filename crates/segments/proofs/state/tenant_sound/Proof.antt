@@ -1,19 +1,13 @@
 use borrow.Author.Needs.{needs}
-use mathlib.Core.Path.{sym, ap, _∙_}
-use Rattle.label.specs.Answer.{testOf}
-use Rattle.segments.proofs.SoundLaws.{tenant-refused, tenant-told}
+use Rattle.segments.proofs.SoundLaws.{tenant-read}
 use Rattle.segments.proofs.state.tenant_sound.Statement.{statement}
 use Rattle.segments.proofs.state.tenant_sound.Tie as tie
 
 returns : tie.Need-returns
-returns c =
-    let k = c .before .before .before in
-    tenant-told _ _ (ap testOf (sym (c .before .test .given .1)) ∙ k .is-empty .ensures)
+returns c = let k = c .before .before .before in tenant-read _ (c .before .test .given .1) (k .is-empty .ensures)
 
 returns-2 : tie.Need-returns-2
-returns-2 c =
-    let k = c .before .before in
-    tenant-refused _ _ _ (ap testOf (sym (c .enum-told .given .1)) ∙ k .is-empty .ensures)
+returns-2 c = let k = c .before .before in tenant-read _ (c .enum-told .given .1) (k .is-empty .ensures)
 
 pub tenant-sound-spec : {M : Type 1} → statement M
 tenant-sound-spec = tie.close (tie.spec (search needs) (search needs) (search needs) returns returns-2)

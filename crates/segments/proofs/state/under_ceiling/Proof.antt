@@ -1,6 +1,4 @@
 use borrow.Author.Needs.{needs}
-use mathlib.Core.Path.{ap, _∙_}
-use Rattle.segments.specs.Parts.{keptIn}
 use Rattle.segments.specs.Segments.{ceilingAt}
 use Rattle.segments.specs.Slots.{pagesOf}
 use Rattle.segments.specs.Sound.{underCeiling}
@@ -12,7 +10,7 @@ returns : tie.Need-returns
 unfolding underCeiling
 returns c =
     let a = c .before .before .args in
-    c .kept .ensures ∙ ap keptIn (c .before .pages-left .ensures) ∙ kept-exact (ceilingAt (a .t1) (a .t)) (pagesOf (a .t1) (a .t))
+    kept-exact (ceilingAt (a .t1) (a .t)) (pagesOf (a .t1) (a .t)) (c .before .pages-left .ensures) (c .kept .ensures)
 
 pub under-ceiling-spec : {M : Type 1} → statement M
 under-ceiling-spec = tie.close (tie.spec (search needs) (search needs) (search needs) (search needs) returns)
