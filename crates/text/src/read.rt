@@ -231,8 +231,7 @@ pub fn read_label(table: &[u8], more: bool, s: Subject, text: &[u8]) -> LabelAns
         Outcome::Granted => {
             let lines = t.lines;
             let starts = lines.starts;
-            let n = lines.count + 1;
-            read_checked(table, &starts[..n], s, text)
+            read_checked(table, lookup::starts_to(&starts, lines.count), s, text)
         }
     }
 }
@@ -315,8 +314,7 @@ pub fn read_range(table: &[u8], more: bool, s: Subject, text: &[u8]) -> RangeAns
         Outcome::Granted => {
             let lines = t.lines;
             let starts = lines.starts;
-            let n = lines.count + 1;
-            read_range_checked(table, &starts[..n], s, text)
+            read_range_checked(table, lookup::starts_to(&starts, lines.count), s, text)
         }
     }
 }

@@ -281,8 +281,14 @@ pub fn write_label(
         Outcome::Granted => {
             let lines = t.lines;
             let starts = lines.starts;
-            let n = lines.count + 1;
-            write_checked(table, &starts[..n], s, style, l, out)
+            write_checked(
+                table,
+                lookup::starts_to(&starts, lines.count),
+                s,
+                style,
+                l,
+                out,
+            )
         }
     }
 }
@@ -405,8 +411,14 @@ pub fn write_range(
         Outcome::Granted => {
             let lines = t.lines;
             let starts = lines.starts;
-            let n = lines.count + 1;
-            write_range_checked(table, &starts[..n], s, style, x, out)
+            write_range_checked(
+                table,
+                lookup::starts_to(&starts, lines.count),
+                s,
+                style,
+                x,
+                out,
+            )
         }
     }
 }
