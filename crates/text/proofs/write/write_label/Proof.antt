@@ -3,16 +3,14 @@ use mathlib.Core.Path.{refl}
 use Rattle.label.proofs.BufferLaws.{writes-nothing}
 use Rattle.text.specs.Write.{writeLabelOf}
 use Rattle.text.proofs.RoomLaws.{written-same}
-use Rattle.text.proofs.SubjectLaws.{table-next, table-refused}
+use Rattle.text.proofs.SubjectLaws.{refused-next, table-next}
 use Rattle.text.proofs.write.write_label.Statement.{statement}
 use Rattle.text.proofs.write.write_label.Tie as tie
 
 returns : tie.Need-returns
 returns c =
     let o = c .before in
-    let k = o .before .before in
-    let a = k .before .before .before .args in
-    writes-nothing _ _ _ _ (table-refused (a .more) (a .table .now) (k .check .ensures) (o .outcome .given .1) (λ es. writeLabelOf es (a .s) (a .style) (a .l))) refl
+    writes-nothing _ _ _ _ (refused-next (o .before .before .check .ensures) _ (o .outcome .given .1)) refl
 
 returns-2 : tie.Need-returns-2
 returns-2 c =

@@ -2,16 +2,14 @@ use borrow.Author.Needs.{needs}
 use mathlib.Core.Path.{refl}
 use Rattle.text.specs.Write.{writeRangeOf}
 use Rattle.text.proofs.RoomLaws.{range-refusal, range-same}
-use Rattle.text.proofs.SubjectLaws.{table-next, table-refused}
+use Rattle.text.proofs.SubjectLaws.{refused-next, table-next}
 use Rattle.text.proofs.write.write_range.Statement.{statement}
 use Rattle.text.proofs.write.write_range.Tie as tie
 
 returns : tie.Need-returns
 returns c =
     let o = c .before .before in
-    let k = o .before .before in
-    let a = k .before .before .before .args in
-    range-refusal _ _ _ _ _ (c .with-status .ensures) (table-refused (a .more) (a .table .now) (k .check .ensures) (o .outcome .given .1) (λ es. writeRangeOf es (a .s) (a .style) (a .x))) refl
+    range-refusal _ _ _ _ _ (c .with-status .ensures) (refused-next (o .before .before .check .ensures) _ (o .outcome .given .1)) refl
 
 returns-2 : tie.Need-returns-2
 returns-2 c =
