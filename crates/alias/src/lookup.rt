@@ -38,15 +38,10 @@ pub(crate) fn count(starts: &[usize]) -> usize
 fn part(table: &[u8], from: usize, to: usize) -> &[u8]
     ensures { λ r. ⌜ now r ≡ take (to - from) (drop from (now (table .entry))) ⌝ }
 {
-    let rest = octets::rest(table, from);
     if to <= from {
-        return &rest[..0];
+        return &table[..0];
     }
-    let n = to - from;
-    if n <= rest.len() {
-        return &rest[..n];
-    }
-    rest
+    octets::front(octets::rest(table, from), to - from)
 }
 
 // The line of entry k, and no bytes where there is no such entry.

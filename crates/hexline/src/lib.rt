@@ -90,7 +90,7 @@ pub fn write_label(l: Label, out: &mut [u8]) -> Written
     let mut bytes = [0u8; BODY_BYTES];
     bytes[0] = 1;
     let n = put_label(&mut bytes, 1, l, LINE_WORDS);
-    frame::write(&bytes[..n], out)
+    frame::write(octets::front(&bytes, n), out)
 }
 
 // The line of a range, kind 02.
@@ -103,7 +103,7 @@ pub fn write_range(x: Range, out: &mut [u8]) -> Written
     let mut bytes = [0u8; BODY_BYTES];
     bytes[0] = 2;
     let n = put_range(&mut bytes, 1, x, LINE_WORDS);
-    frame::write(&bytes[..n], out)
+    frame::write(octets::front(&bytes, n), out)
 }
 
 // The line of a tuple, kind 03.
@@ -117,7 +117,7 @@ pub fn write_tuple(t: Tuple, out: &mut [u8]) -> Written
     bytes[0] = 3;
     bytes[1] = presence(t);
     let n = put_regions(&mut bytes, 2, t, LINE_WORDS);
-    frame::write(&bytes[..n], out)
+    frame::write(octets::front(&bytes, n), out)
 }
 
 // The line of an alias entry, kind 04.
@@ -130,7 +130,7 @@ pub fn write_entry(e: Entry, out: &mut [u8]) -> Written
     let mut bytes = [0u8; BODY_BYTES];
     bytes[0] = 4;
     let n = put_entry(&mut bytes, 1, e, LINE_WORDS);
-    frame::write(&bytes[..n], out)
+    frame::write(octets::front(&bytes, n), out)
 }
 
 // Whether a line's body has that many bytes, and that kind.
@@ -144,17 +144,11 @@ fn has_form(line: &[u8], bytes: usize, kind: u8) -> bool
 pub fn read_label(line: &[u8]) -> LabelAnswer
     ensures { λ r. ⌜ Answered (r .outcome) (r .label) labels.zeroLabel (readLabelOf (now (line .entry))) ⌝ }
 {
-    if frame::framed(line) & has_form(line, 34, 1) {
-        let l = label_at(line, 1, LINE_WORDS);
-        if label::valid(l) {
-            return LabelAnswer {
-                outcome: Outcome::Granted,
-                label: l,
-            };
-        }
+    let l = label_at(line, 1, LINE_WORDS);
+    if frame::framed(line) & has_form(line, 34, 1) & label::valid(l) {
         return LabelAnswer {
-            outcome: Outcome::Refused(Errno::Invalid),
-            label: label::zero(),
+            outcome: Outcome::Granted,
+            label: l,
         };
     }
     LabelAnswer {
@@ -167,17 +161,11 @@ pub fn read_label(line: &[u8]) -> LabelAnswer
 pub fn read_range(line: &[u8]) -> RangeAnswer
     ensures { λ r. ⌜ Answered (r .outcome) (r .range) ranges.zeroRange (readRangeOf (now (line .entry))) ⌝ }
 {
-    if frame::framed(line) & has_form(line, 67, 2) {
-        let x = range_at(line, 1, LINE_WORDS);
-        if range::valid(x) {
-            return RangeAnswer {
-                outcome: Outcome::Granted,
-                range: x,
-            };
-        }
+    let x = range_at(line, 1, LINE_WORDS);
+    if frame::framed(line) & has_form(line, 67, 2) & range::valid(x) {
         return RangeAnswer {
-            outcome: Outcome::Refused(Errno::Invalid),
-            range: range::zero(),
+            outcome: Outcome::Granted,
+            range: x,
         };
     }
     RangeAnswer {
@@ -199,17 +187,11 @@ fn has_tuple_form(line: &[u8]) -> bool
 pub fn read_tuple(line: &[u8]) -> TupleAnswer
     ensures { λ r. ⌜ Answered (r .outcome) (r .tuple) tuples.emptyTuple (readTupleOf (now (line .entry))) ⌝ }
 {
-    if frame::framed(line) & has_tuple_form(line) {
-        let t = tuple_at(line, frame::byte(line, 1), 2, LINE_WORDS);
-        if tuple::valid(t) {
-            return TupleAnswer {
-                outcome: Outcome::Granted,
-                tuple: t,
-            };
-        }
+    let t = tuple_at(line, frame::byte(line, 1), 2, LINE_WORDS);
+    if frame::framed(line) & has_tuple_form(line) & tuple::valid(t) {
         return TupleAnswer {
-            outcome: Outcome::Refused(Errno::Invalid),
-            tuple: tuple::empty(),
+            outcome: Outcome::Granted,
+            tuple: t,
         };
     }
     TupleAnswer {
@@ -235,17 +217,11 @@ pub fn read_entry(line: &[u8]) -> EntryAnswer
     ensures { λ r. ⌜ Answered (r .outcome) (r .entry) entries.zeroEntry (readEntryOf (now (line .entry))) ⌝ }
 {
     let p = layout_at(line, 1, LINE_WORDS);
-    if frame::framed(line) & has_entry_form(line, p) {
-        let e = entry_from(line, 2, p, LINE_WORDS);
-        if entry::valid(e) {
-            return EntryAnswer {
-                outcome: Outcome::Granted,
-                entry: e,
-            };
-        }
+    let e = entry_from(line, 2, p, LINE_WORDS);
+    if frame::framed(line) & has_entry_form(line, p) & entry::valid(e) {
         return EntryAnswer {
-            outcome: Outcome::Refused(Errno::Invalid),
-            entry: entry::zero(),
+            outcome: Outcome::Granted,
+            entry: e,
         };
     }
     EntryAnswer {

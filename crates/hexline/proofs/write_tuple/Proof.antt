@@ -12,7 +12,6 @@ use Rattle.hexline.specs.Body.{lineWords}
 use Rattle.hexline.specs.Line.{tupleBody}
 use Rattle.hexline.specs.Regions.{regionsBytes}
 use Rattle.hexline.proofs.RegionsLaws.{regions-size}
-use Rattle.hexline.proofs.BodyLoops.{appended-count}
 use Rattle.hexline.proofs.LineLaws.{writes-line}
 use Rattle.hexline.proofs.write_tuple.Statement.{statement}
 use Rattle.hexline.proofs.write_tuple.Tie as tie
@@ -20,33 +19,19 @@ use Rattle.hexline.proofs.write_tuple.Tie as tie
 returns : tie.Need-returns
 returns c = writes-nothing Invalid _ _ _ (stopped _ 22 _ (sym (c .before .valid .ensures) ∙ not-true _ (c .if1 .taken))) refl
 
-array-share-prefix-bytes : tie.Need-array-share-prefix-bytes
-array-share-prefix-bytes c =
-    let p = c .before in
-    let n = p .put-regions .ensures .next in
-    let l = regions-size lineWords (p .before .before .before .before .before .before .args .t) regions in
-    search needs
-
-slice-aggregate-write : tie.Need-slice-aggregate-write
-slice-aggregate-write c =
-    let p = c .before .before in
-    let n = p .put-regions .ensures .next in
-    let l = regions-size lineWords (p .before .before .before .before .before .before .args .t) regions in
-    appended-count (p .put-regions .ensures) (omega arith)
-
 returns-2 : tie.Need-returns-2
 unfolding tupleBody
 returns-2 c =
     let w = c .before .before in
-    let p = w .before .before .before .before in
+    let f = w .before .before in
+    let p = f .before .before .before in
     let q = p .before .before in
     let e = q .before in
     let t = e .before .before .before .args .t in
     let n = regions-size lineWords t regions in
     writes-line _ _ _ _ (tupleBody 3 lineWords t) _ (sym (e .before .valid .ensures) ∙ not-false _ (e .if1 .left))
-    (p .put-regions .ensures .holds ∙ ap (λ (b : ℕ). 3 ∷ b ∷ regionsBytes lineWords t regions) (q .presence .ensures)) (omega arith) (w .write .ensures)
+    (f .front .ensures ∙ p .put-regions .ensures .holds ∙ ap (λ (b : ℕ). 3 ∷ b ∷ regionsBytes lineWords t regions) (q .presence .ensures)) (omega arith) (w .write .ensures)
 
 pub write-tuple-spec : {M : Type 1} → statement M
 write-tuple-spec =
-    tie.close (tie.spec (search needs) returns (search needs) (search needs) (search needs) (search needs) (search needs)
-    array-share-prefix-bytes slice-aggregate-write (search needs) (search needs) returns-2)
+    tie.close (tie.spec (search needs) returns (search needs) (search needs) (search needs) (search needs) (search needs) (search needs) (search needs) (search needs) (search needs) returns-2)
