@@ -239,9 +239,11 @@ pub(crate) struct Layout {
     pub abbreviation: Span,
 }
 
+// How many bytes a value of a class has. The second clause of this and the next three follows, and is stated for callers.
 fn value_size(class: u8, words: usize) -> usize
     requires { ⌜ words ≤ setWords ⌝ }
     ensures { λ r. ⌜ r ≡ valueSize words class ⌝ }
+    ensures { λ r. ⌜ r ≤ labelSize words ⌝ }
 {
     if class == 3 { 1 + 8 * words } else { 1 }
 }
@@ -249,6 +251,7 @@ fn value_size(class: u8, words: usize) -> usize
 // A byte of a line's body as a length.
 fn length_at(line: &[u8], i: usize) -> usize
     ensures { λ r. ⌜ r ≡ byteAt (bodyOf (now (line .entry))) i ⌝ }
+    ensures { λ r. ⌜ r < 256 ⌝ }
 {
     frame::byte(line, i) as usize
 }
@@ -257,6 +260,7 @@ fn length_at(line: &[u8], i: usize) -> usize
 fn span_at(line: &[u8], at: usize) -> Span
     requires { ⌜ at < 1024 ⌝ }
     ensures { λ r. ⌜ r ≡ spanOf (bodyOf (now (line .entry))) at ⌝ }
+    ensures { λ r. ⌜ (r .at ≡ at + 1) × (r .length < 256) ⌝ }
 {
     Span {
         at: at + 1,
@@ -268,6 +272,7 @@ fn span_at(line: &[u8], at: usize) -> Span
 pub(crate) fn layout_at(line: &[u8], at: usize, words: usize) -> Layout
     requires { ⌜ (words ≤ setWords) × (at < 256) ⌝ }
     ensures { λ r. ⌜ r ≡ layoutOf words (bodyOf (now (line .entry))) at ⌝ }
+    ensures { λ r. ⌜ (r .name .at < 512) × (r .abbreviation .at < 768) × (r .abbreviation .length < 256) ⌝ }
 {
     let class = frame::byte(line, at);
     let name = span_at(line, at + 1 + value_size(class, words));

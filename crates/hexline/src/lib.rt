@@ -34,6 +34,7 @@ use range::tuple;
 use range::tuple::Tuple;
 use range::tuple::TupleAnswer;
 ghost use mathlib.Core.Path.{_≡_};
+ghost use Prim.Native.Nat.{_+_, _<_};
 ghost use Rattle.label.specs.Answer.{Answered};
 ghost use Rattle.label.specs.Buffer.{WrittenTo};
 ghost use Rattle.label.specs.Label as labels;
@@ -202,7 +203,7 @@ pub fn read_tuple(line: &[u8]) -> TupleAnswer
 
 // Whether a line's body has the form of an alias entry's: kind 04, lengths that fit, and a class that there is.
 fn has_entry_form(line: &[u8], p: Layout) -> bool
-    requires { ⌜ p ≡ layoutOf lineWords (bodyOf (now line)) 1 ⌝ }
+    requires { ⌜ (p ≡ layoutOf lineWords (bodyOf (now line)) 1) × (p .abbreviation .at + p .abbreviation .length < 1024) ⌝ }
     ensures { λ r. ⌜ r ≡ entryForm 4 lineWords (bodyOf (now (line .entry))) ⌝ }
 {
     let name = p.name;

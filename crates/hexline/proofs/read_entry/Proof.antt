@@ -1,28 +1,19 @@
 use borrow.Author.Needs.{needs}
 use mathlib.Core.Path.{_≡_, ap, _∙_}
-use native.Mathlib.Omega.{arith}
 use Rattle.frame.specs.Frame.{bodyOf}
-use Rattle.frame.proofs.FrameLaws.{body-small}
 use Rattle.hexline.specs.Body.{lineWords}
 use Rattle.hexline.specs.Entry.{entryFrom, validOf, zeroEntry}
 use Rattle.hexline.specs.Line.{entryForm, entryIn}
-use Rattle.hexline.proofs.EntryLaws.{layout-small}
 use Rattle.hexline.proofs.LineLaws.{accepts, refuses}
 use Rattle.hexline.proofs.read_entry.Statement.{statement}
 use Rattle.hexline.proofs.read_entry.Tie as tie
 
-entry-from-requires : tie.Need-entry-from-requires
-entry-from-requires c κs =
-    let line = c .before .before .args .line .now in
-    let small = layout-small lineWords (bodyOf line) 1 (body-small line) (omega arith) (omega arith) in
-    rw (c .layout-at .ensures) (omega arith, omega (arith, small .name), omega (arith, small .abbreviation))
-
 has-entry-form-requires : tie.Need-has-entry-form-requires
-has-entry-form-requires c κs = c .before .before .layout-at .ensures
+has-entry-form-requires c κs = (c .before .before .layout-at .ensures .0, search needs)
 
 -- what stands in the line
 stands : (x : tie.After-entry-from) → x .entry-from .result ≡ entryIn lineWords (bodyOf (x .before .before .before .args .line .now))
-stands x = x .entry-from .ensures ∙ ap (entryFrom lineWords (bodyOf (x .before .before .before .args .line .now)) 2) (x .before .layout-at .ensures)
+stands x = x .entry-from .ensures ∙ ap (entryFrom lineWords (bodyOf (x .before .before .before .args .line .now)) 2) (x .before .layout-at .ensures .0)
 
 returns : tie.Need-returns
 returns c =
@@ -40,5 +31,5 @@ returns-2 c =
 
 pub read-entry-spec : {M : Type 1} → statement M
 read-entry-spec =
-    tie.close (tie.spec (search needs) entry-from-requires (search needs) has-entry-form-requires (search needs) returns (search needs)
+    tie.close (tie.spec (search needs) (search needs) (search needs) has-entry-form-requires (search needs) returns (search needs)
     returns-2)
