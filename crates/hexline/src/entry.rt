@@ -195,24 +195,6 @@ fn put_text(out: &mut [u8], at: usize, text: &[u8], n: usize) -> usize
     put_bytes(out, next, text, n)
 }
 
-fn put_name(out: &mut [u8], at: usize, name: Name) -> usize
-    requires { ⌜ (nameOf (name .bytes) (name .length) ≡ true) × (at + 1 + maxName ≤ length (now out)) ⌝ }
-    ensures { λ r. ⌜ Appended (now (out .entry)) at (textBytes (name .bytes) (name .length)) r (now (out .exit)) ⌝ }
-    ensures { λ r. ⌜ r ≤ at + 1 + maxName ⌝ }
-{
-    let bytes = name.bytes;
-    put_text(out, at, &bytes, name.length)
-}
-
-fn put_abbreviation(out: &mut [u8], at: usize, name: Abbreviation) -> usize
-    requires { ⌜ (nameOf (name .bytes) (name .length) ≡ true) × (at + 1 + maxAbbreviation ≤ length (now out)) ⌝ }
-    ensures { λ r. ⌜ Appended (now (out .entry)) at (textBytes (name .bytes) (name .length)) r (now (out .exit)) ⌝ }
-    ensures { λ r. ⌜ r ≤ at + 1 + maxAbbreviation ⌝ }
-{
-    let bytes = name.bytes;
-    put_text(out, at, &bytes, name.length)
-}
-
 // An entry's bytes at index at, and the index past them.
 pub(crate) fn put_entry(out: &mut [u8], at: usize, e: Entry, words: usize) -> usize
     requires { ⌜ (words ≤ setWords) × (at + entrySize words ≤ length (now out)) × (validOf e ≡ true) ⌝ }
@@ -222,8 +204,12 @@ pub(crate) fn put_entry(out: &mut [u8], at: usize, e: Entry, words: usize) -> us
     let v = e.value;
     let value_at = put_byte(out, at, class_of(v));
     let name_at = put_value(out, value_at, v, e.label, words);
-    let abbreviation_at = put_name(out, name_at, e.name);
-    put_abbreviation(out, abbreviation_at, e.abbreviation)
+    let name = e.name;
+    let n = name.bytes;
+    let abbreviation_at = put_text(out, name_at, &n, name.length);
+    let abbreviation = e.abbreviation;
+    let a = abbreviation.bytes;
+    put_text(out, abbreviation_at, &a, abbreviation.length)
 }
 
 // A text in a line's body: the index of its first byte, and its length.
