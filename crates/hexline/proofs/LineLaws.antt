@@ -162,11 +162,10 @@ entry-form-parts kind w bs e =
 
 -- ---- how a writer ends that has put a body together
 
-pub writes-line : (r : Written) (before after bs body : List ℕ) (valid : Bool) → valid ≡ true → bs ≡ body → length body ≤ maxBody
-    → WrittenTo r (frameAnswerOf bs) before after → WrittenTo r (lineOf valid body) before after
-writes-line r before after bs body valid v e h w =
-    let fits : leb (length body) maxBody ≡ true = le-leb (length body) maxBody h in
-    rw v (rw (e, fits) at w)
+pub writes-line : (r : Written) (before after bs body : List ℕ) {v valid : Bool} → v ≡ valid → bs ≡ body → length body ≤ maxBody
+    → WrittenTo r (require v 22 (frameAnswerOf bs)) before after → WrittenTo r (lineOf valid body) before after
+writes-line r before after bs body q e h w =
+    let fits : leb (length body) maxBody ≡ true = le-leb (length body) maxBody h in rw (q, e, fits) at w
 
 -- ---- the kind of a line
 

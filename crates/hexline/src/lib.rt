@@ -35,7 +35,8 @@ use range::tuple::Tuple;
 use range::tuple::TupleAnswer;
 ghost use mathlib.Core.Path.{_≡_};
 ghost use Prim.Native.Nat.{_+_, _<_};
-ghost use Rattle.label.specs.Answer.{Answered};
+ghost use lib.ListN.{take};
+ghost use Rattle.label.specs.Answer.{Answered, require};
 ghost use Rattle.label.specs.Buffer.{WrittenTo};
 ghost use Rattle.label.specs.Label as labels;
 ghost use Rattle.range.specs.Range as ranges;
@@ -43,7 +44,7 @@ ghost use Rattle.range.specs.Tuple as tuples;
 ghost use Rattle.hexline.specs.Body.{lineWords};
 ghost use Rattle.hexline.specs.Entry as entries;
 ghost use Rattle.hexline.specs.Entry.{layoutOf};
-ghost use Rattle.frame.specs.Frame.{bodyOf};
+ghost use Rattle.frame.specs.Frame.{bodyOf, frameAnswerOf};
 ghost use Rattle.hexline.specs.Line.{entryForm, entryLineOf, formOf, kindAnswerOf, kindOf, labelLineOf, rangeLineOf, readEntryOf, readLabelOf, readRangeOf, readTupleOf, tupleForm, tupleLineOf};
 
 // The longest body is a full tuple's: kind, presence, six labels.
@@ -81,44 +82,45 @@ pub fn kind_of(line: &[u8]) -> Kind
     Kind::Refused(Errno::Invalid)
 }
 
+// The line of a body, the first n bytes, where its contents are valid.
+fn write_line(valid: bool, bytes: &[u8], n: usize, out: &mut [u8]) -> Written
+    ensures { λ r. ⌜ WrittenTo r (require valid 22 (frameAnswerOf (take n (now (bytes .entry))))) (now (out .entry)) (now (out .exit)) ⌝ }
+{
+    if valid {
+        return frame::write(octets::front(bytes, n), out);
+    }
+    Written::Refused(Errno::Invalid)
+}
+
 // The line of a label, kind 01.
 pub fn write_label(l: Label, out: &mut [u8]) -> Written
     ensures { λ r. ⌜ WrittenTo r (labelLineOf l) (now (out .entry)) (now (out .exit)) ⌝ }
 {
-    if !label::valid(l) {
-        return Written::Refused(Errno::Invalid);
-    }
     let mut bytes = [0u8; BODY_BYTES];
     bytes[0] = 1;
     let n = put_label(&mut bytes, 1, l, LINE_WORDS);
-    frame::write(octets::front(&bytes, n), out)
+    write_line(label::valid(l), &bytes, n, out)
 }
 
 // The line of a range, kind 02.
 pub fn write_range(x: Range, out: &mut [u8]) -> Written
     ensures { λ r. ⌜ WrittenTo r (rangeLineOf x) (now (out .entry)) (now (out .exit)) ⌝ }
 {
-    if !range::valid(x) {
-        return Written::Refused(Errno::Invalid);
-    }
     let mut bytes = [0u8; BODY_BYTES];
     bytes[0] = 2;
     let n = put_range(&mut bytes, 1, x, LINE_WORDS);
-    frame::write(octets::front(&bytes, n), out)
+    write_line(range::valid(x), &bytes, n, out)
 }
 
 // The line of a tuple, kind 03.
 pub fn write_tuple(t: Tuple, out: &mut [u8]) -> Written
     ensures { λ r. ⌜ WrittenTo r (tupleLineOf t) (now (out .entry)) (now (out .exit)) ⌝ }
 {
-    if !tuple::valid(t) {
-        return Written::Refused(Errno::Invalid);
-    }
     let mut bytes = [0u8; BODY_BYTES];
     bytes[0] = 3;
     bytes[1] = presence(t);
     let n = put_regions(&mut bytes, 2, t, LINE_WORDS);
-    frame::write(octets::front(&bytes, n), out)
+    write_line(tuple::valid(t), &bytes, n, out)
 }
 
 // The line of an alias entry, kind 04.
@@ -131,7 +133,7 @@ pub fn write_entry(e: Entry, out: &mut [u8]) -> Written
     let mut bytes = [0u8; BODY_BYTES];
     bytes[0] = 4;
     let n = put_entry(&mut bytes, 1, e, LINE_WORDS);
-    frame::write(octets::front(&bytes, n), out)
+    write_line(true, &bytes, n, out)
 }
 
 // Whether a line's body has that many bytes, and that kind.

@@ -21,14 +21,14 @@ returns-2 : tie.Need-returns-2
 unfolding entryBody
 returns-2 c =
     let w = c .before .before in
-    let g = w .before .before in
-    let p = g .before .before .before in
+    let p = w .before .before .before .before in
     let f = p .before .before in
     let e = f .before .before .before .args .e in
     let n = p .put-entry .ensures .0 .next in
     let m = p .put-entry .ensures .1 in
-    writes-line _ _ _ _ (entryBody 4 lineWords e) _ (sym (f .before .valid .ensures) ∙ not-false _ (f .if1 .left)) (g .front .ensures ∙ p .put-entry .ensures .0 .holds) (omega arith) (w .write .ensures)
+    writes-line _ _ _ _ (entryBody 4 lineWords e) (sym (sym (f .before .valid .ensures) ∙ not-false _ (f .if1 .left))) (p .put-entry .ensures .0 .holds) (omega arith) (w .write-line .ensures)
 
 pub write-entry-spec : {M : Type 1} → statement M
 write-entry-spec =
-    tie.close (tie.spec (search needs) returns (search needs) (search needs) put-entry-requires (search needs) (search needs) (search needs) (search needs) returns-2)
+    tie.close (tie.spec (search needs) returns (search needs) (search needs) put-entry-requires (search needs) (search needs)
+    (search needs) returns-2)

@@ -17,9 +17,8 @@ returns-2 c =
     let w = c .before .before in
     let b = w .before .before in
     let e = b .before .before .before .before in
-    let k = e .before .before in
-    let a = k .before .before .before .args in
-    written-same (w .write-checked .ensures) (table-next (a .more) (a .table .now) (k .check .ensures) (e .enum-told .given .1) (b .starts-to .ensures) (λ es. writeLabelOf es (a .s) (a .style) (a .l)))
+    let a = e .before .before .before .before .before .args in
+    written-same (w .write-checked .ensures) (table-next (a .more) (a .table .now) (e .before .before .check .ensures) (e .enum-told .given .1) (b .starts-to .ensures) (λ es. writeLabelOf es (a .s) (a .style) (a .l)))
 
 pub write-label-spec : {M : Type 1} → statement M
 write-label-spec =
