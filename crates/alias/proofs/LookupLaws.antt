@@ -1,6 +1,7 @@
 -- What the loops over a table's lines and over the bytes of names need of the definitions. Assumes nothing.
-use mathlib.Core.Bool.{Bool, false, true, _&&_, _||_}
+use mathlib.Core.Bool.{Bool, false, true, cond, _&&_, _||_}
 use mathlib.Core.List.{List, [], _∷_}
+use mathlib.Core.Option.{some}
 use mathlib.Core.Path.{_≡_, refl, sym, _∙_}
 use Prim.Native.Nat.{ℕ, zero, suc, _+_, _-_, _≤_, _<_}
 use native.Mathlib.Nat.{sub-zero}
@@ -11,6 +12,7 @@ use lib.ListN.{drop, getD, length, length-map, List·getD-eq-default}
 use Rattle.label.specs.Index.{firstFrom}
 use Rattle.label.specs.declared.Label.{Label}
 use Rattle.label.proofs.IndexLaws.{tabulate-at, tabulate-length}
+use Rattle.label.proofs.SearchLaws.{search-hit, search-pass}
 use Rattle.octets.specs.Bytes.{sameBytes}
 use Rattle.octets.proofs.ByteLaws.{lengths-differ, same-end, same-pass, same-stop}
 use Rattle.frame.specs.Frame.{bodyOf}
@@ -112,6 +114,13 @@ module _ (bytes starts : List ℕ) where
   pub entry-test : (t : Entry → Bool) (k : ℕ) {line : List ℕ} {x : Bool} → k < length starts - 1 → line ≡ lineAt (linesBy bytes starts) k → x ≡ t (standingIn line)
       → t (entryAt (entriesBy bytes starts) k) ≡ x
   entry-test t k {line} {x} h e f = rw (f, e, entries-at k h)
+
+  -- a search of the entries at entry k, by the test of its line: it ends there, or goes on
+  pub entry-step : (t : Entry → Bool) (k n : ℕ) {line : List ℕ} {x : Bool} (b : Bool) → k < length starts - 1 → k < n → line ≡ lineAt (linesBy bytes starts) k
+      → x ≡ t (standingIn line) → x ≡ b
+      → firstFrom (λ j. t (entryAt (entriesBy bytes starts) j)) k (n - k) ≡ cond b (some k) (firstFrom (λ j. t (entryAt (entriesBy bytes starts) j)) (k + 1) (n - (k + 1)))
+  entry-step t k n true h l e f g = search-hit _ k n l (entry-test t k h e f ∙ g)
+  entry-step t k n false h l e f g = search-pass _ k n l (entry-test t k h e f ∙ g)
 
   -- a search of the entries begins with all of them
   pub search-start : (f : ℕ → Bool) {n : ℕ} → n ≡ length starts - 1 → firstFrom f 0 (length (entriesBy bytes starts)) ≡ firstFrom f 0 (n - 0)

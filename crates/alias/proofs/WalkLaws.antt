@@ -11,13 +11,12 @@ use lib.Seq.{length-take-le, take-all}
 use borrow.Author.Count.{below-more}
 use Rattle.label.specs.Answer.{granted, refused}
 use Rattle.label.specs.Index.{firstFrom}
-use Rattle.label.proofs.IndexLaws.{tabulate-length}
 use Rattle.label.proofs.SearchLaws.{any-same, first-either, first-same, orElse, search-end, search-hit}
 use Rattle.octets.specs.Bytes.{sameBytes}
 use Rattle.hexline.specs.Entry.{abbreviationBytes, nameBytes, zeroEntry}
 use Rattle.hexline.specs.Line.{standingIn}
 use Rattle.hexline.specs.declared.entry.Entry.{Entry}
-use Rattle.alias.specs.Lines.{bytesBefore, entriesBy, entriesOf, entryAt, indexedOf, linesBy, linesOf, maxLines, startOf}
+use Rattle.alias.specs.Lines.{bytesBefore, entriesBy, entriesOf, entryAt, indexedOf, linesBy, linesOf, maxLines}
 use Rattle.alias.specs.Table.{badAt, checkOf, firstRepeat, judgedOf, repeatsAt, sharesOf}
 use Rattle.alias.specs.Walk.{Walks, faultyAt, faultyOf}
 use Rattle.alias.specs.declared.LineStarts.{LineStarts}
@@ -115,7 +114,7 @@ judged-repeats more bytes n k h =
     rw (e, map-append) (repeats-within (map standingIn ms) (map standingIn (drop n ls ++ more-lines)) k (omega arith))
 
 -- the starts of the lines, and of the end of the last
-abbrev startsTo : LineStarts → List ℕ
+abbrev pub startsTo : LineStarts → List ℕ
 startsTo l = take (l .count + 1) (l .starts)
 
 module _ {more : Bool} {bytes : List ℕ} {w : Walked} (x : Walks more bytes w) where
@@ -125,15 +124,8 @@ module _ {more : Bool} {bytes : List ℕ} {w : Walked} (x : Walks more bytes w) 
   within : w .lines .count ≤ length (linesOf bytes)
   within = let c = count-is in let t = length-take (w .lines .count) (linesOf bytes) in omega arith
 
-  pub walk-few : w .lines .count ≤ maxLines
+  walk-few : w .lines .count ≤ maxLines
   walk-few = good-few (judgedOf more bytes) (w .lines .count) (x .good)
-
-  -- the array of starts has room for one more than there are lines
-  pub walk-room : w .lines .count + 1 ≤ length (w .lines .starts)
-  walk-room =
-      let f = walk-few in
-      let t = ap (λ (y : LineStarts). length (y .starts)) (x .lines) ∙ tabulate-length (startOf (take (w .lines .count) (linesOf bytes))) (maxLines + 1) in
-      omega arith
 
   lines-back : linesBy bytes (startsTo (w .lines)) ≡ take (w .lines .count) (linesOf bytes)
   lines-back =

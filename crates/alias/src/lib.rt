@@ -60,7 +60,7 @@ pub fn check(table: &[u8], more: bool) -> TableAnswer
     let lines = w.lines;
     let count = lines.count;
     let starts = lines.starts;
-    let repeat = repeats::first(table, &starts[..count + 1]);
+    let repeat = repeats::first(table, lookup::starts_to(&starts, count));
     match repeat {
         Found::At(k) => bad(k),
         Found::Nothing => {

@@ -1,15 +1,27 @@
 // Look-ups in a table, by its bytes and the starts of its lines, of which there is one more than lines. They are total: of a table that was tested,
 // with the starts that the test gives, they find its entries.
 use crate::Found;
+use crate::MAX_STARTS;
 use crate::names::called;
 use crate::names::stands_for;
 use hexline::entry::Value;
 use label::Label;
 ghost use mathlib.Core.Path.{_≡_};
-ghost use Prim.Native.Nat.{_-_};
+ghost use Prim.Native.Nat.{_+_, _-_};
 ghost use lib.ListN.{drop, length, take};
 ghost use Rattle.alias.specs.Lines.{entriesBy, lineAt, linesBy};
 ghost use Rattle.alias.specs.Lookup.{findOf, foundOf, lastOf, nextOf};
+
+// The starts of so many lines, and of the end of the last: all that there are where these are fewer.
+pub fn starts_to(starts: &[usize; MAX_STARTS], count: usize) -> &[usize]
+    ensures { λ r. ⌜ now r ≡ take (count + 1) (now (starts .entry)) ⌝ }
+{
+    let all: &[usize] = starts;
+    if count < all.len() {
+        return &all[..count + 1];
+    }
+    all
+}
 
 // How many lines there are.
 pub(crate) fn count(starts: &[usize]) -> usize
@@ -26,15 +38,10 @@ pub(crate) fn count(starts: &[usize]) -> usize
 fn part(table: &[u8], from: usize, to: usize) -> &[u8]
     ensures { λ r. ⌜ now r ≡ take (to - from) (drop from (now (table .entry))) ⌝ }
 {
-    let rest = octets::rest(table, from);
     if to <= from {
-        return &rest[..0];
+        return &table[..0];
     }
-    let n = to - from;
-    if n <= rest.len() {
-        return &rest[..n];
-    }
-    rest
+    octets::front(octets::rest(table, from), to - from)
 }
 
 // The line of entry k, and no bytes where there is no such entry.

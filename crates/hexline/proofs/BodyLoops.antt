@@ -66,9 +66,5 @@ appended-both {a = a} {xs = xs} {ys = ys} {i = i} p q =
 pub appended-none : (a : List ℕ) (i : ℕ) → Appended a i [] i a
 appended-none a i = record { next = sym (add-zero i); holds = sym (append-nil (take i a)); size = refl }
 
--- the bytes up to the index past the last are that many
-pub appended-count : {a b xs : List ℕ} {i r : ℕ} → Appended a i xs r b → r ≤ length a → r ≡ length (take r b)
-appended-count {b = b} {r = r} p h = let n = p .size in sym (length-take-le r b (omega arith))
-
 pub appended-byte : (a : List ℕ) (i b : ℕ) → i < length a → Appended a i (b ∷ []) (i + 1) (set a i b)
 appended-byte a i b h = record { next = refl; holds = take-more (take i a) a i b h refl; size = length-set a i b }

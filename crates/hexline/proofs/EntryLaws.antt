@@ -3,7 +3,7 @@ use mathlib.Core.Bool.{Bool, true, false, cond, _&&_, _||_}
 use mathlib.Core.List.{List, [], _∷_, _++_}
 use mathlib.Core.Logic.{⊎-elim}
 use mathlib.Core.Path.{_≡_, refl, sym, ap, ap₂, _∙_}
-use Prim.Native.Nat.{ℕ, zero, suc, _+_, _*_, _^_, _≤_, _<_}
+use Prim.Native.Nat.{ℕ, zero, suc, _+_, _^_, _≤_, _<_}
 use native.Mathlib.Nat.{add-zero}
 use native.Mathlib.Omega.{arith}
 use lib.Dec.{eqb, leb, ltb}
@@ -19,9 +19,8 @@ use Rattle.label.proofs.IndexLaws.{every-at, le-or-lt, tabulate-at, tabulate-le
 use Rattle.label.proofs.LabelLaws.{equal-exact, valid-hierarchy}
 use Rattle.frame.proofs.FrameLaws.{Bytes, cons-bytes}
 use Rattle.hexline.specs.Body.{Appended, byteAt, labelAt, labelSize}
-use Rattle.hexline.specs.Entry.{classOf, entryBytes, isLetter, isNameByte, labelFrom, layoutOf, nameByteAt, nameByteOk, nameOf, textByte, textBytes, textFrom, validOf, valueBytes, valueFrom, valueOk, valueSize}
+use Rattle.hexline.specs.Entry.{classOf, entryBytes, isLetter, isNameByte, labelFrom, nameByteAt, nameByteOk, nameOf, textByte, textBytes, textFrom, validOf, valueBytes, valueFrom, valueOk, valueSize}
 use Rattle.hexline.specs.declared.entry.Entry.{Entry}
-use Rattle.hexline.specs.declared.entry.Layout.{Layout}
 use Rattle.hexline.specs.declared.entry.Value.{Value}
 use Rattle.hexline.specs.declared.entry.Value.the-variants.{Hierarchy, Category, WholeLabel}
 use Rattle.hexline.proofs.BodyLaws.{Holds, Within, bytes-tabulate, label-back, label-bytes, label-forth, label-length, label-typed, one-part, part, part-is, parts-join}
@@ -65,26 +64,6 @@ unfolding valueBytes
 value-length w (Hierarchy h) l = omega arith
 value-length w (Category c) l = omega arith
 value-length w WholeLabel l = let n = label-length w l in omega arith
-
-pub size-small : (w class : ℕ) → w ≤ words → valueSize w class ≤ 1 + 8 * words
-unfolding valueSize
-size-small w class h = go (eqb class 3)
-  where
-    go : (b : Bool) → cond b (labelSize w) 1 ≤ 1 + 8 * words
-    go true = omega arith
-    go false = omega arith
-
-pub record Small (p : Layout) : Type 0 where
-  pub name : p .name .at < 512
-  pub abbreviation : p .abbreviation .at < 768
-  pub length : p .abbreviation .length < 256
-
-pub layout-small : (w : ℕ) (bs : List ℕ) (i : ℕ) → Bytes bs → w ≤ words → i < 256 → Small (layoutOf w bs i)
-unfolding layoutOf
-layout-small w bs i small h l =
-    let s = size-small w (byteAt bs i) h in
-    let n = i + 1 + valueSize w (byteAt bs i) in
-    record { name = omega arith; abbreviation = omega (arith, small n); length = small (n + 1 + byteAt bs n) }
 
 -- ---- an entry's bytes, put one part after the other
 

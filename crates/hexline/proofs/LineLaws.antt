@@ -15,7 +15,7 @@ use Rattle.label.specs.Region.{regions}
 use Rattle.label.specs.declared.answer.Outcome.the-variants.{Granted, Refused}
 use Rattle.label.specs.declared.answer.Written.{Written}
 use Rattle.label.specs.declared.errno.Errno.the-variants.{Invalid}
-use Rattle.label.proofs.AnswerLaws.{answers-grant, answers-refusal, grant-passed, grant-told}
+use Rattle.label.proofs.AnswerLaws.{answers-grant, answers-refusal, grant-passed, grant-told, passed, stopped}
 use Rattle.label.proofs.BoolLaws.{both, first-true, not-so, second-true, three-true}
 use Rattle.frame.specs.Frame.{bodyOf, frameAnswerOf, frameOf, framedOf, maxBody, readOf}
 use Rattle.frame.proofs.FrameLaws.{Bytes, frame-length, reads-back, reads-exactly}
@@ -24,35 +24,29 @@ use Rattle.hexline.specs.Entry.{layoutOf, maxAbbreviation, maxName, past
 use Rattle.hexline.specs.Regions.{presentBelow}
 use Rattle.hexline.specs.Line.{contentsOf, entryForm, formOf, kindOf, lineOf, tupleForm}
 
--- ---- how a reader ends: a line that is no frame or has another form, contents that are not valid, or a grant
+-- ---- how a reader ends
 
 module _ {A : Type 0} (form : List ℕ → Bool) (contents : List ℕ → A) (valid : A → Bool) (line : List ℕ) (z : A) where
-  pub grants : (x : A) → (framedOf line && form (bodyOf line)) ≡ true → x ≡ contents (bodyOf line) → valid x ≡ true
-      → Answered Granted x z (readOf (contentsOf form contents valid) line)
+  as-one-test : readOf (contentsOf form contents valid) line
+      ≡ require (framedOf line && form (bodyOf line) && valid (contents (bodyOf line))) 22 (granted (contents (bodyOf line)))
   unfolding contentsOf
-  grants x e f v =
-      answers-grant x z (contents (bodyOf line)) _
-      (rw (first-true (framedOf line) (form (bodyOf line)) e, second-true (framedOf line) (form (bodyOf line)) e, ap valid (sym f) ∙ v)) f
-
-  pub bad-form : (value : A) → (framedOf line && form (bodyOf line)) ≡ false → value ≡ z → Answered (Refused Invalid) value z (readOf (contentsOf form contents valid) line)
-  unfolding contentsOf
-  bad-form value e = answers-refusal Invalid value z _ (go (framedOf line) e)
+  as-one-test = go (framedOf line)
     where
-      go : (f : Bool) → (f && form (bodyOf line)) ≡ false
-          → require f 22 (require (form (bodyOf line) && valid (contents (bodyOf line))) 22 (granted (contents (bodyOf line)))) ≡ refused 22 none
-      go true e = rw e
-      go false e = refl
+      go : (f : Bool) → require f 22 (require (form (bodyOf line) && valid (contents (bodyOf line))) 22 (granted (contents (bodyOf line))))
+          ≡ require (f && form (bodyOf line) && valid (contents (bodyOf line))) 22 (granted (contents (bodyOf line)))
+      go true = refl
+      go false = refl
 
-  pub bad-contents : (x value : A) → x ≡ contents (bodyOf line) → valid x ≡ false → value ≡ z
-      → Answered (Refused Invalid) value z (readOf (contentsOf form contents valid) line)
-  unfolding contentsOf
-  bad-contents x value f v = answers-refusal Invalid value z _ (go (framedOf line) (form (bodyOf line)) (ap valid (sym f) ∙ v))
-    where
-      go : (f g : Bool) → valid (contents (bodyOf line)) ≡ false
-          → require f 22 (require (g && valid (contents (bodyOf line))) 22 (granted (contents (bodyOf line)))) ≡ refused 22 none
-      go true true e = rw e
-      go true false e = refl
-      go false g e = refl
+  -- x is what stands in the line, and f, g and v are the reader's tests
+  module _ {x : A} {f g v : Bool} (p : f ≡ framedOf line) (q : g ≡ form (bodyOf line)) (e : x ≡ contents (bodyOf line)) (r : v ≡ valid x) where
+    tested : (framedOf line && form (bodyOf line) && valid (contents (bodyOf line))) ≡ (f && g && v)
+    tested = rw (p, q, r, e)
+
+    pub accepts : (f && g && v) ≡ true → Answered Granted x z (readOf (contentsOf form contents valid) line)
+    accepts t = answers-grant x z (contents (bodyOf line)) _ (as-one-test ∙ passed _ 22 _ (tested ∙ t)) e
+
+    pub refuses : {value : A} → (f && g && v) ≡ false → value ≡ z → Answered (Refused Invalid) value z (readOf (contentsOf form contents valid) line)
+    refuses {value} t h = answers-refusal Invalid value z _ (as-one-test ∙ stopped _ 22 _ (tested ∙ t)) h
 
 -- ---- what a reader grants
 
@@ -168,11 +162,10 @@ entry-form-parts kind w bs e =
 
 -- ---- how a writer ends that has put a body together
 
-pub writes-line : (r : Written) (before after bs body : List ℕ) (valid : Bool) → valid ≡ true → bs ≡ body → length body ≤ maxBody
-    → WrittenTo r (frameAnswerOf bs) before after → WrittenTo r (lineOf valid body) before after
-writes-line r before after bs body valid v e h w =
-    let fits : leb (length body) maxBody ≡ true = le-leb (length body) maxBody h in
-    rw v (rw (e, fits) at w)
+pub writes-line : (r : Written) (before after bs body : List ℕ) {v valid : Bool} → v ≡ valid → bs ≡ body → length body ≤ maxBody
+    → WrittenTo r (require v 22 (frameAnswerOf bs)) before after → WrittenTo r (lineOf valid body) before after
+writes-line r before after bs body q e h w =
+    let fits : leb (length body) maxBody ≡ true = le-leb (length body) maxBody h in rw (q, e, fits) at w
 
 -- ---- the kind of a line
 

@@ -87,14 +87,18 @@ below-mono p m (suc n) h =
     ⊎-elim (λ e. rw e (omega arith)) (λ l. let ih : presentBelow p m ≤ presentBelow p n = below-mono p m n (omega arith) in omega arith) (eq-or-lt-of-le h)
 
 -- a region that is there has room for its range
+pub one-more : (k n s : ℕ) → k < n → k * s + s ≤ n * s
+one-more k n s h =
+    let m : suc k * s ≤ n * s = mul-le-mul-right s h in
+    let q = suc-mul k s in
+    omega arith
+
 pub present-room : (p r n s : ℕ) → r < n → bit p r ≡ true → presentBelow p r * s + s ≤ presentBelow p n * s
 present-room p r n s h e =
     let one : _≡_ {A = ℕ} (cond (bit p r) 1 0) 1 = ap (λ (b : Bool). cond b 1 0) e in
     let k : presentBelow p (r + 1) ≤ presentBelow p n = below-mono p (r + 1) n (omega arith) in
     let b = below-next p r in
-    let m : suc (presentBelow p r) * s ≤ presentBelow p n * s = mul-le-mul-right s (omega arith) in
-    let q = suc-mul (presentBelow p r) s in
-    omega arith
+    one-more (presentBelow p r) (presentBelow p n) s (omega arith)
 
 -- ---- the byte of presence
 

@@ -6,7 +6,7 @@ use mathlib.Core.Path.{_≡_, sym, _∙_}
 use Prim.Native.Nat.{ℕ, _+_, _≤_, _<_, min}
 use native.Mathlib.Omega.{arith}
 use lib.ListN.{getD, length, take, length-take}
-use lib.Seq.{ext-getD, getD-take, length-take-le}
+use lib.Seq.{ext-getD, getD-take}
 use Rattle.label.specs.Answer.{granted, isGranted}
 use Rattle.label.specs.Index.{tabulate}
 use Rattle.label.proofs.IndexLaws.{tabulate-at, tabulate-length}
@@ -18,7 +18,7 @@ use Rattle.hexline.specs.Entry.{TypedEntry, abbreviationBytes, atMost, e
 use Rattle.hexline.specs.Line.{abbreviationIn, entryForm, entryIn, nameIn, readEntryOf, standingIn}
 use Rattle.hexline.specs.declared.entry.Entry.{Entry}
 use Rattle.hexline.specs.declared.entry.Span.{Span}
-use Rattle.hexline.proofs.EntryLaws.{label-from-typed, name-byte, name-fits, text-byte, text-bytes, valid-parts}
+use Rattle.hexline.proofs.EntryLaws.{label-from-typed, name-byte, text-byte, text-bytes, valid-parts}
 use Rattle.hexline.proofs.LineLaws.{read-contents, read-granted}
 
 -- ---- of an accepted line, what stands there is what is read, and is valid
@@ -99,13 +99,6 @@ text-letters bs n e k h =
     let i : k < n = omega arith in
     rw (getD-take n bs k 0 i) (name-byte bs n e k i)
 
-pub name-some : (e : Entry) → Entry.validOf e ≡ true → 1 ≤ length (nameBytes e)
-name-some e v =
-    let x = valid-parts e v in
-    let n = x .named in
-    let l = length-take-le (e .name .length) (e .name .bytes) (name-fits (e .name .bytes) (e .name .length) (x .name)) in
-    omega arith
-
 pub name-letters : (e : Entry) → Entry.validOf e ≡ true → (k : ℕ) → k < length (nameBytes e) → isNameByte (getD (nameBytes e) k 0) ≡ true
 name-letters e v = text-letters (e .name .bytes) (e .name .length) (valid-parts e v .name)
 
@@ -113,10 +106,7 @@ pub abbreviation-letters : (e : Entry) → Entry.validOf e ≡ true → (k : ℕ
     → isNameByte (getD (abbreviationBytes e) k 0) ≡ true
 abbreviation-letters e v = text-letters (e .abbreviation .bytes) (e .abbreviation .length) (valid-parts e v .abbreviation)
 
--- ---- the texts of an entry of the code's type, valid or not
+-- ---- the name of an entry of the code's type, valid or not
 
 pub name-length : (e : Entry) → TypedEntry e → length (nameBytes e) ≤ maxName
 name-length e t = let n = t .name-size in let l = length-take (e .name .length) (e .name .bytes) in omega arith
-
-pub abbreviation-length : (e : Entry) → TypedEntry e → length (abbreviationBytes e) ≤ maxAbbreviation
-abbreviation-length e t = let n = t .abbreviation-size in let l = length-take (e .abbreviation .length) (e .abbreviation .bytes) in omega arith

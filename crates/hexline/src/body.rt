@@ -90,7 +90,7 @@ pub(crate) fn label_at(line: &[u8], at: usize, words: usize) -> Label
 
 // The range at index at of a line's body.
 pub(crate) fn range_at(line: &[u8], at: usize, words: usize) -> Range
-    requires { ⌜ at + rangeSize words ≤ length (now line) ⌝ }
+    requires { ⌜ at + rangeSize words < 2 ^ 64 ⌝ }
     ensures { λ r. ⌜ r ≡ rangeAt words (bodyOf (now (line .entry))) at ⌝ }
 {
     let size = 1 + 8 * words;

@@ -195,24 +195,6 @@ fn put_text(out: &mut [u8], at: usize, text: &[u8], n: usize) -> usize
     put_bytes(out, next, text, n)
 }
 
-fn put_name(out: &mut [u8], at: usize, name: Name) -> usize
-    requires { ⌜ (nameOf (name .bytes) (name .length) ≡ true) × (at + 1 + maxName ≤ length (now out)) ⌝ }
-    ensures { λ r. ⌜ Appended (now (out .entry)) at (textBytes (name .bytes) (name .length)) r (now (out .exit)) ⌝ }
-    ensures { λ r. ⌜ r ≤ at + 1 + maxName ⌝ }
-{
-    let bytes = name.bytes;
-    put_text(out, at, &bytes, name.length)
-}
-
-fn put_abbreviation(out: &mut [u8], at: usize, name: Abbreviation) -> usize
-    requires { ⌜ (nameOf (name .bytes) (name .length) ≡ true) × (at + 1 + maxAbbreviation ≤ length (now out)) ⌝ }
-    ensures { λ r. ⌜ Appended (now (out .entry)) at (textBytes (name .bytes) (name .length)) r (now (out .exit)) ⌝ }
-    ensures { λ r. ⌜ r ≤ at + 1 + maxAbbreviation ⌝ }
-{
-    let bytes = name.bytes;
-    put_text(out, at, &bytes, name.length)
-}
-
 // An entry's bytes at index at, and the index past them.
 pub(crate) fn put_entry(out: &mut [u8], at: usize, e: Entry, words: usize) -> usize
     requires { ⌜ (words ≤ setWords) × (at + entrySize words ≤ length (now out)) × (validOf e ≡ true) ⌝ }
@@ -222,8 +204,12 @@ pub(crate) fn put_entry(out: &mut [u8], at: usize, e: Entry, words: usize) -> us
     let v = e.value;
     let value_at = put_byte(out, at, class_of(v));
     let name_at = put_value(out, value_at, v, e.label, words);
-    let abbreviation_at = put_name(out, name_at, e.name);
-    put_abbreviation(out, abbreviation_at, e.abbreviation)
+    let name = e.name;
+    let n = name.bytes;
+    let abbreviation_at = put_text(out, name_at, &n, name.length);
+    let abbreviation = e.abbreviation;
+    let a = abbreviation.bytes;
+    put_text(out, abbreviation_at, &a, abbreviation.length)
 }
 
 // A text in a line's body: the index of its first byte, and its length.
@@ -239,9 +225,11 @@ pub(crate) struct Layout {
     pub abbreviation: Span,
 }
 
+// How many bytes a value of a class has. The second clause of this and the next three follows, and is stated for callers.
 fn value_size(class: u8, words: usize) -> usize
     requires { ⌜ words ≤ setWords ⌝ }
     ensures { λ r. ⌜ r ≡ valueSize words class ⌝ }
+    ensures { λ r. ⌜ r ≤ labelSize words ⌝ }
 {
     if class == 3 { 1 + 8 * words } else { 1 }
 }
@@ -249,6 +237,7 @@ fn value_size(class: u8, words: usize) -> usize
 // A byte of a line's body as a length.
 fn length_at(line: &[u8], i: usize) -> usize
     ensures { λ r. ⌜ r ≡ byteAt (bodyOf (now (line .entry))) i ⌝ }
+    ensures { λ r. ⌜ r < 256 ⌝ }
 {
     frame::byte(line, i) as usize
 }
@@ -257,6 +246,7 @@ fn length_at(line: &[u8], i: usize) -> usize
 fn span_at(line: &[u8], at: usize) -> Span
     requires { ⌜ at < 1024 ⌝ }
     ensures { λ r. ⌜ r ≡ spanOf (bodyOf (now (line .entry))) at ⌝ }
+    ensures { λ r. ⌜ (r .at ≡ at + 1) × (r .length < 256) ⌝ }
 {
     Span {
         at: at + 1,
@@ -268,6 +258,7 @@ fn span_at(line: &[u8], at: usize) -> Span
 pub(crate) fn layout_at(line: &[u8], at: usize, words: usize) -> Layout
     requires { ⌜ (words ≤ setWords) × (at < 256) ⌝ }
     ensures { λ r. ⌜ r ≡ layoutOf words (bodyOf (now (line .entry))) at ⌝ }
+    ensures { λ r. ⌜ (r .name .at < 512) × (r .abbreviation .at < 768) × (r .abbreviation .length < 256) ⌝ }
 {
     let class = frame::byte(line, at);
     let name = span_at(line, at + 1 + value_size(class, words));

@@ -34,7 +34,9 @@ use range::tuple;
 use range::tuple::Tuple;
 use range::tuple::TupleAnswer;
 ghost use mathlib.Core.Path.{_≡_};
-ghost use Rattle.label.specs.Answer.{Answered};
+ghost use Prim.Native.Nat.{_+_, _<_};
+ghost use lib.ListN.{take};
+ghost use Rattle.label.specs.Answer.{Answered, require};
 ghost use Rattle.label.specs.Buffer.{WrittenTo};
 ghost use Rattle.label.specs.Label as labels;
 ghost use Rattle.range.specs.Range as ranges;
@@ -42,7 +44,7 @@ ghost use Rattle.range.specs.Tuple as tuples;
 ghost use Rattle.hexline.specs.Body.{lineWords};
 ghost use Rattle.hexline.specs.Entry as entries;
 ghost use Rattle.hexline.specs.Entry.{layoutOf};
-ghost use Rattle.frame.specs.Frame.{bodyOf};
+ghost use Rattle.frame.specs.Frame.{bodyOf, frameAnswerOf};
 ghost use Rattle.hexline.specs.Line.{entryForm, entryLineOf, formOf, kindAnswerOf, kindOf, labelLineOf, rangeLineOf, readEntryOf, readLabelOf, readRangeOf, readTupleOf, tupleForm, tupleLineOf};
 
 // The longest body is a full tuple's: kind, presence, six labels.
@@ -80,44 +82,45 @@ pub fn kind_of(line: &[u8]) -> Kind
     Kind::Refused(Errno::Invalid)
 }
 
+// The line of a body, the first n bytes, where its contents are valid.
+fn write_line(valid: bool, bytes: &[u8], n: usize, out: &mut [u8]) -> Written
+    ensures { λ r. ⌜ WrittenTo r (require valid 22 (frameAnswerOf (take n (now (bytes .entry))))) (now (out .entry)) (now (out .exit)) ⌝ }
+{
+    if valid {
+        return frame::write(octets::front(bytes, n), out);
+    }
+    Written::Refused(Errno::Invalid)
+}
+
 // The line of a label, kind 01.
 pub fn write_label(l: Label, out: &mut [u8]) -> Written
     ensures { λ r. ⌜ WrittenTo r (labelLineOf l) (now (out .entry)) (now (out .exit)) ⌝ }
 {
-    if !label::valid(l) {
-        return Written::Refused(Errno::Invalid);
-    }
     let mut bytes = [0u8; BODY_BYTES];
     bytes[0] = 1;
     let n = put_label(&mut bytes, 1, l, LINE_WORDS);
-    frame::write(&bytes[..n], out)
+    write_line(label::valid(l), &bytes, n, out)
 }
 
 // The line of a range, kind 02.
 pub fn write_range(x: Range, out: &mut [u8]) -> Written
     ensures { λ r. ⌜ WrittenTo r (rangeLineOf x) (now (out .entry)) (now (out .exit)) ⌝ }
 {
-    if !range::valid(x) {
-        return Written::Refused(Errno::Invalid);
-    }
     let mut bytes = [0u8; BODY_BYTES];
     bytes[0] = 2;
     let n = put_range(&mut bytes, 1, x, LINE_WORDS);
-    frame::write(&bytes[..n], out)
+    write_line(range::valid(x), &bytes, n, out)
 }
 
 // The line of a tuple, kind 03.
 pub fn write_tuple(t: Tuple, out: &mut [u8]) -> Written
     ensures { λ r. ⌜ WrittenTo r (tupleLineOf t) (now (out .entry)) (now (out .exit)) ⌝ }
 {
-    if !tuple::valid(t) {
-        return Written::Refused(Errno::Invalid);
-    }
     let mut bytes = [0u8; BODY_BYTES];
     bytes[0] = 3;
     bytes[1] = presence(t);
     let n = put_regions(&mut bytes, 2, t, LINE_WORDS);
-    frame::write(&bytes[..n], out)
+    write_line(tuple::valid(t), &bytes, n, out)
 }
 
 // The line of an alias entry, kind 04.
@@ -130,7 +133,7 @@ pub fn write_entry(e: Entry, out: &mut [u8]) -> Written
     let mut bytes = [0u8; BODY_BYTES];
     bytes[0] = 4;
     let n = put_entry(&mut bytes, 1, e, LINE_WORDS);
-    frame::write(&bytes[..n], out)
+    write_line(true, &bytes, n, out)
 }
 
 // Whether a line's body has that many bytes, and that kind.
@@ -144,17 +147,11 @@ fn has_form(line: &[u8], bytes: usize, kind: u8) -> bool
 pub fn read_label(line: &[u8]) -> LabelAnswer
     ensures { λ r. ⌜ Answered (r .outcome) (r .label) labels.zeroLabel (readLabelOf (now (line .entry))) ⌝ }
 {
-    if frame::framed(line) & has_form(line, 34, 1) {
-        let l = label_at(line, 1, LINE_WORDS);
-        if label::valid(l) {
-            return LabelAnswer {
-                outcome: Outcome::Granted,
-                label: l,
-            };
-        }
+    let l = label_at(line, 1, LINE_WORDS);
+    if frame::framed(line) & has_form(line, 34, 1) & label::valid(l) {
         return LabelAnswer {
-            outcome: Outcome::Refused(Errno::Invalid),
-            label: label::zero(),
+            outcome: Outcome::Granted,
+            label: l,
         };
     }
     LabelAnswer {
@@ -167,17 +164,11 @@ pub fn read_label(line: &[u8]) -> LabelAnswer
 pub fn read_range(line: &[u8]) -> RangeAnswer
     ensures { λ r. ⌜ Answered (r .outcome) (r .range) ranges.zeroRange (readRangeOf (now (line .entry))) ⌝ }
 {
-    if frame::framed(line) & has_form(line, 67, 2) {
-        let x = range_at(line, 1, LINE_WORDS);
-        if range::valid(x) {
-            return RangeAnswer {
-                outcome: Outcome::Granted,
-                range: x,
-            };
-        }
+    let x = range_at(line, 1, LINE_WORDS);
+    if frame::framed(line) & has_form(line, 67, 2) & range::valid(x) {
         return RangeAnswer {
-            outcome: Outcome::Refused(Errno::Invalid),
-            range: range::zero(),
+            outcome: Outcome::Granted,
+            range: x,
         };
     }
     RangeAnswer {
@@ -199,17 +190,11 @@ fn has_tuple_form(line: &[u8]) -> bool
 pub fn read_tuple(line: &[u8]) -> TupleAnswer
     ensures { λ r. ⌜ Answered (r .outcome) (r .tuple) tuples.emptyTuple (readTupleOf (now (line .entry))) ⌝ }
 {
-    if frame::framed(line) & has_tuple_form(line) {
-        let t = tuple_at(line, frame::byte(line, 1), 2, LINE_WORDS);
-        if tuple::valid(t) {
-            return TupleAnswer {
-                outcome: Outcome::Granted,
-                tuple: t,
-            };
-        }
+    let t = tuple_at(line, frame::byte(line, 1), 2, LINE_WORDS);
+    if frame::framed(line) & has_tuple_form(line) & tuple::valid(t) {
         return TupleAnswer {
-            outcome: Outcome::Refused(Errno::Invalid),
-            tuple: tuple::empty(),
+            outcome: Outcome::Granted,
+            tuple: t,
         };
     }
     TupleAnswer {
@@ -220,7 +205,7 @@ pub fn read_tuple(line: &[u8]) -> TupleAnswer
 
 // Whether a line's body has the form of an alias entry's: kind 04, lengths that fit, and a class that there is.
 fn has_entry_form(line: &[u8], p: Layout) -> bool
-    requires { ⌜ p ≡ layoutOf lineWords (bodyOf (now line)) 1 ⌝ }
+    requires { ⌜ (p ≡ layoutOf lineWords (bodyOf (now line)) 1) × (p .abbreviation .at + p .abbreviation .length < 1024) ⌝ }
     ensures { λ r. ⌜ r ≡ entryForm 4 lineWords (bodyOf (now (line .entry))) ⌝ }
 {
     let name = p.name;
@@ -235,17 +220,11 @@ pub fn read_entry(line: &[u8]) -> EntryAnswer
     ensures { λ r. ⌜ Answered (r .outcome) (r .entry) entries.zeroEntry (readEntryOf (now (line .entry))) ⌝ }
 {
     let p = layout_at(line, 1, LINE_WORDS);
-    if frame::framed(line) & has_entry_form(line, p) {
-        let e = entry_from(line, 2, p, LINE_WORDS);
-        if entry::valid(e) {
-            return EntryAnswer {
-                outcome: Outcome::Granted,
-                entry: e,
-            };
-        }
+    let e = entry_from(line, 2, p, LINE_WORDS);
+    if frame::framed(line) & has_entry_form(line, p) & entry::valid(e) {
         return EntryAnswer {
-            outcome: Outcome::Refused(Errno::Invalid),
-            entry: entry::zero(),
+            outcome: Outcome::Granted,
+            entry: e,
         };
     }
     EntryAnswer {

@@ -7,7 +7,7 @@ use range::tuple::RegionRange;
 use range::tuple::Tuple;
 ghost use mathlib.Core.Path.{_≡_};
 ghost use mathlib.Core.Bool.{cond};
-ghost use Prim.Native.Nat.{_+_, _*_, _<_, _≤_};
+ghost use Prim.Native.Nat.{_+_, _*_, _<_, _≤_, _^_};
 ghost use lib.ListN.{length};
 ghost use Rattle.label.specs.Region.{regions};
 ghost use Rattle.label.specs.Words.{bit, words as setWords};
@@ -91,7 +91,7 @@ pub(crate) fn present_below(p: u8, n: usize) -> usize
 
 // Region r of the tuple whose byte of presence is p and whose ranges begin at index at of a line's body.
 fn region_at(line: &[u8], p: u8, at: usize, r: usize, words: usize) -> RegionRange
-    requires { ⌜ (words ≤ setWords) × (r < regions) × (at + presentBelow p regions * rangeSize words ≤ length (now line)) ⌝ }
+    requires { ⌜ (words ≤ setWords) × (r < regions) × (at + regions * rangeSize words < 2 ^ 64) ⌝ }
     ensures { λ e. ⌜ e ≡ regionAt words (bodyOf (now (line .entry))) p at r ⌝ }
 {
     if has_region(p, r) {
@@ -106,7 +106,7 @@ fn region_at(line: &[u8], p: u8, at: usize, r: usize, words: usize) -> RegionRan
 
 // The tuple whose byte of presence is p and whose ranges begin at index at of a line's body.
 pub(crate) fn tuple_at(line: &[u8], p: u8, at: usize, words: usize) -> Tuple
-    requires { ⌜ (words ≤ setWords) × (at + presentBelow p regions * rangeSize words ≤ length (now line)) ⌝ }
+    requires { ⌜ (words ≤ setWords) × (at + regions * rangeSize words < 2 ^ 64) ⌝ }
     ensures { λ t. ⌜ t ≡ tupleAt words (bodyOf (now (line .entry))) p at ⌝ }
 {
     let mut ranges = [tuple::no_range(); REGIONS];

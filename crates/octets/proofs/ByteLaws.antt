@@ -289,3 +289,17 @@ pub then-appended : {out : List ℕ} {at : ℕ} {cs bs : List ℕ} {r s : ℕ} {
 then-appended {out} {at} h p q =
     let e = p .past in
     let l = put-same-length (omega arith) p in then-put (omega arith) p (appended-put (omega arith) q)
+
+-- bytes in two parts, for which there is room
+pub first-fits : (at size : ℕ) (cs bs : List ℕ) → at + length (cs ++ bs) ≤ size → at + length cs ≤ size
+first-fits at size cs bs room = let l = length-append cs bs in omega arith
+
+module _ {out : List ℕ} {at : ℕ} {cs : List ℕ} {r : ℕ} {mid : List ℕ} (p : Put out at cs r mid) (bs : List ℕ) (room : at + length (cs ++ bs) ≤ length out) where
+  pub second-fits : r + length bs ≤ length mid
+  second-fits =
+      let l = length-append cs bs in
+      let e = p .past in
+      let k = put-same-length (first-fits at (length out) cs bs room) p in omega arith
+
+  pub both-put : {s : ℕ} {after : List ℕ} → Put mid r bs s after → Put out at (cs ++ bs) s after
+  both-put q = puts out at (first-fits at (length out) cs bs room) p q

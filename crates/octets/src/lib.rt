@@ -3,7 +3,7 @@
 ghost use mathlib.Core.Path.{_≡_};
 ghost use Prim.Native.Nat.{_+_, _≤_};
 ghost use lib.Dec.{leb};
-ghost use lib.ListN.{drop, length};
+ghost use lib.ListN.{drop, length, take};
 ghost use Rattle.octets.specs.Bytes.{Appended, Found, Put, sameBytes};
 
 pub const LF: u8 = 10;
@@ -18,6 +18,16 @@ pub fn rest(xs: &[u8], from: usize) -> &[u8]
         return &xs[from..];
     }
     &xs[..0]
+}
+
+// The first n bytes: all where there are fewer.
+pub fn front(xs: &[u8], n: usize) -> &[u8]
+    ensures { λ r. ⌜ now r ≡ take n (now (xs .entry)) ⌝ }
+{
+    if n <= xs.len() {
+        return &xs[..n];
+    }
+    xs
 }
 
 // The index of the first b in xs, or its length where there is none.

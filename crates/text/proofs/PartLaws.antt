@@ -1,22 +1,20 @@
 -- Texts that are made of parts: how they are measured, and put in a buffer part by part. Assumes nothing.
-use mathlib.Core.Bool.{Bool, _&&_}
-use mathlib.Core.List.{List, _++_}
+use mathlib.Core.Bool.{Bool, true, false, cond, _&&_, and-true}
+use mathlib.Core.List.{List, _++_, append-assoc}
 use mathlib.Core.Option.{none, some}
-use mathlib.Core.Path.{_≡_, ap, _∙_}
+use mathlib.Core.Path.{_≡_, refl}
 use Prim.Native.Nat.{ℕ, _+_}
 use native.Mathlib.Omega.{arith}
 use lib.ListN.{length, length-append}
-use Rattle.label.specs.Label.{zeroLabel}
-use Rattle.label.specs.Words.{membersOf}
 use Rattle.label.specs.declared.Label.{Label}
 use Rattle.label.proofs.BoolLaws.{both}
 use Rattle.range.specs.declared.Range.{Range}
 use Rattle.hexline.specs.Entry.{maxName}
 use Rattle.hexline.specs.declared.entry.Entry.{Entry}
-use Rattle.hexline.specs.declared.entry.Value.the-variants.{Hierarchy, WholeLabel}
+use Rattle.hexline.specs.declared.entry.Value.the-variants.{WholeLabel}
 use Rattle.alias.specs.Lookup.{lastOf}
-use Rattle.text.specs.Measure.{Counted, maxLabel}
-use Rattle.text.specs.Write.{categoriesText, colon, definitionNamed, definitionText, highMarker, allNamed, labelText, lowMarker, lowText, nameFor, named, namedIn, textIn, wholeText}
+use Rattle.text.specs.Measure.{Counted, highText, maxLabel, maxRange, rangeNamed, rangeText, statusOf}
+use Rattle.text.specs.Write.{allNamed, definitionNamed, definitionText, labelText, lowText, nameFor, named, namedIn, shown, textIn, wholeText}
 use Rattle.text.specs.declared.Form.the-variants.{Alias}
 use Rattle.text.specs.declared.Style.{Style}
 use Rattle.text.specs.declared.Variant.{Variant}
@@ -35,44 +33,35 @@ joined {a} {b} {x} {y} {m} {n} {k} {l} p q =
     let qm = q .at-most in
     record { named = both (p .named) (q .named); count = omega arith; at-most = omega arith }
 
-pub definition-length : (es : List Entry) (v : Variant) (l : Label)
-    → length (definitionText es v l) ≡ length (nameFor es v (Hierarchy (l .hierarchy)) zeroLabel) + length (categoriesText es v colon (membersOf (l .categories)))
-unfolding definitionText
-definition-length es v l = length-append (nameFor es v (Hierarchy (l .hierarchy)) zeroLabel) (categoriesText es v colon (membersOf (l .categories)))
-
--- a low end behind its marker, and with the next marker behind it
-pub low-front : (text : List ℕ) → length (lowMarker ++ text) ≡ 3 + length text
-low-front text = length-append lowMarker text
-
-pub whole-front : (text : List ℕ) → length (lowMarker ++ text ++ highMarker) ≡ 3 + length text + 4
-whole-front text = length-append (lowMarker ++ text) highMarker ∙ ap (λ (n : ℕ). n + 4) (low-front text)
-
 module _ (es : List Entry) (style : Style) (x : Range) where
-  pub whole-length : length (wholeText es style x) ≡ 3 + length (labelText es style (x .low)) + 4 + length (labelText es style (x .high))
-  unfolding wholeText
-  whole-length = simp length-append (omega arith)
-
-  pub low-length : length (lowText es style x) ≡ 3 + length (labelText es style (x .low)) + 5
-  unfolding lowText
-  low-length = simp length-append (omega arith)
+  range-length : (whole : Bool) → length (rangeText es style x whole) ≡ 3 + length (labelText es style (x .low)) + length (highText es style x whole)
+  range-length whole = simp length-append
 
   -- both ends of a range, and the low end alone, with the markers
-  pub whole-counts : {m n k l : ℕ} → Whole (allNamed es style (x .low)) (labelText es style (x .low)) m k → Whole (allNamed es style (x .high)) (labelText es style (x .high)) n l
-      → Whole (allNamed es style (x .low) && allNamed es style (x .high)) (wholeText es style x) (7 + m + n) (3 + k + 4 + l)
+  pub whole-counts : {k l : ℕ} → Whole (allNamed es style (x .low)) (labelText es style (x .low)) maxLabel k → Whole (allNamed es style (x .high)) (labelText es style (x .high)) maxLabel l
+      → Whole (rangeNamed es style x true) (rangeText es style x true) maxRange (k + l + 7)
   whole-counts p q =
-      let s = whole-length in
+      let s = range-length true in
       let pc = p .count in
       let qc = q .count in
       let pm = p .at-most in
       let qm = q .at-most in
       record { named = both (p .named) (q .named); count = omega arith; at-most = omega arith }
 
-  pub low-counts : {m k : ℕ} → Whole (allNamed es style (x .low)) (labelText es style (x .low)) m k → Whole (allNamed es style (x .low)) (lowText es style x) (8 + m) (3 + k + 5)
+  pub low-counts : {k : ℕ} → Whole (allNamed es style (x .low)) (labelText es style (x .low)) maxLabel k → Whole (rangeNamed es style x false) (rangeText es style x false) maxRange (k + 8)
   low-counts p =
-      let s = low-length in
+      let s = range-length false in
       let pc = p .count in
       let pm = p .at-most in
-      record { named = p .named; count = omega arith; at-most = omega arith }
+      record { named = both (p .named) refl; count = omega arith; at-most = omega arith }
+
+  -- a range as it is written
+  pub range-shown : (whole : Bool)
+      → cond whole (shown (allNamed es style (x .low) && allNamed es style (x .high)) 0 (wholeText es style x)) (shown (allNamed es style (x .low)) 1 (lowText es style x))
+      ≡ shown (rangeNamed es style x whole) (statusOf whole) (rangeText es style x whole)
+  unfolding wholeText lowText
+  range-shown true = rw append-assoc
+  range-shown false = rw and-true
 
 -- ---- the alias form
 

@@ -1,6 +1,6 @@
 -- How long a text is, for functions that are not public: a writer measures a text before it writes it. Assumes nothing.
-use mathlib.Core.Bool.{Bool, cond}
-use mathlib.Core.List.{List}
+use mathlib.Core.Bool.{Bool, true, false, cond, _&&_}
+use mathlib.Core.List.{List, _++_}
 use mathlib.Core.Option.{Option, none, some}
 use mathlib.Core.Path.{_≡_}
 use Prim.Native.Nat.{ℕ, _+_, _*_, _≤_}
@@ -8,9 +8,13 @@ use lib.Dec.{leb}
 use lib.ListN.{length}
 use Rattle.label.specs.Answer.{Answer, granted, refused}
 use Rattle.label.specs.Words.{words}
+use Rattle.range.specs.declared.Range.{Range}
 use Rattle.hexline.specs.Entry.{maxName}
 use Rattle.hexline.specs.Line.{abbreviationIn, nameIn}
+use Rattle.hexline.specs.declared.entry.Entry.{Entry}
 use Rattle.hexline.specs.declared.entry.Span.{Span}
+use Rattle.text.specs.Write.{allNamed, hiddenHigh, highMarker, labelText, lowMarker}
+use Rattle.text.specs.declared.Style.{Style}
 use Rattle.text.specs.declared.Variant.{Variant}
 use Rattle.text.specs.declared.Variant.the-variants.{Names, Abbreviations}
 use Rattle.text.specs.declared.name.Measure.{Measure}
@@ -37,6 +41,27 @@ maxCategories = words * 64 * (1 + maxName)
 
 abbrev pub maxLabel : ℕ
 maxLabel = maxName + maxCategories
+
+-- a range that is shown with both ends, or with the low end only: whether all names are there, its text, its status, and the most bytes
+abbrev pub highNamed : List Entry → Style → Range → Bool → Bool
+highNamed es style x true = allNamed es style (x .high)
+highNamed es style x false = true
+
+abbrev pub highText : List Entry → Style → Range → Bool → List ℕ
+highText es style x true = highMarker ++ labelText es style (x .high)
+highText es style x false = hiddenHigh
+
+abbrev pub rangeNamed : List Entry → Style → Range → Bool → Bool
+rangeNamed es style x whole = allNamed es style (x .low) && highNamed es style x whole
+
+abbrev pub rangeText : List Entry → Style → Range → Bool → List ℕ
+rangeText es style x whole = lowMarker ++ labelText es style (x .low) ++ highText es style x whole
+
+abbrev pub statusOf : Bool → ℕ
+statusOf whole = cond whole 0 1
+
+abbrev pub maxRange : ℕ
+maxRange = 7 + maxLabel + maxLabel
 
 -- r is the length of a text where all its names are there. The second follows, and is stated for callers
 pub record Counted (isNamed : Bool) (text : List ℕ) (most : ℕ) (r : Measure) : Type 0 where

@@ -137,7 +137,7 @@ fn read_categories(table: &[u8], starts: &[usize], names: &[u8]) -> SetAnswer
     while at <= names.len() {
         let rest = octets::rest(names, at);
         let n = octets::index_of(b',', rest);
-        let added = add_category(table, starts, set, &rest[..n]);
+        let added = add_category(table, starts, set, octets::front(rest, n));
         let outcome = added.outcome;
         let Outcome::Granted = outcome else {
             return added;
@@ -187,7 +187,12 @@ fn label_in(table: &[u8], starts: &[usize], text: &[u8]) -> LabelAnswer
 {
     let i = octets::index_of(b':', text);
     if i < text.len() {
-        return composed(table, starts, &text[..i], octets::rest(text, i + 1));
+        return composed(
+            table,
+            starts,
+            octets::front(text, i),
+            octets::rest(text, i + 1),
+        );
     }
     label_named(table, starts, text)
 }
@@ -231,8 +236,7 @@ pub fn read_label(table: &[u8], more: bool, s: Subject, text: &[u8]) -> LabelAns
         Outcome::Granted => {
             let lines = t.lines;
             let starts = lines.starts;
-            let n = lines.count + 1;
-            read_checked(table, &starts[..n], s, text)
+            read_checked(table, lookup::starts_to(&starts, lines.count), s, text)
         }
     }
 }
@@ -240,11 +244,7 @@ pub fn read_label(table: &[u8], more: bool, s: Subject, text: &[u8]) -> LabelAns
 fn begins_with(marker: &[u8], text: &[u8]) -> bool
     ensures { λ r. ⌜ r ≡ beginsWith (now (marker .entry)) (now (text .entry)) ⌝ }
 {
-    let n = marker.len();
-    if text.len() < n {
-        return false;
-    }
-    octets::same(&text[..n], marker)
+    octets::same(octets::front(text, marker.len()), marker)
 }
 
 // The range of a low end and the text of a high end.
@@ -276,7 +276,7 @@ fn ends(table: &[u8], starts: &[usize], s: Subject, text: &[u8]) -> RangeAnswer
     ensures { λ r. ⌜ Answered (r .outcome) (r .range) zeroRange (endsOf (entriesBy (now (table .entry)) (now (starts .entry))) s (now (text .entry))) ⌝ }
 {
     let n = octets::index_of(BLANK, text);
-    let low = label_seen(table, starts, s, &text[..n]);
+    let low = label_seen(table, starts, s, octets::front(text, n));
     let outcome = low.outcome;
     let Outcome::Granted = outcome else {
         return RangeAnswer {
@@ -315,8 +315,7 @@ pub fn read_range(table: &[u8], more: bool, s: Subject, text: &[u8]) -> RangeAns
         Outcome::Granted => {
             let lines = t.lines;
             let starts = lines.starts;
-            let n = lines.count + 1;
-            read_range_checked(table, &starts[..n], s, text)
+            read_range_checked(table, lookup::starts_to(&starts, lines.count), s, text)
         }
     }
 }

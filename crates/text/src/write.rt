@@ -19,20 +19,20 @@ use label::words::Found;
 use label::words::WORDS;
 use range::Range;
 ghost use mathlib.Core.Path.{_≡_};
-ghost use mathlib.Core.List.{_∷_};
-ghost use mathlib.Core.Bool.{_&&_, cond};
+ghost use mathlib.Core.List.{_∷_, _++_};
+ghost use mathlib.Core.Bool.{cond};
 ghost use Prim.Native.Nat.{_+_, _*_, _<_, _≤_};
 ghost use lib.ListN.{length};
-ghost use Rattle.label.specs.Answer.{granted, isGranted, require};
+ghost use Rattle.label.specs.Answer.{Answered, granted, isGranted, require};
 ghost use Rattle.label.specs.Buffer.{WrittenTo, writtenOf};
 ghost use Rattle.label.specs.Label.{zeroLabel};
 ghost use Rattle.label.specs.Words.{membersOf};
 ghost use Rattle.hexline.specs.declared.entry.Value.the-variants.{Category};
 ghost use Rattle.octets.specs.Bytes.{Put};
 ghost use Rattle.alias.specs.Lines.{entriesBy};
-ghost use Rattle.text.specs.Measure.{Counted, maxCategories, maxLabel, measureOf, roomOf};
-ghost use Rattle.text.specs.Subject.{withTable};
-ghost use Rattle.text.specs.Write.{RangeWrittenTo, allNamed, categoriesNamed, categoriesText, colon, definitionNamed, definitionText, labelText, lowText, nameFor, wholeText, writeLabelOf, writeRangeOf};
+ghost use Rattle.text.specs.Measure.{Counted, maxCategories, maxLabel, maxRange, measureOf, rangeNamed, rangeText, roomOf, statusOf};
+ghost use Rattle.text.specs.Subject.{allowedOf, withTable};
+ghost use Rattle.text.specs.Write.{RangeWrittenTo, allNamed, categoriesNamed, categoriesText, colon, definitionNamed, definitionText, labelText, nameFor, writeLabelOf, writeRangeOf};
 
 // One past the last category.
 const CATEGORIES: u64 = (WORDS * 64) as u64;
@@ -243,6 +243,19 @@ fn write_text(table: &[u8], starts: &[usize], style: Style, l: Label, out: &mut 
     w
 }
 
+// Whether a label may be shown to a subject, where what is asked for is valid.
+fn allowed(valid: bool, s: Subject, l: Label) -> Outcome
+    ensures { λ r. ⌜ Answered r l l (allowedOf valid s l) ⌝ }
+{
+    if !(valid & label::valid(s.label)) {
+        return Outcome::Refused(Errno::Invalid);
+    }
+    if !sees(s, l) {
+        return Outcome::Refused(Errno::Access);
+    }
+    Outcome::Granted
+}
+
 // Writes a label by a table that was tested.
 fn write_checked(
     table: &[u8],
@@ -254,13 +267,11 @@ fn write_checked(
 ) -> Written
     ensures { λ r. ⌜ WrittenTo r (writeLabelOf (entriesBy (now (table .entry)) (now (starts .entry))) s style l) (now (out .entry)) (now (out .exit)) ⌝ }
 {
-    if !(label::valid(l) & label::valid(s.label)) {
-        return Written::Refused(Errno::Invalid);
+    let outcome = allowed(label::valid(l), s, l);
+    match outcome {
+        Outcome::Refused(e) => Written::Refused(e),
+        Outcome::Granted => write_text(table, starts, style, l, out),
     }
-    if !sees(s, l) {
-        return Written::Refused(Errno::Access);
-    }
-    write_text(table, starts, style, l, out)
 }
 
 // Writes a label as text at the front of out.
@@ -281,85 +292,100 @@ pub fn write_label(
         Outcome::Granted => {
             let lines = t.lines;
             let starts = lines.starts;
-            let n = lines.count + 1;
-            write_checked(table, &starts[..n], s, style, l, out)
+            write_checked(
+                table,
+                lookup::starts_to(&starts, lines.count),
+                s,
+                style,
+                l,
+                out,
+            )
         }
     }
 }
 
-// How long the text of a range with both ends is.
-fn measure_whole(table: &[u8], starts: &[usize], style: Style, x: Range) -> Measure
-    ensures { λ r. ⌜ Counted (allNamed (entriesBy (now (table .entry)) (now (starts .entry))) style (x .low) && allNamed (entriesBy (now (table .entry)) (now (starts .entry))) style (x .high)) (wholeText (entriesBy (now (table .entry)) (now (starts .entry))) style x) (7 + maxLabel + maxLabel) r ⌝ }
+// How long the text of a range is, with both ends or with the low end only.
+fn measure_range(table: &[u8], starts: &[usize], style: Style, x: Range, whole: bool) -> Measure
+    ensures { λ r. ⌜ Counted (rangeNamed (entriesBy (now (table .entry)) (now (starts .entry))) style x whole) (rangeText (entriesBy (now (table .entry)) (now (starts .entry))) style x whole) maxRange r ⌝ }
 {
     let low = measure_label(table, starts, style, x.low);
     let Measure::Bytes(m) = low else {
         return Measure::Missing;
     };
-    let high = measure_label(table, starts, style, x.high);
-    let Measure::Bytes(n) = high else {
-        return Measure::Missing;
-    };
-    Measure::Bytes(3 + m + 4 + n)
-}
-
-fn put_whole(table: &[u8], starts: &[usize], style: Style, x: Range, out: &mut [u8]) -> usize
-    requires { ⌜ length (wholeText (entriesBy (now table) (now starts)) style x) ≤ length (now out) ⌝ }
-    ensures { λ r. ⌜ Put (now (out .entry)) 0 (wholeText (entriesBy (now (table .entry)) (now (starts .entry))) style x) r (now (out .exit)) ⌝ }
-{
-    let low = octets::append(out, 0, b"-L ");
-    let middle = put_label(table, starts, style, x.low, out, low);
-    let high = octets::append(out, middle, b" -H ");
-    put_label(table, starts, style, x.high, out, high)
-}
-
-// Writes a range with both ends.
-fn write_whole(table: &[u8], starts: &[usize], style: Style, x: Range, out: &mut [u8]) -> Written
-    ensures { λ r. ⌜ WrittenTo r (require (allNamed (entriesBy (now (table .entry)) (now (starts .entry))) style (x .low) && allNamed (entriesBy (now (table .entry)) (now (starts .entry))) style (x .high)) 2 (granted (wholeText (entriesBy (now (table .entry)) (now (starts .entry))) style x))) (now (out .entry)) (now (out .exit)) ⌝ }
-{
-    let w = room(measure_whole(table, starts, style, x), out.len());
-    if let Written::Length(_) = w {
-        put_whole(table, starts, style, x, out);
+    if whole {
+        let high = measure_label(table, starts, style, x.high);
+        let Measure::Bytes(n) = high else {
+            return Measure::Missing;
+        };
+        return Measure::Bytes(m + n + 7);
     }
-    w
+    Measure::Bytes(m + 8)
 }
 
-// How long the text of a range whose high end is not shown is.
-fn measure_low(table: &[u8], starts: &[usize], style: Style, x: Range) -> Measure
-    ensures { λ r. ⌜ Counted (allNamed (entriesBy (now (table .entry)) (now (starts .entry))) style (x .low)) (lowText (entriesBy (now (table .entry)) (now (starts .entry))) style x) (8 + maxLabel) r ⌝ }
+// Puts a marker and the text of a label in out at index at, and answers the index past them.
+fn put_marked(
+    table: &[u8],
+    starts: &[usize],
+    style: Style,
+    marker: &[u8],
+    l: Label,
+    out: &mut [u8],
+    at: usize,
+) -> usize
+    requires { ⌜ at + length (now marker ++ labelText (entriesBy (now table) (now starts)) style l) ≤ length (now out) ⌝ }
+    ensures { λ r. ⌜ Put (now (out .entry)) at (now (marker .entry) ++ labelText (entriesBy (now (table .entry)) (now (starts .entry))) style l) r (now (out .exit)) ⌝ }
 {
-    let low = measure_label(table, starts, style, x.low);
-    let Measure::Bytes(n) = low else {
-        return Measure::Missing;
-    };
-    Measure::Bytes(3 + n + 5)
+    let past = octets::append(out, at, marker);
+    put_label(table, starts, style, l, out, past)
 }
 
-fn put_low(table: &[u8], starts: &[usize], style: Style, x: Range, out: &mut [u8]) -> usize
-    requires { ⌜ length (lowText (entriesBy (now table) (now starts)) style x) ≤ length (now out) ⌝ }
-    ensures { λ r. ⌜ Put (now (out .entry)) 0 (lowText (entriesBy (now (table .entry)) (now (starts .entry))) style x) r (now (out .exit)) ⌝ }
+fn put_range(
+    table: &[u8],
+    starts: &[usize],
+    style: Style,
+    x: Range,
+    whole: bool,
+    out: &mut [u8],
+) -> usize
+    requires { ⌜ length (rangeText (entriesBy (now table) (now starts)) style x whole) ≤ length (now out) ⌝ }
+    ensures { λ r. ⌜ Put (now (out .entry)) 0 (rangeText (entriesBy (now (table .entry)) (now (starts .entry))) style x whole) r (now (out .exit)) ⌝ }
 {
-    let low = octets::append(out, 0, b"-L ");
-    let past = put_label(table, starts, style, x.low, out, low);
+    let past = put_marked(table, starts, style, b"-L ", x.low, out, 0);
+    if whole {
+        return put_marked(table, starts, style, b" -H ", x.high, out, past);
+    }
     octets::append(out, past, b" -H ?")
 }
 
-// Writes a range whose high end is not shown.
-fn write_low(table: &[u8], starts: &[usize], style: Style, x: Range, out: &mut [u8]) -> Written
-    ensures { λ r. ⌜ WrittenTo r (require (allNamed (entriesBy (now (table .entry)) (now (starts .entry))) style (x .low)) 2 (granted (lowText (entriesBy (now (table .entry)) (now (starts .entry))) style x))) (now (out .entry)) (now (out .exit)) ⌝ }
+// Writes a range with both ends, or with the low end only.
+fn write_ends(
+    table: &[u8],
+    starts: &[usize],
+    style: Style,
+    x: Range,
+    whole: bool,
+    out: &mut [u8],
+) -> Written
+    ensures { λ r. ⌜ WrittenTo r (require (rangeNamed (entriesBy (now (table .entry)) (now (starts .entry))) style x whole) 2 (granted (rangeText (entriesBy (now (table .entry)) (now (starts .entry))) style x whole))) (now (out .entry)) (now (out .exit)) ⌝ }
 {
-    let w = room(measure_low(table, starts, style, x), out.len());
+    let w = room(measure_range(table, starts, style, x, whole), out.len());
     if let Written::Length(_) = w {
-        put_low(table, starts, style, x, out);
+        put_range(table, starts, style, x, whole, out);
     }
     w
 }
 
-// A status beside what was written, and 0 beside a refusal.
-fn with_status(status: u8, written: Written) -> RangeWritten
-    ensures { λ r. ⌜ (r .written ≡ written) × (r .status ≡ cond (isGranted (writtenOf written)) status 0) ⌝ }
+// What was written with its status: 0 with both ends, 1 with the low end only, and 0 beside a refusal.
+fn with_status(whole: bool, written: Written) -> RangeWritten
+    ensures { λ r. ⌜ (r .written ≡ written) × (r .status ≡ cond (isGranted (writtenOf written)) (statusOf whole) 0) ⌝ }
 {
     match written {
-        Written::Length(_) => RangeWritten { status, written },
+        Written::Length(_) => {
+            if whole {
+                return RangeWritten { status: 0, written };
+            }
+            RangeWritten { status: 1, written }
+        }
         Written::Refused(_) => RangeWritten { status: 0, written },
     }
 }
@@ -375,16 +401,14 @@ fn write_range_checked(
 ) -> RangeWritten
     ensures { λ r. ⌜ RangeWrittenTo r (writeRangeOf (entriesBy (now (table .entry)) (now (starts .entry))) s style x) (now (out .entry)) (now (out .exit)) ⌝ }
 {
-    if !(range::valid(x) & label::valid(s.label)) {
-        return with_status(0, Written::Refused(Errno::Invalid));
+    let outcome = allowed(range::valid(x), s, x.low);
+    match outcome {
+        Outcome::Refused(e) => with_status(true, Written::Refused(e)),
+        Outcome::Granted => {
+            let whole = sees(s, x.high);
+            with_status(whole, write_ends(table, starts, style, x, whole, out))
+        }
     }
-    if !sees(s, x.low) {
-        return with_status(0, Written::Refused(Errno::Access));
-    }
-    if sees(s, x.high) {
-        return with_status(0, write_whole(table, starts, style, x, out));
-    }
-    with_status(1, write_low(table, starts, style, x, out))
 }
 
 // Writes a range as text at the front of out, with its status: 0 with both ends, 1 where the subject may see the low end only.
@@ -401,12 +425,18 @@ pub fn write_range(
     let t = alias::check(table, more);
     let outcome = t.outcome;
     match outcome {
-        Outcome::Refused(e) => with_status(0, Written::Refused(e)),
+        Outcome::Refused(e) => with_status(true, Written::Refused(e)),
         Outcome::Granted => {
             let lines = t.lines;
             let starts = lines.starts;
-            let n = lines.count + 1;
-            write_range_checked(table, &starts[..n], s, style, x, out)
+            write_range_checked(
+                table,
+                lookup::starts_to(&starts, lines.count),
+                s,
+                style,
+                x,
+                out,
+            )
         }
     }
 }

@@ -1,45 +1,41 @@
 use borrow.Author.Needs.{needs}
-use mathlib.Core.Path.{refl, sym, ap, _∙_}
-use Prim.Native.Nat.{_+_}
-use native.Mathlib.Omega.{arith}
-use lib.Seq.{length-take-le}
+use mathlib.Core.Path.{_≡_, refl, sym, ap, _∙_}
 use Rattle.label.proofs.AnswerLaws.{answers-grant}
-use Rattle.alias.specs.Lines.{noLines}
+use Rattle.alias.specs.Lines.{entriesBy, noLines}
 use Rattle.alias.specs.Lookup.{foundOf}
-use Rattle.alias.proofs.WalkLaws.{check-granted, check-repeat, check-stopped, walk-few, walk-room}
+use Rattle.alias.specs.Table.{firstRepeat}
+use Rattle.alias.specs.declared.Found.{Found}
+use Rattle.alias.proofs.WalkLaws.{check-granted, check-repeat, check-stopped, startsTo}
 use Rattle.alias.proofs.check.Statement.{statement}
 use Rattle.alias.proofs.check.Tie as tie
 
-add-starts : tie.Need-add-starts
-add-starts c = let f = walk-few (c .before .before .walk .ensures) in omega arith
-
-array-share-prefix-starts : tie.Need-array-share-prefix-starts
-array-share-prefix-starts c = walk-room (c .before .before .walk .ensures)
-
-slice-aggregate-first : tie.Need-slice-aggregate-first
-slice-aggregate-first c =
-    let w = c .before .before .before .walk in
-    sym (length-take-le (w .result .lines .count + 1) (w .result .lines .starts) (walk-room (w .ensures)))
+-- the first repeat among the lines of the walk
+told : (f : tie.After-first) {r : Found} → f .first .result ≡ r
+    → let w = f .before .before .before .before .before in
+    foundOf r ≡ firstRepeat (entriesBy (w .before .before .args .table .now) (startsTo (w .walk .result .lines)))
+told f e =
+    let b = f .before in
+    let w = b .before .before .before .before in
+    sym (ap foundOf e) ∙ f .first .ensures ∙ ap (λ xs. firstRepeat (entriesBy (w .before .before .args .table .now) xs)) (b .starts-to .ensures)
 
 returns : tie.Need-returns
 returns c =
     let t = c .before in
     let f = t .before .before .before in
-    rw (check-stopped (f .before .before .before .before .walk .ensures) (t .if1 .taken) (sym (ap foundOf (t .before .enum-told .given .1)) ∙ f .first .ensures)) (c .bad2 .ensures)
+    rw (check-stopped (f .before .before .before .before .before .walk .ensures) (t .if1 .taken) (told f (t .before .enum-told .given .1))) (c .bad2 .ensures)
 
 returns-2 : tie.Need-returns-2
 returns-2 c =
     let r = c .before .before in
     let f = r .before .before in
-    rw (check-repeat (f .before .before .before .before .walk .ensures) (sym (ap foundOf (r .repeat .given .1)) ∙ f .first .ensures)) (c .bad .ensures)
+    rw (check-repeat (f .before .before .before .before .before .walk .ensures) (told f (r .repeat .given .1))) (c .bad .ensures)
 
 returns-3 : tie.Need-returns-3
 returns-3 c =
     let f = c .before .before .before in
-    let e = check-granted (f .before .before .before .before .walk .ensures) (c .if1 .left) (sym (ap foundOf (c .before .enum-told .given .1)) ∙ f .first .ensures) in
-    answers-grant _ noLines _ _ e refl
+    answers-grant _ noLines _ _ (check-granted (f .before .before .before .before .before .walk .ensures) (c .if1 .left) (told f (c .before .enum-told .given .1))) refl
 
 pub check-spec : {M : Type 1} → statement M
 check-spec =
-    tie.close (tie.spec (search needs) add-starts array-share-prefix-starts slice-aggregate-first (search needs) (search needs)
-    (search needs) (search needs) (search needs) returns returns-2 returns-3)
+    tie.close (tie.spec (search needs) (search needs) (search needs) (search needs) (search needs) (search needs)
+    (search needs) returns returns-2 returns-3)

@@ -1,12 +1,14 @@
 use borrow.Author.Needs.{needs}
+use mathlib.Core.Bool.{Bool, true, false, cond}
+use mathlib.Core.Option.{some}
 use mathlib.Core.Path.{_≡_, sym, _∙_}
-use Prim.Native.Nat.{_-_}
+use Prim.Native.Nat.{_+_, _-_}
 use native.Mathlib.Omega.{arith}
 use Rattle.label.specs.Index.{firstFrom}
-use Rattle.label.proofs.SearchLaws.{search-end, search-hit, search-pass}
+use Rattle.label.proofs.SearchLaws.{search-end}
 use Rattle.alias.specs.Lines.{entriesBy}
 use Rattle.alias.specs.Lookup.{calledOf, findOf}
-use Rattle.alias.proofs.LookupLaws.{calledAt, entry-test, search-start}
+use Rattle.alias.proofs.LookupLaws.{calledAt, entry-step, search-start}
 use Rattle.alias.proofs.lookup.find.Statement.{statement}
 use Rattle.alias.proofs.lookup.find.Tie as tie
 
@@ -16,15 +18,16 @@ Inv-loop table starts text n k₀ k = findOf (entriesBy table starts) text ≡ f
 abbrev μ-loop : tie.MeasureT-loop
 μ-loop table starts text n k₀ k = n - k
 
--- the test of entry k
-told : (c : tie.After-called Inv-loop μ-loop)
+-- the test of entry k: the search ends there, or goes on
+told : (c : tie.After-called Inv-loop μ-loop) (b : Bool) → c .called .result ≡ b
     → let h = c .before .before .before in
     let a = h .before .before .before .before .before .args in
-    calledAt (entriesBy (a .table .now) (a .starts .now)) (a .text .now) (h .loop .k) ≡ c .called .result
-told c =
+    let es = entriesBy (a .table .now) (a .starts .now) in
+    findOf es (a .text .now) ≡ cond b (some (h .loop .k)) (firstFrom (calledAt es (a .text .now)) (h .loop .k + 1) (h .before .count .result - (h .loop .k + 1)))
+told c b e =
     let h = c .before .before .before in
     let a = h .before .before .before .before .before .args in
-    entry-test (a .table .now) (a .starts .now) (λ e. calledOf e (a .text .now)) (h .loop .k) (omega arith) (c .before .line .ensures) (c .called .ensures)
+    h .loop .inv ∙ entry-step (a .table .now) (a .starts .now) (λ e. calledOf e (a .text .now)) (h .loop .k) _ b (omega arith) (omega arith) (c .before .line .ensures) (c .called .ensures) e
 
 loop-holds : tie.Need-loop-holds Inv-loop μ-loop
 unfolding findOf
@@ -33,13 +36,10 @@ loop-holds c =
     search-start (a .table .now) (a .starts .now) _ (c .count .ensures)
 
 returns : tie.Need-returns Inv-loop μ-loop
-returns c =
-    let h = c .before .before .before .before in
-    sym (h .loop .inv ∙ search-hit _ (h .loop .k) _ (omega arith) (told (c .before) ∙ c .if1 .taken))
+returns c = sym (told (c .before) true (c .if1 .taken))
 
 loop-again : tie.Need-loop-again Inv-loop μ-loop
-loop-again c =
-    let h = c .before .before .before .before in h .loop .inv ∙ search-pass _ (h .loop .k) _ (omega arith) (told (c .before) ∙ c .if1 .left)
+loop-again c = told (c .before) false (c .if1 .left)
 
 returns-2 : tie.Need-returns-2 Inv-loop μ-loop
 returns-2 c = let h = c .before in sym (h .loop .inv ∙ search-end _ (h .loop .k) _ (omega arith))

@@ -1,12 +1,14 @@
 use borrow.Author.Needs.{needs}
+use mathlib.Core.Bool.{Bool, true, false, cond}
+use mathlib.Core.Option.{some}
 use mathlib.Core.Path.{_≡_, sym, _∙_}
-use Prim.Native.Nat.{_-_}
+use Prim.Native.Nat.{_+_, _-_}
 use native.Mathlib.Omega.{arith}
 use Rattle.label.specs.Index.{firstFrom}
-use Rattle.label.proofs.SearchLaws.{search-end, search-hit, search-pass}
+use Rattle.label.proofs.SearchLaws.{search-end}
 use Rattle.alias.specs.Lines.{entriesBy}
 use Rattle.alias.specs.Lookup.{nextOf, standsFor}
-use Rattle.alias.proofs.LookupLaws.{entries-length, entry-test, standsAt}
+use Rattle.alias.proofs.LookupLaws.{entries-length, entry-step, standsAt}
 use Rattle.alias.proofs.lookup.next.Statement.{statement}
 use Rattle.alias.proofs.lookup.next.Tie as tie
 
@@ -16,15 +18,16 @@ Inv-loop table starts v l from n k₀ k = nextOf (entriesBy table starts) v l fr
 abbrev μ-loop : tie.MeasureT-loop
 μ-loop table starts v l from n k₀ k = n - k
 
--- the test of entry k
-told : (c : tie.After-stands-for Inv-loop μ-loop)
+-- the test of entry k: the search ends there, or goes on
+told : (c : tie.After-stands-for Inv-loop μ-loop) (b : Bool) → c .stands-for .result ≡ b
     → let h = c .before .before .before in
     let a = h .before .before .before .before .args in
-    standsAt (entriesBy (a .table .now) (a .starts .now)) (a .v) (a .l) (h .loop .k) ≡ c .stands-for .result
-told c =
+    let es = entriesBy (a .table .now) (a .starts .now) in
+    nextOf es (a .v) (a .l) (a .from) ≡ cond b (some (h .loop .k)) (firstFrom (standsAt es (a .v) (a .l)) (h .loop .k + 1) (h .before .count .result - (h .loop .k + 1)))
+told c b e =
     let h = c .before .before .before in
     let a = h .before .before .before .before .args in
-    entry-test (a .table .now) (a .starts .now) (standsFor (a .v) (a .l)) (h .loop .k) (omega arith) (c .before .line .ensures) (c .stands-for .ensures)
+    h .loop .inv ∙ entry-step (a .table .now) (a .starts .now) (standsFor (a .v) (a .l)) (h .loop .k) _ b (omega arith) (omega arith) (c .before .line .ensures) (c .stands-for .ensures) e
 
 loop-holds : tie.Need-loop-holds Inv-loop μ-loop
 unfolding nextOf
@@ -33,13 +36,10 @@ loop-holds c =
     rw (entries-length (a .table .now) (a .starts .now), ← c .count .ensures)
 
 returns : tie.Need-returns Inv-loop μ-loop
-returns c =
-    let h = c .before .before .before .before in
-    sym (h .loop .inv ∙ search-hit _ (h .loop .k) _ (omega arith) (told (c .before) ∙ c .if1 .taken))
+returns c = sym (told (c .before) true (c .if1 .taken))
 
 loop-again : tie.Need-loop-again Inv-loop μ-loop
-loop-again c =
-    let h = c .before .before .before .before in h .loop .inv ∙ search-pass _ (h .loop .k) _ (omega arith) (told (c .before) ∙ c .if1 .left)
+loop-again c = told (c .before) false (c .if1 .left)
 
 returns-2 : tie.Need-returns-2 Inv-loop μ-loop
 returns-2 c = let h = c .before in sym (h .loop .inv ∙ search-end _ (h .loop .k) _ (omega arith))

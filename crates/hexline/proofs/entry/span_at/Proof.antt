@@ -3,7 +3,7 @@ use Rattle.hexline.proofs.entry.span_at.Statement.{statement}
 use Rattle.hexline.proofs.entry.span_at.Tie as tie
 
 returns : tie.Need-returns
-returns c = rw (c .length-at .ensures)
+returns c = (rw (c .length-at .ensures .0), search needs)
 
 pub span-at-spec : {M : Type 1} → statement M
 span-at-spec = tie.close (tie.spec (search needs) (search needs) returns)

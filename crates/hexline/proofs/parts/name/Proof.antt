@@ -1,24 +1,17 @@
 use borrow.Author.Needs.{needs}
 use mathlib.Core.Path.{ap, _∙_}
 use native.Mathlib.Omega.{arith}
-use Rattle.frame.specs.Frame.{bodyOf}
-use Rattle.frame.proofs.FrameLaws.{body-small}
-use Rattle.hexline.specs.Body.{lineWords}
 use Rattle.hexline.specs.Entry.{atMost, maxName}
 use Rattle.hexline.specs.Line.{nameIn}
 use Rattle.hexline.specs.declared.entry.Layout.{Layout}
-use Rattle.hexline.proofs.EntryLaws.{layout-small}
 use Rattle.hexline.proofs.parts.name.Statement.{statement}
 use Rattle.hexline.proofs.parts.name.Tie as tie
 
 returns : tie.Need-returns
 unfolding nameIn
 returns c =
-    let l = c .before in
-    let line = l .before .before .args .line .now in
-    let small = layout-small lineWords (bodyOf line) 1 (body-small line) (omega arith) (omega arith) in
-    let e = c .at-most .ensures ∙ ap (λ (p : Layout). atMost maxName (p .name)) (l .layout-at .ensures) in
-    (e, rw e (omega (arith, small .name)))
+    let e = c .at-most .ensures in
+    (e ∙ ap (λ (p : Layout). atMost maxName (p .name)) (c .before .layout-at .ensures .0), rw e (omega arith))
 
 pub name-spec : {M : Type 1} → statement M
 name-spec = tie.close (tie.spec (search needs) (search needs) returns)

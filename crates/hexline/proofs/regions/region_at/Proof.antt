@@ -1,36 +1,28 @@
 use borrow.Author.Needs.{needs}
-use mathlib.Core.Path.{sym, _∙_}
+use Prim.Native.Nat.{_+_, _*_, _≤_}
 use native.Mathlib.Omega.{arith}
 use Rattle.label.specs.Region.{regions}
 use Rattle.hexline.specs.Body.{rangeSize}
 use Rattle.hexline.specs.Regions.{regionAt}
-use Rattle.hexline.proofs.RegionsLaws.{present-room}
+use Rattle.hexline.proofs.RegionsLaws.{one-more}
 use Rattle.hexline.proofs.regions.region_at.Statement.{statement}
 use Rattle.hexline.proofs.regions.region_at.Tie as tie
 
+-- the range of the region ends before those of all regions would
+room : (c : tie.After-present-below)
+    → let w = c .before .before .before .before .args .words in c .present-below .result * rangeSize w + rangeSize w ≤ regions * rangeSize w
+room c =
+    let s = c .before .before .before .before in
+    let k = c .present-below .ensures .1 in one-more (c .present-below .result) regions (rangeSize (s .args .words)) (omega (arith, s .pre .1))
+
 mul-range-at : tie.Need-mul-range-at
-mul-range-at c =
-    let a = c .before .before .before .before .args in
-    let pre = c .before .before .before .before .pre in
-    let k = c .present-below .ensures .0 in
-    let room = present-room (a .p) (a .r) regions (rangeSize (a .words)) (pre .1) (sym (c .before .before .has-region .ensures) ∙ c .before .if1 .taken) in
-    record { fits = rw k (omega arith) }
+mul-range-at c = let r = room c in record { fits = omega arith }
 
 add-range-at : tie.Need-add-range-at
-add-range-at c =
-    let a = c .before .before .before .before .args in
-    let pre = c .before .before .before .before .pre in
-    let k = c .present-below .ensures .0 in
-    let room = present-room (a .p) (a .r) regions (rangeSize (a .words)) (pre .1) (sym (c .before .before .has-region .ensures) ∙ c .before .if1 .taken) in
-    record { fits = rw k (omega arith) }
+add-range-at c = let r = room c in record { fits = omega arith }
 
 range-at-requires : tie.Need-range-at-requires
-range-at-requires c κs =
-    let a = c .before .before .before .before .args in
-    let pre = c .before .before .before .before .pre in
-    let k = c .present-below .ensures .0 in
-    let room = present-room (a .p) (a .r) regions (rangeSize (a .words)) (pre .1) (sym (c .before .before .has-region .ensures) ∙ c .before .if1 .taken) in
-    rw k (omega arith)
+range-at-requires c κs = let r = room c in omega arith
 
 returns : tie.Need-returns
 unfolding regionAt

@@ -1,20 +1,16 @@
 use borrow.Author.Needs.{needs}
-use mathlib.Core.Path.{sym}
-use lib.Seq.{length-take-le}
 use borrow.Author.Tests.{le-ltb, lt-ltb}
 use Rattle.text.specs.Read.{labelIn}
 use Rattle.text.proofs.read.label_in.Statement.{statement}
 use Rattle.text.proofs.read.label_in.Tie as tie
 
-slice-aggregate-composed : tie.Need-slice-aggregate-composed
-slice-aggregate-composed c = sym (length-take-le _ _ (c .before .before .index-of .ensures .within))
-
 returns : tie.Need-returns
 unfolding labelIn
 returns c =
     let r = c .before in
-    let t = r .before .before in
-    rw (← t .before .index-of .ensures .index, lt-ltb _ _ (t .if1 .taken), ← r .rest .ensures) (c .composed .ensures)
+    let f = r .before in
+    let t = f .before in
+    rw (← t .before .index-of .ensures .index, lt-ltb _ _ (t .if1 .taken), ← f .front .ensures, ← r .rest .ensures) (c .composed .ensures)
 
 returns-2 : tie.Need-returns-2
 unfolding labelIn
@@ -22,5 +18,5 @@ returns-2 c = let e = c .before in rw (← e .before .index-of .ensures .index, 
 
 pub label-in-spec : {M : Type 1} → statement M
 label-in-spec =
-    tie.close (tie.spec (search needs) slice-aggregate-composed (search needs) (search needs) (search needs) returns (search needs)
+    tie.close (tie.spec (search needs) (search needs) (search needs) (search needs) (search needs) returns (search needs)
     returns-2)

@@ -1,9 +1,8 @@
 use borrow.Author.Needs.{needs}
-use mathlib.Core.Path.{_≡_, refl, sym, ap, _∙_}
+use mathlib.Core.Path.{_≡_, refl, ap, _∙_}
 use Prim.Native.Nat.{_+_, _-_, _≤_}
 use native.Mathlib.Omega.{arith}
-use lib.ListN.{length, take, length-drop}
-use lib.Seq.{length-take-le}
+use lib.ListN.{length, length-drop}
 use Rattle.label.specs.Answer.{andThen}
 use Rattle.label.proofs.AnswerLaws.{answers-grant, answers-same, grant-next, refusal-beside, refusal-next}
 use Rattle.octets.specs.Bytes.{split}
@@ -34,17 +33,14 @@ told : (t : tie.After-add-category Inv-loop μ-loop)
     let a = h .before .before .before .before .args in
     let es = entriesBy (a .table .now) (a .starts .now) in
     categoriesRead es noCategories (split comma (a .names .now))
-    ≡ andThen (addedTo es (h .loop .set) (take (i .index-of .result) (i .before .rest .result .now))) (λ us. readFrom es (a .names .now) us (h .loop .at + i .index-of .result + 1))
+    ≡ andThen (addedTo es (h .loop .set) (t .before .front .result .now)) (λ us. readFrom es (a .names .now) us (h .loop .at + i .index-of .result + 1))
 told t =
     let i = t .before .before in
     let h = i .before .before .before in
-    h .loop .inv .1 ∙ read-next _ _ _ (h .loop .at) (i .before .before .loop-test .taken) (i .before .rest .ensures) (i .index-of .ensures .index)
+    rw (t .before .front .ensures) (h .loop .inv .1 ∙ read-next _ _ _ (h .loop .at) (i .before .before .loop-test .taken) (i .before .rest .ensures) (i .index-of .ensures .index))
 
 loop-holds : tie.Need-loop-holds Inv-loop μ-loop
 loop-holds c = (omega arith, refl)
-
-slice-aggregate-add-category : tie.Need-slice-aggregate-add-category Inv-loop μ-loop
-slice-aggregate-add-category c = let i = c .before .index-of in sym (length-take-le (i .result) (c .before .before .rest .result .now) (i .ensures .within))
 
 returns : tie.Need-returns Inv-loop μ-loop
 returns c =
@@ -74,5 +70,5 @@ returns-2 c =
 
 pub read-categories-spec : {M : Type 1} → statement M
 read-categories-spec =
-    tie.close (tie.spec Inv-loop μ-loop loop-holds (search needs) (search needs) slice-aggregate-add-category (search needs) (search needs)
+    tie.close (tie.spec Inv-loop μ-loop loop-holds (search needs) (search needs) (search needs) (search needs) (search needs)
     (search needs) returns add-at add-at-2 loop-less loop-again returns-2)

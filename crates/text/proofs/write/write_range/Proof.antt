@@ -1,44 +1,24 @@
 use borrow.Author.Needs.{needs}
-use mathlib.Core.Path.{refl, sym}
-use native.Mathlib.Omega.{arith}
-use lib.Seq.{length-take-le}
+use mathlib.Core.Path.{refl}
 use Rattle.text.specs.Write.{writeRangeOf}
 use Rattle.text.proofs.RoomLaws.{range-refusal, range-same}
-use Rattle.text.proofs.SubjectLaws.{table-few, table-next, table-refused, table-room}
+use Rattle.text.proofs.SubjectLaws.{refused-next, table-next}
 use Rattle.text.proofs.write.write_range.Statement.{statement}
 use Rattle.text.proofs.write.write_range.Tie as tie
-
-add-n : tie.Need-add-n
-add-n c =
-    let e = c .before .before .before in
-    let n = table-few _ _ (e .before .before .check .ensures) (e .enum-told .given .1) in omega arith
-
-array-share-prefix-starts : tie.Need-array-share-prefix-starts
-array-share-prefix-starts c =
-    let e = c .before .before .before in
-    table-room _ _ (e .before .before .check .ensures) (e .enum-told .given .1)
-
-slice-aggregate-write-range-checked : tie.Need-slice-aggregate-write-range-checked
-slice-aggregate-write-range-checked c =
-    let e = c .before .before .before .before in
-    sym (length-take-le _ _ (table-room _ _ (e .before .before .check .ensures) (e .enum-told .given .1)))
 
 returns : tie.Need-returns
 returns c =
     let o = c .before .before in
-    let k = o .before .before in
-    let a = k .before .before .before .args in
-    range-refusal _ _ _ _ _ (c .with-status .ensures) (table-refused (a .more) (a .table .now) (k .check .ensures) (o .outcome .given .1) (λ es. writeRangeOf es (a .s) (a .style) (a .x))) refl
+    range-refusal _ _ _ _ _ (c .with-status .ensures) (refused-next (o .before .before .check .ensures) _ (o .outcome .given .1)) refl
 
 returns-2 : tie.Need-returns-2
 returns-2 c =
     let w = c .before .before in
-    let e = w .before .before .before .before .before .before in
-    let k = e .before .before in
-    let a = k .before .before .before .args in
-    range-same (w .write-range-checked .ensures) (table-next (a .more) (a .table .now) (k .check .ensures) (e .enum-told .given .1) (λ es. writeRangeOf es (a .s) (a .style) (a .x)))
+    let b = w .before .before in
+    let e = b .before .before .before .before in
+    let a = e .before .before .before .before .before .args in
+    range-same (w .write-range-checked .ensures) (table-next (a .more) (a .table .now) (e .before .before .check .ensures) (e .enum-told .given .1) (b .starts-to .ensures) (λ es. writeRangeOf es (a .s) (a .style) (a .x)))
 
 pub write-range-spec : {M : Type 1} → statement M
 write-range-spec =
-    tie.close (tie.spec (search needs) (search needs) (search needs) (search needs) add-n array-share-prefix-starts
-    slice-aggregate-write-range-checked (search needs) returns (search needs) returns-2)
+    tie.close (tie.spec (search needs) (search needs) (search needs) (search needs) (search needs) (search needs) returns (search needs) returns-2)
