@@ -2,7 +2,6 @@
 // answered as one bad line.
 use octets::LF;
 ghost use mathlib.Core.Path.{_≡_};
-ghost use lib.ListN.{take};
 ghost use Rattle.console.specs.Lines.{Taken, held, lastOf, piece};
 
 // What the bytes so far make.
@@ -83,16 +82,6 @@ pub fn take(chunk: &[u8], from: usize, buffer: &mut [u8], partial: Partial) -> P
         long: true,
     };
     answer(from + n, skipped, Line::More)
-}
-
-// The first n bytes of the buffer, or all of it where it has fewer: the bytes of a whole line, with no bound for the caller to prove.
-pub fn front(buffer: &[u8], n: usize) -> &[u8]
-    ensures { λ r. ⌜ now r ≡ take n (now (buffer .entry)) ⌝ }
-{
-    if n <= buffer.len() {
-        return &buffer[..n];
-    }
-    buffer
 }
 
 // At the end of the input: a line that has no LF is bad.

@@ -49,7 +49,7 @@ fn next_piece(i: Input, chunk: &[u8], line: &mut [u8]) -> Turn
     ensures { λ r. ⌜ Pieced i (now (chunk .entry)) (now (line .entry)) r (now (line .exit)) ⌝ }
 {
     let partial = i.partial;
-    let piece = lines::take(lines::front(chunk, i.filled), i.at, line, partial);
+    let piece = lines::take(octets::front(chunk, i.filled), i.at, line, partial);
     let held = piece.partial;
     let l = piece.line;
     let input = Input {

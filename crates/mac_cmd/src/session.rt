@@ -5,7 +5,6 @@ use crate::call;
 use crate::request;
 use crate::request::Request;
 use console::command;
-use console::lines;
 use console::lines::Line;
 use libc::STDOUT_FILENO;
 
@@ -52,7 +51,7 @@ fn put_answer(r: Request, a: &[u8], b: &[u8], out: &mut [u8]) -> usize {
 fn respond(r: Request, a: &[u8], b: &[u8]) -> Session {
     let mut out = [0u8; ANSWER_BYTES];
     let n = put_answer(r, a, b, &mut out);
-    io::write_all(STDOUT_FILENO, lines::front(&out, n));
+    io::write_all(STDOUT_FILENO, octets::front(&out, n));
     between()
 }
 
@@ -85,7 +84,7 @@ fn take_operand(s: Session, line: &[u8], operand: &mut [u8]) -> Session {
         };
     }
     if request::operand_count(r) > 1 {
-        return respond(r, lines::front(operand, s.kept), line);
+        return respond(r, octets::front(operand, s.kept), line);
     }
     respond(r, line, line)
 }
@@ -101,8 +100,8 @@ fn take_line(s: Session, line: &[u8], operand: &mut [u8]) -> Session {
 pub(crate) fn take_piece(s: Session, l: Line, line: &[u8], operand: &mut [u8]) -> Session {
     match l {
         Line::More => s,
-        Line::Whole(n) => take_line(s, lines::front(line, n), operand),
-        Line::Bad => take_line(s, lines::front(line, 0), operand),
+        Line::Whole(n) => take_line(s, octets::front(line, n), operand),
+        Line::Bad => take_line(s, octets::front(line, 0), operand),
     }
 }
 

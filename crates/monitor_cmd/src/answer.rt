@@ -1,6 +1,5 @@
 // Decisions as text.
 use console::format;
-use console::lines;
 use label::errno::Errno;
 use libc::STDOUT_FILENO;
 use monitor::Decision;
@@ -19,7 +18,7 @@ fn put_decision(d: Decision, out: &mut [u8]) -> usize {
 pub(crate) fn print(d: Decision) {
     let mut out = [0u8; ANSWER_BYTES];
     let n = put_decision(d, &mut out);
-    io::write_all(STDOUT_FILENO, lines::front(&out, n));
+    io::write_all(STDOUT_FILENO, octets::front(&out, n));
 }
 
 // What is printed of a request that makes no call.

@@ -6,7 +6,6 @@ use crate::request::NUMBERS;
 use crate::request::OPERANDS;
 use console::command;
 use console::command::MAX_NUMBERS;
-use console::lines;
 use console::lines::Line;
 
 // The request whose operand lines are due. Between two requests none is.
@@ -77,8 +76,8 @@ fn take_line(s: Session, line: &[u8]) -> Session {
 pub(crate) fn take_piece(s: Session, l: Line, line: &[u8]) -> Session {
     match l {
         Line::More => s,
-        Line::Whole(n) => take_line(s, lines::front(line, n)),
-        Line::Bad => take_line(s, lines::front(line, 0)),
+        Line::Whole(n) => take_line(s, octets::front(line, n)),
+        Line::Bad => take_line(s, octets::front(line, 0)),
     }
 }
 

@@ -1,6 +1,5 @@
 // The answer of a call as text.
 use console::format;
-use console::lines;
 use label::Label;
 use label::answer::Written;
 use libc::STDOUT_FILENO;
@@ -80,5 +79,5 @@ pub(crate) fn print(a: Answer) {
     let mut out = [0u8; ANSWER_BYTES];
     let reply = a.reply;
     let n = put_reply(&mut out, reply, a.label);
-    io::write_all(STDOUT_FILENO, lines::front(&out, n));
+    io::write_all(STDOUT_FILENO, octets::front(&out, n));
 }

@@ -5,7 +5,6 @@ use crate::request;
 use crate::request::Request;
 use crate::show;
 use console::command;
-use console::lines;
 use console::lines::Line;
 use segments::Outcome;
 use segments::SegmentTable;
@@ -104,8 +103,8 @@ pub(crate) fn take_piece(s: Session, l: Line, line: &[u8]) -> Session
 {
     match l {
         Line::More => s,
-        Line::Whole(n) => take_line(s, lines::front(line, n)),
-        Line::Bad => take_line(s, lines::front(line, 0)),
+        Line::Whole(n) => take_line(s, octets::front(line, n)),
+        Line::Bad => take_line(s, octets::front(line, 0)),
     }
 }
 

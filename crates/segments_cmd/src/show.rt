@@ -1,7 +1,6 @@
 // The state as text, a line at a time: the pool, the admitted tenants, the filled slots. Every line is shown to fit in the one buffer that they
 // share, so none is cut.
 use crate::answer::put_field;
-use console::lines;
 use label::Label;
 use label::answer::Number;
 use label::words;
@@ -110,7 +109,7 @@ fn print_slot(out: &mut [u8], slot: u64, x: Segment)
 {
     if x.pages > 0 {
         let n = put_slot(out, slot, x);
-        io::write_all(STDOUT_FILENO, lines::front(out, n));
+        io::write_all(STDOUT_FILENO, octets::front(out, n));
     }
 }
 
@@ -134,7 +133,7 @@ fn print_tenant(out: &mut [u8], s: SegmentTable, tenant: usize)
     match used {
         Number::Value(pages) => {
             let n = put_tenant(out, tenant as u64, ceiling, pages);
-            io::write_all(STDOUT_FILENO, lines::front(out, n));
+            io::write_all(STDOUT_FILENO, octets::front(out, n));
         }
         Number::Refused(_) => {}
     }
@@ -154,7 +153,7 @@ fn print_lines(out: &mut [u8], s: SegmentTable)
     requires { ⌜ lineBytes ≤ length (now out) ⌝ }
 {
     let n = put_pool(out, s.pool);
-    io::write_all(STDOUT_FILENO, lines::front(out, n));
+    io::write_all(STDOUT_FILENO, octets::front(out, n));
     print_tenants(out, s);
     print_slots(out, s);
     io::write_all(STDOUT_FILENO, b"end\n");

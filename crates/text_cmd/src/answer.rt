@@ -1,6 +1,5 @@
 // Answers, as they are printed.
 use console::format;
-use console::lines;
 use label::LabelAnswer;
 use label::answer::Outcome;
 use label::answer::Written;
@@ -18,7 +17,7 @@ pub(crate) fn print_ok() {
 pub(crate) fn print_refusal(e: Errno) {
     let mut out = [0u8; ANSWER_BYTES];
     let n = format::append_error(&mut out, 0, e);
-    io::write_all(STDOUT_FILENO, lines::front(&out, n));
+    io::write_all(STDOUT_FILENO, octets::front(&out, n));
 }
 
 // What is printed of a request that makes no call.
@@ -32,7 +31,7 @@ pub(crate) fn print_count(n: usize) {
     let word = octets::append(&mut out, 0, b"table ");
     let digits = format::append_decimal(&mut out, word, n as u64);
     let end = octets::append(&mut out, digits, b"\n");
-    io::write_all(STDOUT_FILENO, lines::front(&out, end));
+    io::write_all(STDOUT_FILENO, octets::front(&out, end));
 }
 
 // Prints a text that stands at the front of the buffer, and LF. The longest text has 16,453 bytes, so that LF fits behind it.
@@ -40,7 +39,7 @@ pub(crate) fn print_text(written: Written, out: &mut [u8]) {
     match written {
         Written::Length(n) => {
             let end = octets::append(out, n, b"\n");
-            io::write_all(STDOUT_FILENO, lines::front(out, end));
+            io::write_all(STDOUT_FILENO, octets::front(out, end));
         }
         Written::Refused(e) => print_refusal(e),
     }
@@ -63,7 +62,7 @@ pub(crate) fn print_status(written: Written, status: u8) {
 fn print_line(written: Written, out: &[u8]) {
     match written {
         Written::Length(n) => {
-            io::write_all(STDOUT_FILENO, lines::front(out, n));
+            io::write_all(STDOUT_FILENO, octets::front(out, n));
         }
         Written::Refused(e) => print_refusal(e),
     }

@@ -2,7 +2,6 @@
 use crate::answer;
 use crate::kept::Kept;
 use crate::kept::MAX_CAPACITY;
-use console::lines;
 use label::answer::Outcome;
 use label::answer::granted;
 use text::Form;
@@ -15,7 +14,7 @@ ghost use Rattle.io.specs.Counts.{Counts};
 
 // Tests a table that is complete.
 pub(crate) fn check_table(k: Kept, table: &[u8]) {
-    let t = alias::check(lines::front(table, k.length), k.more);
+    let t = alias::check(octets::front(table, k.length), k.more);
     let outcome = t.outcome;
     match outcome {
         Outcome::Granted => {
@@ -84,7 +83,7 @@ fn style_of(form: u64, variant: u64) -> Style {
 fn room(k: Kept, out: &[u8]) -> usize
     ensures { λ r. ⌜ Counts r (now (out .entry)) ⌝ }
 {
-    let part = lines::front(out, k.capacity);
+    let part = octets::front(out, k.capacity);
     part.len()
 }
 
@@ -99,7 +98,7 @@ pub(crate) fn write_label(
     let operand = hexline::read_label(line);
     let outcome = operand.outcome;
     if is_style(form, variant) & granted(outcome) {
-        let names = lines::front(table, k.length);
+        let names = octets::front(table, k.length);
         let style = style_of(form, variant);
         let n = room(k, out);
         let written = write::write_label(
@@ -127,7 +126,7 @@ pub(crate) fn write_range(
     let operand = hexline::read_range(line);
     let outcome = operand.outcome;
     if is_style(form, variant) & granted(outcome) {
-        let names = lines::front(table, k.length);
+        let names = octets::front(table, k.length);
         let style = style_of(form, variant);
         let n = room(k, out);
         let r = write::write_range(
@@ -149,8 +148,8 @@ pub(crate) fn write_range(
 // Reads a label from a line of text. A bad line, which comes as no bytes at all, has no text.
 pub(crate) fn read_label(k: Kept, line: &[u8], table: &[u8]) {
     if line.len() > 0 {
-        let text = lines::front(line, line.len() - 1);
-        let names = lines::front(table, k.length);
+        let text = octets::front(line, line.len() - 1);
+        let names = octets::front(table, k.length);
         answer::print_label(read::read_label(names, k.more, k.subject, text));
     } else {
         answer::print_invalid();
@@ -159,8 +158,8 @@ pub(crate) fn read_label(k: Kept, line: &[u8], table: &[u8]) {
 
 pub(crate) fn read_range(k: Kept, line: &[u8], table: &[u8]) {
     if line.len() > 0 {
-        let text = lines::front(line, line.len() - 1);
-        let names = lines::front(table, k.length);
+        let text = octets::front(line, line.len() - 1);
+        let names = octets::front(table, k.length);
         answer::print_range(read::read_range(names, k.more, k.subject, text));
     } else {
         answer::print_invalid();

@@ -7,7 +7,6 @@ use crate::request;
 use crate::request::Operand;
 use crate::request::Request;
 use console::command;
-use console::lines;
 use console::lines::Line;
 
 // What is kept, and the request whose operand is due. Between two requests none is.
@@ -101,8 +100,8 @@ pub(crate) fn take_piece(
 ) -> Session {
     match l {
         Line::More => s,
-        Line::Whole(n) => take_line(s, lines::front(line, n), table, out),
-        Line::Bad => take_line(s, lines::front(line, 0), table, out),
+        Line::Whole(n) => take_line(s, octets::front(line, n), table, out),
+        Line::Bad => take_line(s, octets::front(line, 0), table, out),
     }
 }
 
