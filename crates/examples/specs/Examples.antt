@@ -103,7 +103,7 @@ pub data Value : Type 0 where
   range : Answer Range → Value
   tuple : Answer Tuple → Value
   text : Answer (List ℕ) → Value
-  length : Answer ℕ → Value
+  count : Answer ℕ → Value
   grants : List Answered → Value
 
 -- what the definitions say, and what document 01 says that it is
@@ -141,7 +141,7 @@ examples =
     ∷ (test (validOf (exampleOf 200 [])) is test false)
     -- (20,{7}) for subject (20,{7}) is `low:east`; a buffer of 7 answers 7 with 8
     ∷ (text (written (exampleOf 20 (7 ∷ [])) (exampleOf 20 (7 ∷ []))) is text (granted (ascii "low:east")))
-    ∷ (length (lengthOf (written (exampleOf 20 (7 ∷ [])) (exampleOf 20 (7 ∷ []))) 7) is length (refused 7 (some 8)))
+    ∷ (count (lengthOf (written (exampleOf 20 (7 ∷ [])) (exampleOf 20 (7 ∷ []))) 7) is count (refused 7 (some 8)))
     -- Pool 100, ceilings 60 and 40: a third tenant with 1 gets 12. Tenant 0 opens 60 at place 0, then 1 page: 12. Tenant 1 still opens 40, at
     -- place 8. Tenant 0 sizes place 0 to 59 and opens 1 at place 1
     ∷ (grants (played (emptyTable 0) board) is grants board)

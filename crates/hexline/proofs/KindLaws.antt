@@ -31,7 +31,7 @@ use Rattle.hexline.specs.declared.entry.Entry.{Entry}
 use Rattle.hexline.proofs.BodyLaws.{Within, first-part, holds-second, holds-self, label-back, label-bytes, label-forth, label-length, one-part, part, parts-join, range-back, range-bytes, range-forth, range-length}
 use Rattle.hexline.proofs.EntryKindLaws.{entry-exact, entry-length}
 use Rattle.hexline.proofs.LineLaws.{form-kind, form-length, form-of, line-exact, line-length, line-valid, tuple-form-parts}
-use Rattle.hexline.proofs.RegionsLaws.{WithinTuple, presence-forth, presence-size, presence-small, regions-bytes, regions-forth, regions-size, tuple-back}
+use Rattle.hexline.proofs.RegionsLaws.{WithinTuple, presence-forth, presence-size, presence-small, regions-bytes, regions-forth, regions-full, regions-size, tuple-back}
 
 -- ---- bodies that begin with a kind
 
@@ -135,6 +135,12 @@ tuple-line-length t line e =
     let n = regions-size lineWords t regions in
     let m = line-length (Tuple.validOf t) (tupleBody 3 lineWords t) line e in
     omega arith
+
+pub full-tuple-length : (t : Tuple) (line : List ℕ) → ((r : ℕ) → r < regions → Tuple.rangeAt t r .present ≡ true) → tupleLineOf t ≡ granted line → length line ≡ 403
+unfolding tupleBody
+full-tuple-length t line h e =
+    let n = regions-full lineWords t regions h in
+    line-length (Tuple.validOf t) (tupleBody 3 lineWords t) line e ∙ omega arith
 
 pub entry-line-length : (e : Entry) → TypedEntry e → (line : List ℕ) → entryLineOf e ≡ granted line → length line ≤ 169
 entry-line-length e ty line h =

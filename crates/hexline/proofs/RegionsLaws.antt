@@ -4,7 +4,7 @@ use mathlib.Core.List.{List, [], _++_}
 use mathlib.Core.Logic.{⊎-elim}
 use mathlib.Core.Path.{_≡_, refl, sym, ap, ap₂, _∙_}
 use Prim.Native.Nat.{ℕ, zero, suc, _+_, _*_, _/_, _%_, _^_, _≤_, _<_}
-use native.Mathlib.Nat.{add-mul, eq-or-lt-of-le, lt-of-lt-of-le, mod-lt, mul-le-mul-right, suc-mul, zero-lt-suc, zero-mul}
+use native.Mathlib.Nat.{add-mul, eq-or-lt-of-le, lt-of-lt-of-le, mod-lt, mul-le-mul-right, one-mul, suc-mul, zero-lt-suc, zero-mul}
 use native.Mathlib.Numerals.{add-one}
 use native.Mathlib.Omega.{arith}
 use lib.Dec.{eqb}
@@ -69,6 +69,18 @@ regions-size w t (suc n) =
     let a = length-append (regionsBytes w t n) (regionBytes w (Tuple.rangeAt t n)) in
     let e = region-size w (Tuple.rangeAt t n) in
     let m : cond (Tuple.rangeAt t n .present) 1 0 * rangeSize w ≤ 1 * rangeSize w = mul-le-mul-right (rangeSize w) (one-of (Tuple.rangeAt t n .present)) in
+    let s = suc-mul n (rangeSize w) in
+    omega arith
+
+-- where all are there, exactly
+pub regions-full : (w : ℕ) (t : Tuple) (n : ℕ) → ((r : ℕ) → r < n → Tuple.rangeAt t r .present ≡ true) → length (regionsBytes w t n) ≡ n * rangeSize w
+unfolding regionsBytes
+regions-full w t zero h = sym (zero-mul (rangeSize w))
+regions-full w t (suc n) h =
+    let ih : length (regionsBytes w t n) ≡ n * rangeSize w = regions-full w t n (λ r l. h r (omega arith)) in
+    let a = length-append (regionsBytes w t n) (regionBytes w (Tuple.rangeAt t n)) in
+    let e = rw (h n (omega arith)) at (region-size w (Tuple.rangeAt t n)) in
+    let o = one-mul (rangeSize w) in
     let s = suc-mul n (rangeSize w) in
     omega arith
 

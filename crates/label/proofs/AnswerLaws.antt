@@ -67,6 +67,9 @@ module _ {A : Type 0} {o : Outcome} {value z : A} {x : Answer A} (h : Answered o
   refused-is : {e : Errno} → o ≡ Refused e → x ≡ refusedBy e
   refused-is e = sym (h .outcome) ∙ rw e
 
+  pub refused-next : {B : Type 0} (next : A → Answer B) {e : Errno} → o ≡ Refused e → andThen x next ≡ refusedBy e
+  refused-next next r = ap (λ (y : Answer A). andThen y next) (refused-is r)
+
   pub refusal-next : {B : Type 0} (next : A → Answer B) {e : Errno} {y w : B} → o ≡ Refused e → y ≡ w → Answered o y w (andThen x next)
   refusal-next next {e} {y} {w} r f = rw (r, refused-is r) (answers-refusal e y w (refusedBy e) refl f)
 

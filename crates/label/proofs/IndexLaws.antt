@@ -51,11 +51,11 @@ module _ {A : Type 0} (f : ℕ → A) where
   tabulate-one n a h = tabulate-is (replicate n a) n a (length-replicate n a) (λ i l. getD-replicate n i a a l ∙ sym (h i l))
 
   -- a loop that fills r from the front
-  pub fill-step : (r : List A) (i : ℕ) (v : A) → i < length r → v ≡ f i → take i r ≡ tabulate f i → take (i + 1) (set r i v) ≡ tabulate f (i + 1)
+  fill-step : (r : List A) (i : ℕ) (v : A) → i < length r → v ≡ f i → take i r ≡ tabulate f i → take (i + 1) (set r i v) ≡ tabulate f (i + 1)
   unfolding tabulate
   fill-step r i v h e inv = rw (add-one, take-suc-set r i v h, inv, e)
 
-  pub fill-done : (r : List A) (i n : ℕ) → i ≡ n → length r ≡ n → take i r ≡ tabulate f i → r ≡ tabulate f n
+  fill-done : (r : List A) (i n : ℕ) → i ≡ n → length r ≡ n → take i r ≡ tabulate f i → r ≡ tabulate f n
   fill-done r i n e h inv = sym (take-all i r (omega arith)) ∙ inv ∙ ap (tabulate f) e
 
 -- such a loop's invariant, for r of n elements
@@ -97,14 +97,14 @@ module _ (f : ℕ → Bool) where
   every-all (suc n) h = both (every-all n (λ i l. h i (omega arith))) (h n (omega arith))
 
   -- a loop that has found f true at each index so far: it goes on, stops where f is false, or ends
-  pub every-next : (i : ℕ) → every f i ≡ true → f i ≡ true → every f (i + 1) ≡ true
+  every-next : (i : ℕ) → every f i ≡ true → f i ≡ true → every f (i + 1) ≡ true
   unfolding every
   every-next i e h = rw add-one (both e h)
 
-  pub every-stop : (n i : ℕ) → i < n → f i ≡ false → every f n ≡ false
+  every-stop : (n i : ℕ) → i < n → f i ≡ false → every f n ≡ false
   every-stop n i l h = not-so (every f n) (λ e. true≢false (sym (every-at n i e l) ∙ h))
 
-  pub every-done : (n i : ℕ) → i ≡ n → every f i ≡ true → every f n ≡ true
+  every-done : (n i : ℕ) → i ≡ n → every f i ≡ true → every f n ≡ true
   every-done n i e h = rw e at h
 
 -- such a loop's invariant, for n numbers

@@ -4,11 +4,10 @@ use mathlib.Core.List.{List}
 use mathlib.Core.Path.{_≡_, sym, ap, _∙_}
 use Prim.Native.Nat.{ℕ, _+_}
 use lib.ListN.{take}
-use Rattle.label.specs.Answer.{Answer, Answered, andThen, outcomeOf, refusedBy, require}
+use Rattle.label.specs.Answer.{Answer, Answered, andThen, require}
 use Rattle.label.specs.declared.Label.{Label}
 use Rattle.label.specs.declared.answer.Outcome.{Outcome}
-use Rattle.label.specs.declared.answer.Outcome.the-variants.{Granted, Refused}
-use Rattle.label.specs.declared.errno.Errno.{Errno}
+use Rattle.label.specs.declared.answer.Outcome.the-variants.{Granted}
 use Rattle.label.proofs.AnswerLaws.{grant-next, granted-is, require-then}
 use Rattle.hexline.specs.declared.entry.Entry.{Entry}
 use Rattle.alias.specs.Lines.{entriesBy, entriesOf, linesOf, noLines}
@@ -24,10 +23,6 @@ pub table-next : {A : Type 0} (more : Bool) (bytes : List ℕ) {starts : List �
 table-next more bytes {starts} {o} {x} h e s answer =
     grant-next h (λ (y : LineStarts). answer (entriesOf (linesOf bytes))) e
     ∙ ap (λ (ls : List (List ℕ)). answer (entriesOf ls)) (rw s (sym (checked-lines more bytes x (granted-is h e))))
-
--- a refusal: so is what follows it
-pub refused-next : {A B : Type 0} {o : Outcome} {value z : A} {x : Answer A} {e : Errno} → Answered o value z x → (next : A → Answer B) → o ≡ Refused e → andThen x next ≡ refusedBy e
-refused-next {A} {B} {o} {value} h next q = ap (λ (y : Answer A). andThen y next) (sym (h .outcome) ∙ ap (λ (o : Outcome). outcomeOf o value) q)
 
 -- what follows where a label may be shown
 pub allowed-next : {A : Type 0} (valid : Bool) (s : Subject) (l : Label) (rest : Answer A)

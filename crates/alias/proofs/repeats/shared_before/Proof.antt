@@ -1,10 +1,9 @@
 use borrow.Author.Needs.{needs}
-use mathlib.Core.Bool.{true, not}
+use mathlib.Core.Bool.{not}
 use mathlib.Core.Path.{_≡_, refl, sym, ap, _∙_}
-use Prim.Native.Nat.{_-_, _≤_}
+use Prim.Native.Nat.{_-_}
 use native.Mathlib.Omega.{arith}
-use Rattle.label.specs.Index.{every}
-use Rattle.label.proofs.IndexLaws.{every-done, every-next}
+use Rattle.label.proofs.IndexLaws.{Tested, test-all, test-next, test-none}
 use Rattle.label.proofs.SearchLaws.{any-of}
 use Rattle.hexline.specs.Line.{standingIn}
 use Rattle.alias.specs.Lines.{entriesBy, entryAt}
@@ -14,7 +13,7 @@ use Rattle.alias.proofs.repeats.shared_before.Statement.{statement}
 use Rattle.alias.proofs.repeats.shared_before.Tie as tie
 
 abbrev Inv-loop : tie.InvT-loop
-Inv-loop table starts k own j₀ j = (j ≤ k) × (every (λ i. not (sharesAt (entriesBy table starts) k i)) j ≡ true)
+Inv-loop table starts k own j₀ j = Tested (λ i. not (sharesAt (entriesBy table starts) k i)) k j
 
 abbrev μ-loop : tie.MeasureT-loop
 μ-loop table starts k own j₀ j = k - j
@@ -33,8 +32,7 @@ told c =
     ∙ entry-test t s (λ e. sharesOf e (standingIn (h .before .line .result .now))) (h .loop .j) (omega arith) (c .before .line2 .ensures) (c .shares .ensures)
 
 loop-holds : tie.Need-loop-holds Inv-loop μ-loop
-unfolding every
-loop-holds c = (search needs, refl)
+loop-holds c = test-none
 
 returns : tie.Need-returns Inv-loop μ-loop
 returns c =
@@ -45,10 +43,10 @@ returns c =
 loop-again : tie.Need-loop-again Inv-loop μ-loop
 loop-again c =
     let h = c .before .before .before .before in
-    (search needs, every-next _ (h .loop .j) (h .loop .inv .1) (ap not (told (c .before) ∙ c .if1 .left)))
+    test-next (h .loop .inv) (omega arith) (ap not (told (c .before) ∙ c .if1 .left))
 
 returns-2 : tie.Need-returns-2 Inv-loop μ-loop
-returns-2 c = let h = c .before in sym (ap not (every-done _ _ (h .loop .j) (omega arith) (h .loop .inv .1)))
+returns-2 c = let h = c .before in ap not (test-all (h .loop .inv) (omega arith))
 
 pub shared-before-spec : {M : Type 1} → statement M
 shared-before-spec =

@@ -1,10 +1,10 @@
 use borrow.Author.Needs.{needs}
 use mathlib.Core.Path.{refl, _∙_}
-use Rattle.label.proofs.AnswerLaws.{grant-next}
+use Rattle.label.proofs.AnswerLaws.{grant-next, refused-next}
 use Rattle.label.proofs.BufferLaws.{writes-nothing}
 use Rattle.text.specs.Write.{writeLabelOf}
 use Rattle.text.proofs.RoomLaws.{written-same}
-use Rattle.text.proofs.SubjectLaws.{allowed-next, refused-next}
+use Rattle.text.proofs.SubjectLaws.{allowed-next}
 use Rattle.text.proofs.write.write_checked.Statement.{statement}
 use Rattle.text.proofs.write.write_checked.Tie as tie
 

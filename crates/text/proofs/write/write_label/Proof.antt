@@ -1,9 +1,10 @@
 use borrow.Author.Needs.{needs}
 use mathlib.Core.Path.{refl}
 use Rattle.label.proofs.BufferLaws.{writes-nothing}
+use Rattle.label.proofs.AnswerLaws.{refused-next}
 use Rattle.text.specs.Write.{writeLabelOf}
 use Rattle.text.proofs.RoomLaws.{written-same}
-use Rattle.text.proofs.SubjectLaws.{refused-next, table-next}
+use Rattle.text.proofs.SubjectLaws.{table-next}
 use Rattle.text.proofs.write.write_label.Statement.{statement}
 use Rattle.text.proofs.write.write_label.Tie as tie
 

@@ -1,8 +1,9 @@
 use borrow.Author.Needs.{needs}
 use mathlib.Core.Path.{refl}
+use Rattle.label.proofs.AnswerLaws.{refused-next}
 use Rattle.text.specs.Write.{writeRangeOf}
 use Rattle.text.proofs.RoomLaws.{range-refusal, range-same}
-use Rattle.text.proofs.SubjectLaws.{refused-next, table-next}
+use Rattle.text.proofs.SubjectLaws.{table-next}
 use Rattle.text.proofs.write.write_range.Statement.{statement}
 use Rattle.text.proofs.write.write_range.Tie as tie
 

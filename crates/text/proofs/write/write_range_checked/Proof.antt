@@ -1,12 +1,12 @@
 use borrow.Author.Needs.{needs}
 use mathlib.Core.Path.{refl, _∙_}
-use Rattle.label.proofs.AnswerLaws.{grant-next}
+use Rattle.label.proofs.AnswerLaws.{grant-next, refused-next}
 use Rattle.alias.specs.Lines.{entriesBy}
 use Rattle.text.specs.Measure.{rangeNamed, rangeText, statusOf}
 use Rattle.text.specs.Write.{writeRangeOf}
 use Rattle.text.proofs.PartLaws.{range-shown}
 use Rattle.text.proofs.RoomLaws.{range-refusal, range-same, range-written}
-use Rattle.text.proofs.SubjectLaws.{allowed-next, refused-next}
+use Rattle.text.proofs.SubjectLaws.{allowed-next}
 use Rattle.text.proofs.write.write_range_checked.Statement.{statement}
 use Rattle.text.proofs.write.write_range_checked.Tie as tie
 
