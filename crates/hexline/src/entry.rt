@@ -27,11 +27,13 @@ pub enum Value {
     WholeLabel,
 }
 
+#[repr(C)]
 pub struct Name {
     pub bytes: [u8; MAX_NAME],
     pub length: usize,
 }
 
+#[repr(C)]
 pub struct Abbreviation {
     pub bytes: [u8; MAX_ABBREVIATION],
     pub length: usize,

@@ -23,6 +23,7 @@ ghost use Rattle.label.specs.Words.{membersOf, nextOf};
 // The largest hierarchy number of a valid label.
 pub const MAX_HIERARCHY: u8 = 199;
 
+#[repr(C)]
 pub struct Label {
     pub hierarchy: u8,
     pub categories: [u64; WORDS],

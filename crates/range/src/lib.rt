@@ -14,6 +14,7 @@ ghost use Rattle.label.specs.Label as labels;
 ghost use Rattle.range.specs.Range.{TypedRange, commonOf, containsOf, meetAnswerOf, meetOf, validOf, zeroRange};
 
 // The labels that low is dominated by and high dominates.
+#[repr(C)]
 pub struct Range {
     pub low: Label,
     pub high: Label,

@@ -31,6 +31,7 @@ pub struct Tenant {
 }
 
 // What a slot holds (version is document 01's edition): zeros where the slot is empty.
+#[repr(C)]
 pub struct Segment {
     pub label: Label,
     pub pages: u64,
