@@ -1,0 +1,67 @@
+-- Laws of the forms: what is formed comes back from its value as it was, so that a refused call hands back the very state that was passed. Assumes nothing.
+use mathlib.Core.Bool.{Bool, true, false}
+use mathlib.Core.Path.{_≡_, refl, sym, ap, _∙_}
+use Prim.Native.Nat.{ℕ, zero, suc, _<_, _≤_}
+use native.Mathlib.Omega.{arith}
+use lib.ListN.{length}
+use borrow.Author.Tests.{leb-true}
+use Rattle.label.specs.Index.{tabulate}
+use Rattle.label.specs.Region.{regions}
+use Rattle.label.proofs.IndexLaws.{every-at, tabulate-at, tabulate-is}
+use Rattle.range.specs.Tuple as coreTuples
+use Rattle.range.specs.declared.tuple.RegionRange as coreRegion
+use Rattle.segments.specs.Replies.{Step}
+use Rattle.segments.specs.Segments as core
+use Rattle.segments.specs.declared.SegmentTable.{SegmentTable}
+use Rattle.segments.specs.declared.Tenant as coreTenant
+use Rattle.abi.specs.Flag as flags
+use Rattle.abi.specs.Table as tables
+use Rattle.abi.specs.Tuple as tuples
+use Rattle.abi.specs.declared.table.Table.{Table}
+use Rattle.abi.specs.declared.table.Tenant.{Tenant}
+use Rattle.abi.specs.declared.tuple.RegionRange.{RegionRange}
+use Rattle.abi.specs.declared.tuple.Tuple.{Tuple}
+
+flag-back : (n : ℕ) → n ≤ 1 → n ≡ flags.encodedOf (flags.decodedOf n)
+flag-back zero h = refl
+flag-back (suc zero) h = refl
+flag-back (suc (suc n)) h = absurd (omega arith)
+
+region-back : (e : RegionRange) → e .present ≤ 1 → e ≡ tuples.encodedAt (tuples.decodedAt e)
+region-back e h = ap (λ n. record { present = n; range = e .range }) (flag-back (e .present) h)
+
+-- a tuple whose flags are flags
+pub tuple-back : (t : Tuple) → length (t .ranges) ≡ regions → tuples.formedOf t ≡ true → tuples.encodedOf (tuples.decodedOf t) ≡ t
+unfolding tuples.formedOf tuples.decodedOf tuples.encodedOf
+tuple-back t long h = sym (ap tuples.tupleOf (tabulate-is _ (t .ranges) regions tuples.noRegion long at))
+  where
+    decoded : ℕ → coreRegion.RegionRange
+    decoded r = tuples.decodedAt (tuples.rangeAt t r)
+
+    at : (r : ℕ) → r < regions → tuples.rangeAt t r ≡ tuples.encodedAt (coreTuples.rangeAt (coreTuples.tupleOf (tabulate decoded regions)) r)
+    at r l =
+        region-back (tuples.rangeAt t r) (leb-true _ 1 (every-at (λ k. flags.formedOf (tuples.rangeAt t k .present)) regions r h l))
+        ∙ ap tuples.encodedAt (sym (tabulate-at decoded regions r _ l))
+
+tenant-back : (x : Tenant) → length (x .clearance .ranges) ≡ regions → tuples.formedOf (x .clearance) ≡ true → x ≡ tables.encodedTenant (tables.decodedTenant x)
+tenant-back x long h = ap (λ t. record { ceiling = x .ceiling; clearance = t }) (sym (tuple-back (x .clearance) long h))
+
+-- a state whose flags are flags
+pub table-back : (s : Table) → tables.Lengths s → tables.formedOf s ≡ true → tables.encodedOf (tables.decodedOf s) ≡ s
+unfolding tables.formedOf tables.decodedOf tables.encodedOf
+table-back s long h = sym (ap (λ ts. tables.tableOf (s .pool) ts (s .segments)) (tabulate-is _ (s .tenants) core.tenants tables.noTenant (long .tenants-are) at))
+  where
+    decoded : ℕ → coreTenant.Tenant
+    decoded i = tables.decodedTenant (tables.tenantAt s i)
+
+    at : (i : ℕ) → i < core.tenants
+        → tables.tenantAt s i ≡ tables.encodedTenant (core.tenantAt (core.tableOf (s .pool) (tabulate decoded core.tenants) (s .segments)) (core.tenantId i))
+    at i l =
+        tenant-back (tables.tenantAt s i) (long .regions-are i l) (every-at (λ k. tuples.formedOf (tables.tenantAt s k .clearance)) core.tenants i h l)
+        ∙ ap tables.encodedTenant (sym (tabulate-at decoded core.tenants i _ l))
+
+-- a call that is refused hands back the state that was passed, whether its flags are flags or not
+pub refused-call-keeps : (s : Table) → tables.Lengths s → (formed : Bool) → (formed ≡ true → tables.formedOf s ≡ true) → (step : SegmentTable → Step)
+    → (formed ≡ true → step (tables.decodedOf s) .table ≡ tables.decodedOf s) → tables.callOf s formed step .table ≡ s
+refused-call-keeps s long true fits step kept = ap tables.encodedOf (kept refl) ∙ table-back s long (fits refl)
+refused-call-keeps s long false fits step kept = refl

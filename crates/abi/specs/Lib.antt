@@ -1,0 +1,7 @@
+pub mod Answer
+pub mod Entry
+pub mod Flag
+pub mod Request
+pub mod Style
+pub mod Table
+pub mod Tuple

@@ -1,0 +1,61 @@
+-- What the monitor is asked, as C has it. Assumes nothing.
+use mathlib.Core.Bool.{Bool, cond, not, _&&_, _||_}
+use Prim.Native.Nat.{ℕ}
+use lib.Dec.{eqb, leb}
+use Rattle.monitor.specs.declared.Credentials as coreCredentials
+use Rattle.monitor.specs.declared.FileKind.{FileKind}
+use Rattle.monitor.specs.declared.FileKind.the-variants.{Regular, Directory, Other}
+use Rattle.monitor.specs.declared.Object as coreObject
+use Rattle.monitor.specs.declared.ObjectClass.{ObjectClass}
+use Rattle.monitor.specs.declared.ObjectClass.the-variants.{File, Fifo, Process, MessageQueue, SharedMemory, Semaphore}
+use Rattle.monitor.specs.declared.Request as coreRequest
+use Rattle.abi.specs.Flag
+use Rattle.abi.specs.Tuple
+use Rattle.abi.specs.declared.request.Credentials.{Credentials}
+use Rattle.abi.specs.declared.request.Object.{Object}
+
+abbrev pub credentialsFormed : Credentials → Bool
+credentialsFormed c = Flag.formedOf (c .«read_override») && Flag.formedOf (c .«write_override») && Flag.formedOf (c .relabel)
+
+abbrev pub credentialsOf : Credentials → coreCredentials.Credentials
+credentialsOf c = record {
+  label = c .label;
+  range = c .range;
+  privileges = record {
+    read = Flag.decodedOf (c .«read_override»);
+    write = Flag.decodedOf (c .«write_override»);
+    relabel = Flag.decodedOf (c .relabel);
+  };
+}
+
+-- six classes, three kinds; the flags of a tuple that is not there do not count
+abbrev pub objectFormed : Object → Bool
+objectFormed o =
+    leb (o .class) 5
+    && leb (o .kind) 2
+    && Flag.formedOf (o .«has_label»)
+    && Flag.formedOf (o .«has_tuple»)
+    && (not (Flag.decodedOf (o .«has_tuple»)) || Tuple.formedOf (o .tuple))
+
+-- the classes by their numbers, 0 to 5
+abbrev pub classOf : ℕ → ObjectClass
+classOf n =
+    cond (eqb n 0) File
+    (cond (eqb n 1) Fifo
+    (cond (eqb n 2) Process (cond (eqb n 3) MessageQueue (cond (eqb n 4) SharedMemory Semaphore))))
+
+-- the kinds by their numbers, 0 to 2
+abbrev pub kindOf : ℕ → FileKind
+kindOf n = cond (eqb n 0) Regular (cond (eqb n 1) Directory Other)
+
+abbrev pub objectOf : Object → coreObject.Object
+objectOf o = record {
+  class = classOf (o .class);
+  kind = kindOf (o .kind);
+  present = record { label = Flag.decodedOf (o .«has_label»); tuple = Flag.decodedOf (o .«has_tuple») };
+  label = o .label;
+  tuple = Tuple.decodedOf (o .tuple);
+}
+
+abbrev pub requestOf : Credentials → Object → ℕ → ℕ → coreRequest.Request
+requestOf c o intents attribute = record { credentials = credentialsOf c; object = objectOf o; intents = intents; attribute = attribute }

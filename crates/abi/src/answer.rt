@@ -1,0 +1,195 @@
+// Answers. A grant and a refusal are told apart by `refusal`, which no grant has and no refusal lacks.
+use crate::entry;
+use crate::entry::Entry;
+use crate::tuple;
+use crate::tuple::Tuple;
+use hexline::Kind;
+use label::Label;
+use label::answer::Number;
+use label::answer::Outcome;
+use label::answer::Test;
+use label::answer::Written;
+use label::errno;
+use label::errno::Carried;
+use label::errno::Errno;
+use monitor::Decision;
+use range::Range;
+ghost use mathlib.Core.Path.{_≡_};
+ghost use Rattle.label.specs.Answer.{numberAnswerOf, testOf};
+ghost use Rattle.label.specs.Buffer.{writtenOf};
+ghost use Rattle.label.specs.Errno.{carriedOf};
+ghost use Rattle.hexline.specs.Line.{kindAnswerOf};
+ghost use Rattle.monitor.specs.Monitor.{decisionOf};
+ghost use Rattle.abi.specs.Answer.{carriedNumber, grant, numberAnswer, outcomeAnswer, rangeWritten, refusalBy, testAnswer, withEntry, withLabel, withRange, withTuple};
+
+// A refusal's number, or 0 for a grant; and the number that a grant answers, or the one more number that a refusal carries.
+#[repr(C)]
+pub struct Answer {
+    pub refusal: u32,
+    pub value: u64,
+}
+
+#[repr(C)]
+pub struct LabelAnswer {
+    pub answer: Answer,
+    pub label: Label,
+}
+
+#[repr(C)]
+pub struct RangeAnswer {
+    pub answer: Answer,
+    pub range: Range,
+}
+
+#[repr(C)]
+pub struct TupleAnswer {
+    pub answer: Answer,
+    pub tuple: Tuple,
+}
+
+#[repr(C)]
+pub struct EntryAnswer {
+    pub answer: Answer,
+    pub entry: Entry,
+}
+
+// The status of a range that was written, beside the length.
+#[repr(C)]
+pub struct RangeWritten {
+    pub answer: Answer,
+    pub status: u64,
+}
+
+pub fn granted(value: u64) -> Answer
+    ensures { λ r. ⌜ r ≡ grant value ⌝ }
+{
+    Answer { refusal: 0, value }
+}
+
+fn carried(c: Carried) -> u64
+    ensures { λ r. ⌜ r ≡ carriedNumber (carriedOf c) ⌝ }
+{
+    match c {
+        Carried::Number(n) => n as u64,
+        Carried::Nothing => 0,
+    }
+}
+
+pub fn refused(e: Errno) -> Answer
+    ensures { λ r. ⌜ r ≡ refusalBy e ⌝ }
+{
+    Answer {
+        refusal: errno::number(e) as u32,
+        value: carried(errno::detail(e)),
+    }
+}
+
+pub fn of_test(t: Test) -> Answer
+    ensures { λ r. ⌜ r ≡ testAnswer (testOf t) ⌝ }
+{
+    match t {
+        Test::Holds(b) => {
+            if b {
+                return granted(1);
+            }
+            granted(0)
+        }
+        Test::Refused(e) => refused(e),
+    }
+}
+
+pub fn of_number(n: Number) -> Answer
+    ensures { λ r. ⌜ r ≡ numberAnswer (numberAnswerOf n) ⌝ }
+{
+    match n {
+        Number::Value(v) => granted(v),
+        Number::Refused(e) => refused(e),
+    }
+}
+
+pub fn of_written(w: Written) -> Answer
+    ensures { λ r. ⌜ r ≡ numberAnswer (writtenOf w) ⌝ }
+{
+    match w {
+        Written::Length(n) => granted(n as u64),
+        Written::Refused(e) => refused(e),
+    }
+}
+
+pub fn of_kind(k: Kind) -> Answer
+    ensures { λ r. ⌜ r ≡ numberAnswer (kindAnswerOf k) ⌝ }
+{
+    match k {
+        Kind::OfLabel => granted(1),
+        Kind::OfRange => granted(2),
+        Kind::OfTuple => granted(3),
+        Kind::OfEntry => granted(4),
+        Kind::Refused(e) => refused(e),
+    }
+}
+
+pub fn of_decision(d: Decision) -> Answer
+    ensures { λ r. ⌜ r ≡ numberAnswer (decisionOf d) ⌝ }
+{
+    match d {
+        Decision::Granted => granted(0),
+        Decision::Privileged => granted(1),
+        Decision::Refused(e) => refused(e),
+    }
+}
+
+// An outcome that answers no number, or the number that stands beside it.
+pub fn of_outcome(o: Outcome, value: u64) -> Answer
+    ensures { λ r. ⌜ r ≡ outcomeAnswer o value ⌝ }
+{
+    match o {
+        Outcome::Granted => granted(value),
+        Outcome::Refused(e) => refused(e),
+    }
+}
+
+pub fn of_label(o: Outcome, label: Label) -> LabelAnswer
+    ensures { λ r. ⌜ r ≡ withLabel (outcomeAnswer o 0) label ⌝ }
+{
+    LabelAnswer {
+        answer: of_outcome(o, 0),
+        label,
+    }
+}
+
+pub fn of_range(o: Outcome, range: Range) -> RangeAnswer
+    ensures { λ r. ⌜ r ≡ withRange (outcomeAnswer o 0) range ⌝ }
+{
+    RangeAnswer {
+        answer: of_outcome(o, 0),
+        range,
+    }
+}
+
+pub fn of_tuple(o: Outcome, t: range::tuple::Tuple) -> TupleAnswer
+    ensures { λ r. ⌜ r ≡ withTuple (outcomeAnswer o 0) t ⌝ }
+{
+    TupleAnswer {
+        answer: of_outcome(o, 0),
+        tuple: tuple::encode(t),
+    }
+}
+
+pub fn of_entry(o: Outcome, e: hexline::entry::Entry) -> EntryAnswer
+    ensures { λ r. ⌜ r ≡ withEntry (outcomeAnswer o 0) e ⌝ }
+{
+    EntryAnswer {
+        answer: of_outcome(o, 0),
+        entry: entry::encode(e),
+    }
+}
+
+pub fn of_range_written(w: text::RangeWritten) -> RangeWritten
+    ensures { λ r. ⌜ r ≡ rangeWritten w ⌝ }
+{
+    let written = w.written;
+    RangeWritten {
+        answer: of_written(written),
+        status: w.status as u64,
+    }
+}

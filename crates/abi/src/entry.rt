@@ -1,0 +1,87 @@
+// Alias entries: what an entry names is a number of its own, 1 a hierarchy, 2 a category, 3 a label.
+use hexline::entry;
+use hexline::entry::Abbreviation;
+use hexline::entry::Name;
+use hexline::entry::Value;
+use label::Label;
+ghost use mathlib.Core.Path.{_≡_};
+ghost use mathlib.Core.Bool.{true};
+ghost use Rattle.abi.specs.Entry.{classOf, decodedOf, encodedOf, formedOf, numberOf, valueOf};
+
+#[repr(C)]
+pub struct Entry {
+    pub names: u32,
+    pub number: u64,
+    pub label: Label,
+    pub name: Name,
+    pub abbreviation: Abbreviation,
+}
+
+// Whether an entry names what can be named: a hierarchy is a byte, and a label has no number.
+pub fn formed(e: Entry) -> bool
+    ensures { λ r. ⌜ r ≡ formedOf e ⌝ }
+{
+    ((e.names == 1) & (e.number <= 255)) | (e.names == 2) | ((e.names == 3) & (e.number == 0))
+}
+
+fn value(names: u32, number: u64) -> Value
+    ensures { λ r. ⌜ r ≡ valueOf names number ⌝ }
+{
+    if names == 1 {
+        return Value::Hierarchy((number % 256) as u8);
+    }
+    if names == 2 {
+        return Value::Category(number);
+    }
+    Value::WholeLabel
+}
+
+pub fn decode(e: Entry) -> entry::Entry
+    ensures { λ r. ⌜ r ≡ decodedOf e ⌝ }
+{
+    let label = e.label;
+    let name = e.name;
+    let abbreviation = e.abbreviation;
+    entry::Entry {
+        value: value(e.names, e.number),
+        label,
+        name,
+        abbreviation,
+    }
+}
+
+fn class(v: Value) -> u32
+    ensures { λ r. ⌜ r ≡ classOf v ⌝ }
+{
+    match v {
+        Value::Hierarchy(_) => 1,
+        Value::Category(_) => 2,
+        Value::WholeLabel => 3,
+    }
+}
+
+fn number(v: Value) -> u64
+    ensures { λ r. ⌜ r ≡ numberOf v ⌝ }
+{
+    match v {
+        Value::Hierarchy(h) => h as u64,
+        Value::Category(c) => c,
+        Value::WholeLabel => 0,
+    }
+}
+
+pub fn encode(e: entry::Entry) -> Entry
+    ensures { λ r. ⌜ r ≡ encodedOf e ⌝ }
+{
+    let v = e.value;
+    let label = e.label;
+    let name = e.name;
+    let abbreviation = e.abbreviation;
+    Entry {
+        names: class(v),
+        number: number(v),
+        label,
+        name,
+        abbreviation,
+    }
+}

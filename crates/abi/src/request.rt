@@ -1,0 +1,113 @@
+// What the monitor is asked.
+use crate::tuple;
+use crate::tuple::Tuple;
+use label::Label;
+use monitor::FileKind;
+use monitor::ObjectClass;
+use monitor::Presence;
+use monitor::Privileges;
+use range::Range;
+ghost use mathlib.Core.Path.{_≡_};
+ghost use Rattle.abi.specs.Request.{classOf, credentialsFormed, credentialsOf, kindOf, objectFormed, objectOf};
+
+#[repr(C)]
+pub struct Credentials {
+    pub label: Label,
+    pub range: Range,
+    pub read_override: u8,
+    pub write_override: u8,
+    pub relabel: u8,
+}
+
+// Class: 0 file, 1 fifo, 2 process, 3 message queue, 4 shared memory, 5 semaphore. Kind: 0 regular, 1 directory, 2 other.
+#[repr(C)]
+pub struct Object {
+    pub class: u32,
+    pub kind: u32,
+    pub has_label: u8,
+    pub has_tuple: u8,
+    pub label: Label,
+    pub tuple: Tuple,
+}
+
+pub fn credentials_formed(c: Credentials) -> bool
+    ensures { λ r. ⌜ r ≡ credentialsFormed c ⌝ }
+{
+    (c.read_override <= 1) & (c.write_override <= 1) & (c.relabel <= 1)
+}
+
+pub fn decode_credentials(c: Credentials) -> monitor::Credentials
+    ensures { λ r. ⌜ r ≡ credentialsOf c ⌝ }
+{
+    let label = c.label;
+    let range = c.range;
+    monitor::Credentials {
+        label,
+        range,
+        privileges: Privileges {
+            read: c.read_override == 1,
+            write: c.write_override == 1,
+            relabel: c.relabel == 1,
+        },
+    }
+}
+
+// Whether class, kind and flags are some that there are. A tuple that is not there is not looked at.
+pub fn object_formed(o: Object) -> bool
+    ensures { λ r. ⌜ r ≡ objectFormed o ⌝ }
+{
+    (o.class <= 5)
+        & (o.kind <= 2)
+        & (o.has_label <= 1)
+        & (o.has_tuple <= 1)
+        & ((o.has_tuple != 1) | tuple::formed(o.tuple))
+}
+
+fn class(n: u32) -> ObjectClass
+    ensures { λ r. ⌜ r ≡ classOf n ⌝ }
+{
+    if n == 0 {
+        return ObjectClass::File;
+    }
+    if n == 1 {
+        return ObjectClass::Fifo;
+    }
+    if n == 2 {
+        return ObjectClass::Process;
+    }
+    if n == 3 {
+        return ObjectClass::MessageQueue;
+    }
+    if n == 4 {
+        return ObjectClass::SharedMemory;
+    }
+    ObjectClass::Semaphore
+}
+
+fn kind(n: u32) -> FileKind
+    ensures { λ r. ⌜ r ≡ kindOf n ⌝ }
+{
+    if n == 0 {
+        return FileKind::Regular;
+    }
+    if n == 1 {
+        return FileKind::Directory;
+    }
+    FileKind::Other
+}
+
+pub fn decode_object(o: Object) -> monitor::Object
+    ensures { λ r. ⌜ r ≡ objectOf o ⌝ }
+{
+    let label = o.label;
+    monitor::Object {
+        class: class(o.class),
+        kind: kind(o.kind),
+        present: Presence {
+            label: o.has_label == 1,
+            tuple: o.has_tuple == 1,
+        },
+        label,
+        tuple: tuple::decode(o.tuple),
+    }
+}

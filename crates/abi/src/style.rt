@@ -1,0 +1,68 @@
+// What a text is written by: who asks, and the style.
+use label::Label;
+use text::Form;
+use text::Variant;
+ghost use mathlib.Core.Path.{_≡_};
+ghost use Rattle.abi.specs.Style.{formOf, formedOf, styleOf, subjectFormed, subjectOf, variantOf};
+
+#[repr(C)]
+pub struct Subject {
+    pub label: Label,
+    pub read_override: u8,
+}
+
+// Form: 0 definition, 1 alias. Variant: 0 names, 1 abbreviations.
+#[repr(C)]
+pub struct Style {
+    pub form: u8,
+    pub variant: u8,
+}
+
+pub fn subject_formed(s: Subject) -> bool
+    ensures { λ r. ⌜ r ≡ subjectFormed s ⌝ }
+{
+    s.read_override <= 1
+}
+
+pub fn decode_subject(s: Subject) -> text::Subject
+    ensures { λ r. ⌜ r ≡ subjectOf s ⌝ }
+{
+    let label = s.label;
+    text::Subject {
+        label,
+        read_override: s.read_override == 1,
+    }
+}
+
+pub fn formed(s: Style) -> bool
+    ensures { λ r. ⌜ r ≡ formedOf s ⌝ }
+{
+    (s.form <= 1) & (s.variant <= 1)
+}
+
+fn form(n: u8) -> Form
+    ensures { λ r. ⌜ r ≡ formOf n ⌝ }
+{
+    if n == 1 {
+        return Form::Alias;
+    }
+    Form::Definition
+}
+
+fn variant(n: u8) -> Variant
+    ensures { λ r. ⌜ r ≡ variantOf n ⌝ }
+{
+    if n == 1 {
+        return Variant::Abbreviations;
+    }
+    Variant::Names
+}
+
+pub fn decode(s: Style) -> text::Style
+    ensures { λ r. ⌜ r ≡ styleOf s ⌝ }
+{
+    text::Style {
+        form: form(s.form),
+        variant: variant(s.variant),
+    }
+}
