@@ -17,7 +17,6 @@ use Rattle.range.specs.Range
 use Rattle.range.specs.Tuple as coreTuples
 use Rattle.range.specs.declared.Range.{Range}
 use Rattle.range.specs.declared.tuple.Tuple as coreTuple
-use Rattle.hexline.specs.Entry as coreEntries
 use Rattle.hexline.specs.declared.entry.Entry as coreEntry
 use Rattle.text.specs.Write.{Shown, statusOr, textOf}
 use Rattle.text.specs.declared.RangeWritten as coreWritten
@@ -30,6 +29,7 @@ use Rattle.abi.specs.declared.answer.LabelAnswer.{LabelAnswer}
 use Rattle.abi.specs.declared.answer.RangeAnswer.{RangeAnswer}
 use Rattle.abi.specs.declared.answer.RangeWritten.{RangeWritten}
 use Rattle.abi.specs.declared.answer.TupleAnswer.{TupleAnswer}
+use Rattle.abi.specs.declared.entry.Entry as form
 
 -- a grant has no refusal's number
 abbrev pub grant : ℕ → Answer
@@ -79,9 +79,6 @@ withRange a x = record { answer = a; range = x }
 abbrev pub withTuple : Answer → coreTuple.Tuple → TupleAnswer
 withTuple a t = record { answer = a; tuple = Tuple.encodedOf t }
 
-abbrev pub withEntry : Answer → coreEntry.Entry → EntryAnswer
-withEntry a e = record { answer = a; entry = Entry.encodedOf e }
-
 -- what is answered; zeros beside a refusal
 abbrev pub labelAnswer : answers.Answer Label → LabelAnswer
 labelAnswer x = withLabel (bareAnswer x) (answers.valueOr Label.zeroLabel x)
@@ -92,8 +89,13 @@ rangeAnswer x = withRange (bareAnswer x) (answers.valueOr Range.zeroRange x)
 abbrev pub tupleAnswer : answers.Answer coreTuple.Tuple → TupleAnswer
 tupleAnswer x = withTuple (bareAnswer x) (answers.valueOr coreTuples.emptyTuple x)
 
+-- an entry's numbers; zeros, which name nothing, beside a refusal
+abbrev pub entryBeside : answers.Answer coreEntry.Entry → form.Entry
+entryBeside (answers.granted e) = Entry.encodedOf e
+entryBeside (answers.refused n detail) = Entry.zeros
+
 abbrev pub entryAnswer : answers.Answer coreEntry.Entry → EntryAnswer
-entryAnswer x = withEntry (bareAnswer x) (answers.valueOr coreEntries.zeroEntry x)
+entryAnswer x = record { answer = bareAnswer x; entry = entryBeside x }
 
 -- r is answered, and `before` becomes `after`, where a text, or its refusal, is to be written
 pub record WrittenTo (r : Answer) (text : answers.Answer (List ℕ)) (before after : List ℕ) : Type 0 where

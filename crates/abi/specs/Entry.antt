@@ -2,6 +2,9 @@
 use mathlib.Core.Bool.{Bool, true, false, cond, _&&_, _||_}
 use Prim.Native.Nat.{ℕ, _%_}
 use lib.Dec.{eqb, leb}
+use lib.ListN.{replicate}
+use Rattle.label.specs.Label
+use Rattle.hexline.specs.Entry.{abbreviationText, maxAbbreviation, maxName, nameText}
 use Rattle.hexline.specs.declared.entry.Entry as coreEntry
 use Rattle.hexline.specs.declared.entry.Value.{Value}
 use Rattle.hexline.specs.declared.entry.Value.the-variants.{Hierarchy, Category, WholeLabel}
@@ -29,3 +32,13 @@ numberOf WholeLabel = 0
 
 abbrev pub encodedOf : coreEntry.Entry → Entry
 encodedOf e = record { names = classOf (e .value); number = numberOf (e .value); label = e .label; name = e .name; abbreviation = e .abbreviation }
+
+-- the entry of zeros, which names nothing: what stands beside a refusal
+abbrev pub zeros : Entry
+zeros = record {
+  names = 0;
+  number = 0;
+  label = Label.zeroLabel;
+  name = nameText (replicate maxName 0) 0;
+  abbreviation = abbreviationText (replicate maxAbbreviation 0) 0;
+}

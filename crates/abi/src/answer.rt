@@ -15,12 +15,12 @@ use label::errno::Errno;
 use monitor::Decision;
 use range::Range;
 ghost use mathlib.Core.Path.{_≡_};
-ghost use Rattle.label.specs.Answer.{numberAnswerOf, testOf};
+ghost use Rattle.label.specs.Answer.{numberAnswerOf, outcomeOf, testOf};
 ghost use Rattle.label.specs.Buffer.{writtenOf};
 ghost use Rattle.label.specs.Errno.{carriedOf};
 ghost use Rattle.hexline.specs.Line.{kindAnswerOf};
 ghost use Rattle.monitor.specs.Monitor.{decisionOf};
-ghost use Rattle.abi.specs.Answer.{carriedNumber, grant, numberAnswer, outcomeAnswer, rangeWritten, refusalBy, testAnswer, withEntry, withLabel, withRange, withTuple};
+ghost use Rattle.abi.specs.Answer.{carriedNumber, entryAnswer, grant, numberAnswer, outcomeAnswer, rangeWritten, refusalBy, testAnswer, withLabel, withRange, withTuple};
 
 // A refusal's number, or 0 for a grant; and the number that a grant answers, or the one more number that a refusal carries.
 #[repr(C)]
@@ -176,11 +176,17 @@ pub fn of_tuple(o: Outcome, t: range::tuple::Tuple) -> TupleAnswer
 }
 
 pub fn of_entry(o: Outcome, e: hexline::entry::Entry) -> EntryAnswer
-    ensures { λ r. ⌜ r ≡ withEntry (outcomeAnswer o 0) e ⌝ }
+    ensures { λ r. ⌜ r ≡ entryAnswer (outcomeOf o e) ⌝ }
 {
-    EntryAnswer {
-        answer: of_outcome(o, 0),
-        entry: entry::encode(e),
+    match o {
+        Outcome::Granted => EntryAnswer {
+            answer: granted(0),
+            entry: entry::encode(e),
+        },
+        Outcome::Refused(x) => EntryAnswer {
+            answer: refused(x),
+            entry: entry::zero(),
+        },
     }
 }
 

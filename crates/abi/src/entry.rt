@@ -6,7 +6,7 @@ use hexline::entry::Value;
 use label::Label;
 ghost use mathlib.Core.Path.{_≡_};
 ghost use mathlib.Core.Bool.{true};
-ghost use Rattle.abi.specs.Entry.{classOf, decodedOf, encodedOf, formedOf, numberOf, valueOf};
+ghost use Rattle.abi.specs.Entry.{classOf, decodedOf, encodedOf, formedOf, numberOf, valueOf, zeros};
 
 #[repr(C)]
 pub struct Entry {
@@ -80,6 +80,23 @@ pub fn encode(e: entry::Entry) -> Entry
     Entry {
         names: class(v),
         number: number(v),
+        label,
+        name,
+        abbreviation,
+    }
+}
+
+// The entry of zeros: it names nothing.
+pub fn zero() -> Entry
+    ensures { λ r. ⌜ r ≡ zeros ⌝ }
+{
+    let none = entry::zero();
+    let label = none.label;
+    let name = none.name;
+    let abbreviation = none.abbreviation;
+    Entry {
+        names: 0,
+        number: 0,
         label,
         name,
         abbreviation,

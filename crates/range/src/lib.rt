@@ -1,6 +1,7 @@
 // Ranges of labels, and in `tuple` a range for each region. Each function tests what it is handed and refuses an invalid label, range or
 // tuple with 22 before its other checks; only the two functions `valid` answer a bare yes or no.
 pub mod tuple;
+pub mod unchecked;
 
 use label::Label;
 use label::answer::Outcome;

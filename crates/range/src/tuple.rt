@@ -101,20 +101,12 @@ pub fn is_empty(t: Tuple) -> Test
     Test::Refused(Errno::Invalid)
 }
 
-// Whether a label is in a tuple, both tested: in the range of its region, if that is present.
-fn holds(t: Tuple, l: Label) -> bool
-    ensures { λ r. ⌜ r ≡ containsOf t l ⌝ }
-{
-    let e = t.ranges[region::of_hierarchy(l.hierarchy)];
-    e.present & crate::holds(e.range, l)
-}
-
 // Whether l is in t.
 pub fn contains(t: Tuple, l: Label) -> Test
     ensures { λ r. ⌜ testOf r ≡ require (validOf t && labels.validOf l) 22 (granted (containsOf t l)) ⌝ }
 {
     if valid(t) & label::valid(l) {
-        return Test::Holds(holds(t, l));
+        return Test::Holds(crate::unchecked::contains(t, l));
     }
     Test::Refused(Errno::Invalid)
 }

@@ -12,14 +12,14 @@ use Rattle.label.specs.Label
 use Rattle.label.specs.declared.Label.{Label}
 use Rattle.label.specs.declared.answer.Test.{Test}
 use Rattle.label.proofs.AnswerLaws.{readBy, test-read}
-use Rattle.label.proofs.BoolLaws.{and-implied, both, first-true, second-true, three-true}
+use Rattle.label.proofs.BoolLaws.{both, first-true, same-truth, second-true, three-true}
 use Rattle.label.proofs.IndexLaws.{every-all, every-at}
 use Rattle.label.proofs.LabelLaws.{equal-exact}
 use Rattle.label.proofs.SearchLaws.{any-of, any-same, any-then, sum-but, sum-same}
 use Rattle.range.specs.Tuple
 use Rattle.range.specs.declared.tuple.Tuple.{Tuple}
 use Rattle.range.proofs.TupleLaws.{contained-valid}
-use Rattle.segments.specs.Parts.{ceilingsKept, slotsSound, tenantsSound}
+use Rattle.segments.specs.Parts.{ceilingsKept, segmentSound, slotsSound, tenantsSound}
 use Rattle.segments.specs.Calls.{callOf, cleared, lookedAt, slotFor, slotValid, stepOf, writable, written}
 use Rattle.segments.specs.Segments.{Lengths, ceilingAt, clearanceAt, maxPages, pagesAt, pagesValid, segmentAt, segmentOf, slot, slots, tenantAt, tenantId, tenants, withSegment, zeroSegment}
 use Rattle.segments.specs.Slots.{ceilingsOf, filled, firstSlot, owns, pagesOf, slotCount}
@@ -85,10 +85,7 @@ pub tenant-clearance : (x : Tenant) → tenantSound x ≡ true → Tuple.validOf
 unfolding tenantSound
 tenant-clearance x e = first-true (Tuple.validOf (x .clearance)) (cond (leb 1 (x .ceiling)) (not (Tuple.emptyOf (x .clearance))) (Tuple.emptyOf (x .clearance))) e
 
-pub clearance-valid : (s : SegmentTable) (t : TenantId) → tenantsSound s ≡ true → t .0 < tenants → Tuple.validOf (clearanceAt s t) ≡ true
-clearance-valid s t e h = tenant-clearance (tenantAt s t) (every-at (λ i. tenantSound (tenantAt s (tenantId i))) tenants (t .0) e h)
-
--- what `tuple::is_empty` and `tuple::contains` answer, read as a yes or no
+-- what `tuple::is_empty` answers, read as a yes or no
 
 pub empty-read : (f : Bool → Bool) (t : Tuple) {u v : Test} → u ≡ v → testOf u ≡ require (Tuple.validOf t) 22 (granted (Tuple.emptyOf t))
     → readBy f (testOf v) ≡ (Tuple.validOf t && f (Tuple.emptyOf t))
@@ -103,12 +100,6 @@ pub tenant-read : (x : Tenant) {u v : Test} → u ≡ v → testOf u ≡ require
     → readBy (λ b. leb 1 (x .ceiling) && not b || not (leb 1 (x .ceiling)) && b) (testOf v) ≡ tenantSound x
 unfolding tenantSound
 tenant-read x e h = empty-read _ (x .clearance) e h ∙ ap (λ (b : Bool). Tuple.validOf (x .clearance) && b) (one-of (leb 1 (x .ceiling)) (Tuple.emptyOf (x .clearance)))
-
-pub contains-read : (t : Tuple) (l : Label) {u v : Test} → Tuple.validOf t ≡ true → u ≡ v
-    → testOf u ≡ require (Tuple.validOf t && Label.validOf l) 22 (granted (Tuple.containsOf t l)) → readBy (λ b. b) (testOf v) ≡ Tuple.containsOf t l
-contains-read t l w e h =
-    test-read (λ b. b) (Tuple.validOf t && Label.validOf l) (Tuple.containsOf t l) 22 e h
-    ∙ and-implied _ _ _ (contained-valid t l) ∙ ap (λ (b : Bool). b && Tuple.containsOf t l) w
 
 -- ---- what a slot may hold
 
@@ -130,8 +121,23 @@ pub slot-held : (s : SegmentTable) (p : Slot) → slotSound s p ≡ held s p (se
 unfolding slotSound filled clearedBy
 slot-held s p = refl
 
-held-filled : (s : SegmentTable) (p : Slot) (x : Segment) (u : TenantId) → 1 ≤ x .pages → u .0 < tenants → owns s u p ≡ true → Tuple.containsOf (clearanceAt s u) (x .label) ≡ true → held s p x ≡ true
-held-filled s p x u h l o e = rw (le-leb 1 (x .pages) h) (any-of (clears s p (x .label)) tenants (u .0) l (both o e))
+-- some tenant clears a label for a slot exactly where the owner does
+pub owner-clears : (s : SegmentTable) (p : Slot) (l : Label) (t : TenantId) → owns s t p ≡ true → any (clears s p l) tenants ≡ Tuple.containsOf (clearanceAt s t) l
+owner-clears s p l t o =
+    same-truth (any (clears s p l) tenants) (Tuple.containsOf (clearanceAt s t) l)
+    (λ e. any-then (clears s p l) tenants e (λ i h f.
+    let c = clears-parts s p l i f in
+    ap (λ (u : TenantId). Tuple.containsOf (clearanceAt s u) l) (owner-unique s t (tenantId i) p o (c .0)) ∙ c .1))
+    (λ e. any-of (clears s p l) tenants (t .0) (own-parts s t p o .tenant) (both o e))
+
+-- so the owner's record tells whether a slot is sound
+pub sound-by-owner : (s : SegmentTable) (p : Slot) (t : TenantId) → owns s t p ≡ true → slotSound s p ≡ segmentSound (segmentAt s p) (tenantAt s t)
+unfolding segmentSound
+sound-by-owner s p t o =
+    slot-held s p ∙ ap (λ (b : Bool). cond (leb 1 (pagesAt s p)) b (zeros (segmentAt s p))) (owner-clears s p (segmentAt s p .label) t o)
+
+held-filled : (s : SegmentTable) (p : Slot) (x : Segment) (u : TenantId) → 1 ≤ x .pages → owns s u p ≡ true → Tuple.containsOf (clearanceAt s u) (x .label) ≡ true → held s p x ≡ true
+held-filled s p x u h o e = rw (le-leb 1 (x .pages) h) (owner-clears s p (x .label) u o ∙ e)
 
 -- where a filled slot may hold x, some tenant clears it
 held-by : (s : SegmentTable) (p : Slot) (x : Segment) → 1 ≤ x .pages → held s p x ≡ true → any (clears s p (x .label)) tenants ≡ true
@@ -139,11 +145,7 @@ held-by s p x h e = sym (ap (λ (b : Bool). cond b (any (clears s p (x .label)) 
 
 -- which is its owner
 held-cleared : (s : SegmentTable) (p : Slot) (x : Segment) (t : TenantId) → 1 ≤ x .pages → owns s t p ≡ true → held s p x ≡ true → Tuple.containsOf (clearanceAt s t) (x .label) ≡ true
-held-cleared s p x t h o e =
-    any-then (clears s p (x .label)) tenants (held-by s p x h e)
-    (λ i l f.
-    let c = clears-parts s p (x .label) i f in
-    ap (λ (u : TenantId). Tuple.containsOf (clearanceAt s u) (x .label)) (owner-unique s t (tenantId i) p o (c .0)) ∙ c .1)
+held-cleared s p x t h o e = sym (owner-clears s p (x .label) t o) ∙ held-by s p x h e
 
 pub zeros-held : (s : SegmentTable) (p : Slot) → held s p zeroSegment ≡ true
 unfolding zeros
@@ -229,7 +231,7 @@ module _ (s : SegmentTable) (t : TenantId) (l : Label) (h : Sound s) where
 
   -- a segment of at least a page under a label of the caller's clearance
   own-held : (p : Slot) (x : Segment) → owns s t p ≡ true → 1 ≤ x .pages → Tuple.containsOf (clearanceAt s t) (x .label) ≡ true → held s p x ≡ true
-  own-held p x o g e = held-filled s p x t g (own-parts s t p o .tenant) o e
+  own-held p x o g e = held-filled s p x t g o e
 
   -- or of the label that the slot had
   label-kept : (p : Slot) (pages version : ℕ) → writable s t l p ≡ true → 1 ≤ pages → held s p (segmentOf (segmentAt s p .label) pages version) ≡ true

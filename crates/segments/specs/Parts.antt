@@ -6,19 +6,22 @@ use mathlib.Core.Path.{_≡_}
 use Prim.Native.Nat.{ℕ, _+_, _-_}
 use lib.Dec.{leb}
 use Rattle.label.specs.Answer.{Answer, granted, require}
-use Rattle.label.specs.Index.{any, every}
+use Rattle.label.specs.Index.{every}
 use Rattle.label.specs.Label
 use Rattle.label.specs.declared.Label.{Label}
+use Rattle.range.specs.Tuple
 use Rattle.segments.specs.Calls.{callValid, cleared}
 use Rattle.segments.specs.Replies.{Grant, done}
 use Rattle.segments.specs.Segments.{ceilingAt, slot, slots, tenantAt, tenantId, tenants}
 use Rattle.segments.specs.Slots.{ceilingsOf}
-use Rattle.segments.specs.Sound.{clearedBy, slotSound, sound, tenantSound, underCeiling}
+use Rattle.segments.specs.Sound.{slotSound, sound, tenantSound, underCeiling, zeros}
 use Rattle.segments.specs.declared.Call.{Call}
 use Rattle.segments.specs.declared.Outcome.{Outcome}
 use Rattle.segments.specs.declared.Reply.{Reply}
+use Rattle.segments.specs.declared.Segment.{Segment}
 use Rattle.segments.specs.declared.SegmentTable.{SegmentTable}
 use Rattle.segments.specs.declared.Slot.{Slot}
+use Rattle.segments.specs.declared.Tenant.{Tenant}
 use Rattle.segments.specs.declared.TenantId.{TenantId}
 use Rattle.segments.specs.declared.slots.Free.{Free}
 use Rattle.segments.specs.declared.slots.Free.the-variants.{At, Nothing}
@@ -60,9 +63,9 @@ poolAnswer s t n = require (leb (ceilingsOf s - ceilingAt s t + n) (s .pool)) 12
 abbrev pub tenantsSound : SegmentTable → Bool
 tenantsSound s = every (λ t. tenantSound (tenantAt s (tenantId t))) tenants
 
--- whether slot p has an owner and holds a label in its clearance
-abbrev pub ownerClears : SegmentTable → Slot → Bool
-ownerClears s p = any (λ t. clearedBy s p (tenantId t)) tenants
+-- whether a slot may hold x where that tenant owns it
+unfoldable pub segmentSound : Segment → Tenant → Bool
+segmentSound x owner = cond (leb 1 (x .pages)) (Tuple.containsOf (owner .clearance) (x .label)) (zeros x)
 
 abbrev pub slotsSound : SegmentTable → Bool
 slotsSound s = every (λ p. slotSound s (slot p)) slots

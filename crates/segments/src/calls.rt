@@ -23,6 +23,7 @@ use label::Label;
 use label::answer;
 use label::components;
 use label::errno::Errno;
+use range::unchecked;
 ghost use mathlib.Core.Path.{_≡_};
 ghost use mathlib.Core.Bool.{true};
 ghost use Prim.Native.Nat.{_<_};
@@ -74,7 +75,7 @@ fn cleared(table: SegmentTable, call: Call) -> bool
     ensures { λ r. ⌜ r ≡ rules.cleared table call ⌝ }
 {
     let tenant = table.tenants[call.tenant.0 as usize];
-    state::contains(tenant.clearance, call.label)
+    unchecked::contains(tenant.clearance, call.label)
 }
 
 // The checks that every call starts with, in document 01's order.

@@ -4,6 +4,7 @@ use crate::Slot;
 use crate::TENANTS;
 use crate::TenantId;
 ghost use mathlib.Core.Path.{_≡_};
+ghost use mathlib.Core.Bool.{true};
 ghost use Prim.Native.Nat.{_<_};
 ghost use Rattle.segments.specs.Calls as calls;
 ghost use Rattle.segments.specs.Parts.{fitsIn, freeOf, keptIn, leftOf, remainingOf};
@@ -22,7 +23,7 @@ pub(crate) enum Remaining {
     Exceeded,
 }
 
-// The first slot of t's own. This function and the next alone know which slots a tenant owns: t owns 8t to 8t+7.
+// The first slot of t's own. This function and the next two alone know which slots a tenant owns: t owns 8t to 8t+7.
 pub(crate) fn first_slot(s: SegmentTable, t: TenantId) -> u64
     requires { ⌜ t .0 < tenants ⌝ }
     ensures { λ r. ⌜ r ≡ rules.firstSlot s t ⌝ }
@@ -35,6 +36,14 @@ pub(crate) fn slot_count(s: SegmentTable, t: TenantId) -> u64
     ensures { λ r. ⌜ r ≡ rules.slotCount s t ⌝ }
 {
     8
+}
+
+// Whose p is.
+pub(crate) fn owner(s: SegmentTable, p: Slot) -> TenantId
+    requires { ⌜ p .0 < slots ⌝ }
+    ensures { λ r. ⌜ (r .0 < tenants) × (rules.owns s r p ≡ true) ⌝ }
+{
+    TenantId(p.0 / 8)
 }
 
 // Whether p is t's own.

@@ -9,18 +9,15 @@ use crate::Tenant;
 use crate::TenantId;
 use crate::slots;
 use crate::slots::Remaining;
-use label::Label;
 use label::answer::Number;
 use label::answer::Test;
 use label::errno::Errno;
 use range::tuple;
-use range::tuple::Tuple;
+use range::unchecked;
 ghost use mathlib.Core.Path.{_≡_};
-ghost use mathlib.Core.Bool.{true};
 ghost use Prim.Native.Nat.{_<_};
 ghost use Rattle.label.specs.Answer.{granted, numberAnswerOf, require};
-ghost use Rattle.range.specs.Tuple as tuples;
-ghost use Rattle.segments.specs.Parts.{ceilingsKept, ownerClears, slotsSound, tenantsSound};
+ghost use Rattle.segments.specs.Parts.{ceilingsKept, segmentSound, slotsSound, tenantsSound};
 ghost use Rattle.segments.specs.Segments.{pagesValid, slots, tenants, withSegment, withTenant, zeroSegment};
 ghost use Rattle.segments.specs.Slots.{pagesOf};
 ghost use Rattle.segments.specs.Sound as rules;
@@ -40,18 +37,6 @@ pub(crate) fn admitted(s: SegmentTable, t: TenantId) -> bool
         return 1 <= s.tenants[t.0 as usize].ceiling;
     }
     false
-}
-
-// Whether a label is in a valid tuple.
-pub(crate) fn contains(t: Tuple, l: Label) -> bool
-    requires { ⌜ tuples.validOf t ≡ true ⌝ }
-    ensures { λ r. ⌜ r ≡ tuples.containsOf t l ⌝ }
-{
-    let test = tuple::contains(t, l);
-    match test {
-        Test::Holds(b) => b,
-        Test::Refused(_) => false,
-    }
 }
 
 // Whether a tenant's record is that of one admitted, with a valid clearance that is not empty, or holds zeros.
@@ -79,34 +64,6 @@ fn tenants_sound(s: SegmentTable) -> bool
     true
 }
 
-// Whether p is t's own and holds a label in t's clearance.
-fn cleared_by(s: SegmentTable, p: Slot, t: TenantId) -> bool
-    requires { ⌜ tenantsSound s ≡ true ⌝ }
-    requires { ⌜ p .0 < slots ⌝ }
-    requires { ⌜ t .0 < tenants ⌝ }
-    ensures { λ r. ⌜ r ≡ rules.clearedBy s p t ⌝ }
-{
-    let x = s.segments[p.0 as usize];
-    let owner = s.tenants[t.0 as usize];
-    slots::owns(s, t, p) & contains(owner.clearance, x.label)
-}
-
-// Whether p has an owner and holds a label in its clearance.
-fn owner_clears(s: SegmentTable, p: Slot) -> bool
-    requires { ⌜ tenantsSound s ≡ true ⌝ }
-    requires { ⌜ p .0 < slots ⌝ }
-    ensures { λ r. ⌜ r ≡ ownerClears s p ⌝ }
-{
-    let mut i: u64 = 0;
-    while i < TENANTS as u64 {
-        if cleared_by(s, p, TenantId(i)) {
-            return true;
-        }
-        i += 1;
-    }
-    false
-}
-
 // Whether a segment is zeros, as an empty slot holds.
 fn zeros(x: Segment) -> bool
     ensures { λ r. ⌜ r ≡ rules.zeros x ⌝ }
@@ -114,24 +71,23 @@ fn zeros(x: Segment) -> bool
     label::is_zero(x.label) & (x.pages == 0) & (x.version == 0)
 }
 
-fn slot_sound(s: SegmentTable, p: Slot) -> bool
-    requires { ⌜ tenantsSound s ≡ true ⌝ }
-    requires { ⌜ p .0 < slots ⌝ }
-    ensures { λ r. ⌜ r ≡ rules.slotSound s p ⌝ }
+// Whether a slot may hold x where that tenant owns it: a filled one a label in the clearance, an empty one zeros.
+fn segment_sound(x: Segment, owner: Tenant) -> bool
+    ensures { λ r. ⌜ r ≡ segmentSound x owner ⌝ }
 {
-    if slots::filled(s, p) {
-        return owner_clears(s, p);
+    if 1 <= x.pages {
+        return unchecked::contains(owner.clearance, x.label);
     }
-    zeros(s.segments[p.0 as usize])
+    zeros(x)
 }
 
 fn slots_sound(s: SegmentTable) -> bool
-    requires { ⌜ tenantsSound s ≡ true ⌝ }
     ensures { λ r. ⌜ r ≡ slotsSound s ⌝ }
 {
     let mut i: u64 = 0;
     while i < SLOTS as u64 {
-        if !slot_sound(s, Slot(i)) {
+        let t = slots::owner(s, Slot(i));
+        if !segment_sound(s.segments[i as usize], s.tenants[t.0 as usize]) {
             return false;
         }
         i += 1;

@@ -1,9 +1,9 @@
+use borrow.Author.Needs.{needs}
 use Prim.Native.Nat.{_<_}
 use native.Mathlib.Omega.{arith}
 use Rattle.segments.specs.Calls.{cleared}
 use Rattle.segments.specs.Segments.{tenants}
 use Rattle.segments.proofs.CallsLaws.{valid-tenant}
-use Rattle.segments.proofs.SoundLaws.{sound-parts, tenant-clearance}
 use Rattle.segments.proofs.calls.cleared.Statement.{statement}
 use Rattle.segments.proofs.calls.cleared.Tie as tie
 
@@ -17,14 +17,9 @@ mul-tenant c = let h = inside c in omega arith
 element-copy-out-tenant : tie.Need-element-copy-out-tenant
 element-copy-out-tenant c = let h = inside c in omega arith
 
-contains-requires : tie.Need-contains-requires
-contains-requires c κs =
-    let s = c .before in
-    tenant-clearance _ (sound-parts (s .args .t1) (s .pre .0) .tenant (s .args .call .tenant) (inside s))
-
 returns : tie.Need-returns
 unfolding cleared
 returns c = c .contains .ensures
 
 pub cleared-spec : {M : Type 1} → statement M
-cleared-spec = tie.close (tie.spec mul-tenant element-copy-out-tenant contains-requires returns)
+cleared-spec = tie.close (tie.spec mul-tenant element-copy-out-tenant (search needs) returns)

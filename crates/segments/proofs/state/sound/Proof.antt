@@ -1,7 +1,6 @@
 use borrow.Author.Needs.{needs}
 use mathlib.Core.Bool.{_&&_}
 use mathlib.Core.Path.{_≡_, sym, ap₂, _∙_}
-use Rattle.label.proofs.BoolLaws.{second-true}
 use Rattle.segments.specs.Parts.{tenantsSound}
 use Rattle.segments.specs.Segments.{pagesValid}
 use Rattle.segments.specs.Slots.{ceilingsOf}
@@ -13,9 +12,6 @@ use Rattle.segments.proofs.state.sound.Tie as tie
 -- the first test
 tested : (c : tie.After-tenants-sound) → let s = c .before .before .args .s in (pagesValid (s .pool) && tenantsSound s) ≡ (c .before .pages-valid .result && c .tenants-sound .result)
 tested c = ap₂ _&&_ (sym (c .before .pages-valid .ensures)) (sym (c .tenants-sound .ensures))
-
-slots-sound-requires : tie.Need-slots-sound-requires
-slots-sound-requires c κs = second-true (pagesValid (c .before .before .before .args .s .pool)) _ (tested (c .before) ∙ c .if1 .taken)
 
 returns : tie.Need-returns
 unfolding sound
@@ -34,4 +30,4 @@ returns-2 c = rw (tested (c .before) ∙ c .if1 .left)
 
 pub sound-spec : {M : Type 1} → statement M
 sound-spec =
-    tie.close (tie.spec (search needs) (search needs) slots-sound-requires (search needs) (search needs) (search needs) returns returns-2)
+    tie.close (tie.spec (search needs) (search needs) (search needs) (search needs) (search needs) (search needs) returns returns-2)

@@ -5,8 +5,8 @@ use Prim.Native.Nat.{ℕ}
 use native.Mathlib.Omega.{arith}
 use Rattle.label.proofs.RegionLaws.{region-within}
 use Rattle.range.specs.Tuple.{containsAt, containsOf, rangeAt}
-use Rattle.range.proofs.tuple.holds.Statement.{statement}
-use Rattle.range.proofs.tuple.holds.Tie as tie
+use Rattle.range.proofs.unchecked.contains.Statement.{statement}
+use Rattle.range.proofs.unchecked.contains.Tie as tie
 
 mul-e : tie.Need-mul-e
 mul-e c = omega (arith, region-within (c .before .args .l .hierarchy) .known)
@@ -23,5 +23,5 @@ returns c =
     ap (λ (b : Bool). rangeAt t (s .of-hierarchy .result) .present && b) (h .holds .ensures)
     ∙ ap (λ (r : ℕ). containsAt (rangeAt t r) (s .before .args .l)) (s .of-hierarchy .ensures)
 
-pub holds-spec : {M : Type 1} → statement M
-holds-spec = tie.close (tie.spec (search needs) mul-e element-copy-out-e (search needs) returns)
+pub contains-spec : {M : Type 1} → statement M
+contains-spec = tie.close (tie.spec (search needs) mul-e element-copy-out-e (search needs) returns)
