@@ -293,15 +293,18 @@ def write(contents, capacity=None):
     return fitted(sealed(bytes([contents.KIND]) + contents.body()), capacity)
 
 
+def framed(line):
+    """The bytes of a line but for its sum: a known kind, then any body. Any fault of the frame is refused with 22."""
+    require(LINE.fullmatch(line), INVALID)
+    frame = bytes.fromhex(line[:-1].decode())
+    require(sum(frame) % 256 == 0 and frame[0] in KINDS, INVALID)
+    return frame[:-1]
+
+
 def read(line):
     """The contents of a line, its LF included. Any fault is refused with 22."""
-    if not LINE.fullmatch(line):
-        raise Refusal(INVALID)
-    frame = bytes.fromhex(line[:-1].decode())
-    if sum(frame) % 256 or frame[0] not in KINDS:
-        raise Refusal(INVALID)
-    source = Source(frame[1:-1])
+    frame = framed(line)
+    source = Source(frame[1:])
     contents = KINDS[frame[0]].take(source)
-    if source.rest or not contents.valid():
-        raise Refusal(INVALID)
+    require(not source.rest and contents.valid(), INVALID)
     return contents
