@@ -345,9 +345,14 @@ def argument_of(word):
     return tuple(map(int, word.split(","))) if "," in word else int(word)
 
 
-def answer_line(line):
+def request_of(line):
+    """The name and the arguments in a line."""
     name, *words = line.split()
-    numbers, buffer = answer(name, [argument_of(word) for word in words])
+    return name, [argument_of(word) for word in words]
+
+
+def answer_line(line):
+    numbers, buffer = answer(*request_of(line))
     return ",".join(map(str, numbers)) + ("" if buffer is None else f" x{buffer.hex()}")
 
 

@@ -107,6 +107,14 @@ def answers(commands, data):
     return b"".join(answer(commands, line, lines) for line in map(whole, lines) if not skipped(line))
 
 
+def first_difference(printed, expected):
+    """Where two outputs differ first, as text."""
+    ours, theirs = expected.split(b"\n"), printed.split(b"\n")
+    at = next((i for i, (a, b) in enumerate(zip(ours, theirs)) if a != b), min(len(ours), len(theirs)))
+    shown = [lines[at][:80] if at < len(lines) else None for lines in (ours, theirs)]
+    return f"line {at + 1}: expected {shown[0]}, printed {shown[1]}"
+
+
 def run(program):
     """Runs a program, given from bytes to bytes, from standard input to standard output."""
     sys.stdout.buffer.write(program(sys.stdin.buffer.read()))

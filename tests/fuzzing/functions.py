@@ -1,0 +1,214 @@
+# The arguments of each exported function, case by case: a seed, a function's name and a number give one case.
+
+import random
+
+from capi import FUNCTIONS as MODELLED
+from capi import label_numbers
+from header import FUNCTIONS
+from monitor import FILE_KINDS, TYPES
+from monitor_cmd_cases import random_attribute_type, random_intents, random_object
+from pools import Pools, damaged_state
+from rules import Alias, Label, Range, Tuple, write
+from samples import ANY, any_label, any_range, any_tuple, at_times, range_around
+from segment_samples import any_caller, any_operator_call, any_tenant_call
+from segments import MOST_PAGES
+from text import FORMS, VARIANTS
+from text_samples import (BAD_RANGES, BAD_TEXTS, GOOD_RANGES, GOOD_TEXTS, damaged_text, label_in, label_text_in, range_in,
+                          range_text_in, subject_near, text_in)
+from values import (any_line, bent, flag, length_about, near_each_other, number, numbers_of, spoilt)
+
+assert list(FUNCTIONS) == list(MODELLED)
+NO_LABEL, NO_TUPLE = (0,) * 5, (0,) * 33
+
+
+# Labels, ranges, tuples and lines
+
+def of_kinds(*kinds):
+    return lambda rng, pools, at: tuple(numbers_of(rng, contents) for contents in near_each_other(rng, kinds))
+
+
+def to_write(kind):
+    def arguments(rng, pools, at):
+        contents = ANY[kind](rng)
+        return numbers_of(rng, contents), length_about(rng, len(write(contents)))
+    return arguments
+
+
+def to_read(kind):
+    return lambda rng, pools, at: (any_line(rng, kind),)
+
+
+def any_kind_of_line(rng, pools, at):
+    return (any_line(rng, rng.choice(list(ANY))),)
+
+
+# Names and text
+
+def table_alone(rng, pools, at):
+    """A table, now and then with fresh damage, most of the time to one that is not long, which takes less time to judge."""
+    _, data = pools.table(pools.some(rng, at))
+    if at_times(rng, 0.3 if len(data) < 10_000 else 0.03):
+        data = spoilt(rng, data)
+    return data, flag(rng, 0.1)
+
+
+def itself(rng, label):
+    return label
+
+
+def either_end(rng, bounds):
+    return rng.choice((bounds.low, bounds.high))
+
+
+def subject_numbers(rng, seen):
+    subject = subject_near(rng, seen)
+    return bent(rng, "lurm_subject", (*label_numbers(subject.label), int(subject.override)), 0.04)
+
+
+def text_to_write(contents_in, seen_of):
+    def arguments(rng, pools, at):
+        known, data = pools.table(pools.some(rng, at))
+        contents = contents_in(rng, known)
+        form, variant = rng.choice(FORMS), rng.choice(VARIANTS)
+        text = text_in(known, contents, form, variant) or b""
+        return (data, flag(rng, 0.04), subject_numbers(rng, seen_of(rng, contents)),
+                bent(rng, "lurm_style", (form, variant), 0.03), numbers_of(rng, contents, 0.04), length_about(rng, len(text)))
+    return arguments
+
+
+def text_to_read(contents_in, seen_of, text_in_table, fixed):
+    def arguments(rng, pools, at):
+        known, data = pools.table(pools.some(rng, at))
+        contents = contents_in(rng, known)
+        text = text_in(known, contents, rng.choice(FORMS), rng.choice(VARIANTS))
+        if text is None or at_times(rng, 0.2):
+            text = text_in_table(rng, known)
+        if at_times(rng, 0.25):
+            text = rng.choice((damaged_text(rng, text), spoilt(rng, text), rng.choice(fixed), rng.randbytes(rng.randrange(99))))
+        return data, flag(rng, 0.04), subject_numbers(rng, seen_of(rng, contents)), text
+    return arguments
+
+
+# The monitor
+
+def credentials(rng, subject):
+    bounds = range_around(rng, subject) if at_times(rng, 0.97) else any_range(rng)
+    return bent(rng, "lurm_credentials", (*numbers_of(rng, subject, 0), *numbers_of(rng, bounds, 0),
+                                          *(rng.randrange(2) for _ in range(3))), 0.05)
+
+
+def thing(rng, subject, object_type, kind):
+    """An object. What it does not have is zeros or anything."""
+    label, ranges = random_object(rng, subject)
+    has = label is not None, ranges is not None
+    if at_times(rng, 0.5):
+        label, ranges = label or any_label(rng), ranges or any_tuple(rng)
+    numbers = (TYPES.index(object_type), FILE_KINDS.index(kind), *map(int, has),
+               *(NO_LABEL if label is None else numbers_of(rng, label, 0.03 if has[0] else 0.5)),
+               *(NO_TUPLE if ranges is None else numbers_of(rng, ranges, 0.03 if has[1] else 0.5)))
+    return bent(rng, "lurm_object", numbers, 0.04)
+
+
+def to_check(rng, pools, at):
+    subject = any_label(rng)
+    object_type, kind = rng.choice((TYPES[0], TYPES[1], rng.choice(TYPES))), rng.choice(FILE_KINDS)
+    return (credentials(rng, subject), thing(rng, subject, object_type, kind),
+            random_intents(rng, object_type, kind), random_attribute_type(rng))
+
+
+# Shared memory
+
+def some_state(rng, pools, at, share=0.1):
+    """A state that a run reaches, and its numbers, at times damaged."""
+    table, numbers = pools.state(pools.some(rng, at))
+    return table, damaged_state(rng, numbers) if at_times(rng, share) else numbers
+
+
+def call_of(rng, name, table, any_call):
+    """A call of this name that has to do with what a table holds."""
+    while True:
+        call = any_call(rng, table)
+        if call.name == name:
+            return call
+
+
+def tenants_call(name):
+    def arguments(rng, pools, at):
+        table, state = some_state(rng, pools, at)
+        call = call_of(rng, name, table, any_tenant_call)
+        tenant, *more = (number(rng, given, share=0.02) for given in call.numbers)
+        return (state, tenant, numbers_of(rng, call.label, 0.03), *more)
+    return arguments
+
+
+def operators_call(name):
+    def arguments(rng, pools, at):
+        table, state = some_state(rng, pools, at)
+        call = call_of(rng, name, table, any_operator_call)
+        return (state, *(number(rng, given, share=0.02) for given in call.numbers),
+                *(numbers_of(rng, clearance, 0.05) for clearance in call.operands))
+    return arguments
+
+
+def to_make(rng, pools, at):
+    return (rng.choice((0, 1, MOST_PAGES, MOST_PAGES + 1, rng.randint(1, MOST_PAGES), number(rng, MOST_PAGES, share=1))),)
+
+
+def state_alone(rng, pools, at):
+    return (some_state(rng, pools, at, 0.6)[1],)
+
+
+def state_and_tenant(rng, pools, at):
+    table, state = some_state(rng, pools, at)
+    return state, any_caller(rng, table)
+
+
+CASES = {
+    "dominates": of_kinds(Label, Label),
+    "equal": of_kinds(Label, Label),
+    "upper_bound": of_kinds(Label, Label),
+    "lower_bound": of_kinds(Label, Label),
+    "region_of": of_kinds(Label),
+    "range_contains": of_kinds(Range, Label),
+    "range_meet": of_kinds(Range, Range),
+    "range_split": of_kinds(Range),
+    "tuple_is_empty": of_kinds(Tuple),
+    "tuple_contains": of_kinds(Tuple, Label),
+    "tuple_within": of_kinds(Tuple, Tuple),
+    "tuple_meet": of_kinds(Tuple, Tuple),
+    "line_kind": any_kind_of_line,
+    "write_label": to_write(Label),
+    "write_range": to_write(Range),
+    "write_tuple": to_write(Tuple),
+    "write_entry": to_write(Alias),
+    "read_label": to_read(Label),
+    "read_range": to_read(Range),
+    "read_tuple": to_read(Tuple),
+    "read_entry": to_read(Alias),
+    "check_table": table_alone,
+    "write_label_text": text_to_write(label_in, itself),
+    "write_range_text": text_to_write(range_in, either_end),
+    "read_label_text": text_to_read(label_in, itself, label_text_in, GOOD_TEXTS + BAD_TEXTS),
+    "read_range_text": text_to_read(range_in, either_end, range_text_in, GOOD_RANGES + BAD_RANGES),
+    "check": to_check,
+    "make": to_make,
+    "admit": operators_call("admit"),
+    "set_ceiling": operators_call("set_ceiling"),
+    "open": tenants_call("open"),
+    "size": tenants_call("size"),
+    "post": tenants_call("post"),
+    "close": tenants_call("close"),
+    "look": tenants_call("look"),
+    "sound": state_alone,
+    "pages_in_use": state_and_tenant,
+}
+
+
+class Cases:
+    """The cases of a seed."""
+
+    def __init__(self, seed):
+        self.seed, self.pools = seed, Pools(seed)
+
+    def arguments(self, name, at):
+        return CASES[name](random.Random(f"{self.seed} {name} {at}"), self.pools, at)

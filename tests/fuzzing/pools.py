@@ -1,0 +1,102 @@
+# Alias tables and states of shared memory, which take long to make and to judge, so that many calls share one. The number
+# of a case tells from which few it chooses; the choice moves on with the number, and no case depends on another.
+
+import functools
+import random
+from dataclasses import replace
+
+from capi import SEGMENT_SIZE, TABLE_SIZE, TENANT_SIZE, table_numbers
+from rules import write
+from samples import at_times
+from segment_samples import admitting_table, any_call, any_table
+from segments import MOST_PAGES, SLOTS, TENANTS, step
+from text import MOST_ENTRIES, Table
+from text_samples import ENTRIES, FULL, any_entries, labels_table, of_category, of_hierarchy, spoiled, table_of
+from values import bent, spoilt
+
+AT_ONCE = 16  # how many a case chooses from
+KEPT_FOR = 400  # cases that choose from the same
+HALF = 2 ** 63  # twice this is 0 in 64 bits
+
+
+# Tables
+
+def padded(rng, count):
+    """The entries of a table of this size."""
+    entries = any_entries(rng, 20)[:count]
+    return entries + [rng.choice((of_category, of_hierarchy))(n % 200, b"pad%04d" % n) for n in range(count - len(entries))]
+
+
+def some_entries(rng):
+    big = MOST_ENTRIES + rng.choice((-1, 0, 1, 1))
+    return rng.choice((lambda: ENTRIES, lambda: any_entries(rng, 3), lambda: any_entries(rng, 20), lambda: any_entries(rng, 20),
+                       lambda: any_entries(rng, 20), lambda: padded(rng, rng.randrange(200)), lambda: padded(rng, big),
+                       lambda: FULL if at_times(rng, 0.5) else padded(rng, 20)))()
+
+
+def spoiled_table(rng, entries, data):
+    """The bytes of a table that most of the time is bad."""
+    more = rng.choice((b"\n", b"0", b"x\n", write(entries[0]) if entries else b"\0"))
+    return rng.choice((b"".join(spoiled(rng, entries)) if entries else b"\n", spoilt(rng, data), data + more, data[:-1],
+                       b"".join(labels_table(rng.randrange(2000, 9000, 2)))))
+
+
+def some_table(rng):
+    """A good table, from which texts are made, and the bytes that are passed for it."""
+    entries = some_entries(rng)
+    data = b"".join(map(write, entries))
+    known = table_of(*entries[:MOST_ENTRIES])
+    if known.judged()[1] is not None:
+        known = table_of(*ENTRIES)
+    return known, spoiled_table(rng, entries, data) if at_times(rng, 0.15) else data
+
+
+# States
+
+def reached(rng):
+    """The state after a run of random calls, from one with tenants and perhaps segments."""
+    table = rng.choice((admitting_table, any_table))(rng)
+    table = replace(table, pool=table.pool + rng.choice((0, rng.randrange(60), MOST_PAGES - table.pool)))
+    for _ in range(rng.choice((0, 5, 40))):
+        table, _ = step(table, any_call(rng, table))
+    return table
+
+
+def overflowing(rng, numbers):
+    """A state where two ceilings of tenants, or the pages at two slots of one, add up to 0 in 64 bits."""
+    changed = list(numbers)
+    if at_times(rng, 0.5):
+        places = [1 + TENANT_SIZE * tenant for tenant in TENANTS]
+    else:
+        slots = rng.choice([list(SLOTS)[8 * tenant:8 * tenant + 8] for tenant in TENANTS])
+        places = [1 + TENANT_SIZE * len(TENANTS) + SEGMENT_SIZE * slot + SEGMENT_SIZE - 2 for slot in slots]
+    filled = [at for at in places if numbers[at]]
+    for at in filled[:2]:
+        changed[at] = HALF
+    return tuple(changed)
+
+
+def damaged_state(rng, numbers):
+    if at_times(rng, 0.15):
+        return overflowing(rng, numbers)
+    return (0,) * TABLE_SIZE if at_times(rng, 0.05) else bent(rng, "lurm_table", numbers, 1)
+
+
+class Pools:
+    """All tables and states that there are under a seed, each by its number."""
+
+    def __init__(self, seed):
+        self.seed = seed
+        self.table = functools.lru_cache(maxsize=8 * AT_ONCE)(lambda number: some_table(self.rng("table", number)))
+        self.state = functools.lru_cache(maxsize=8 * AT_ONCE)(self.made_state)
+
+    def rng(self, what, number):
+        return random.Random(f"{self.seed} {what} {number}")
+
+    def made_state(self, number):
+        table = reached(self.rng("state", number))
+        return table, table_numbers(table)
+
+    def some(self, rng, number):
+        """The number of a table or state for the case of this number."""
+        return number // KEPT_FOR * AT_ONCE + rng.randrange(AT_ONCE)
