@@ -16,9 +16,12 @@ import text_cmd
 import text_cmd_cases
 from cases import BAD_NUMBERS, GOOD_NUMBERS
 from protocol import LINE_BUFFER, first_difference, lines_of
+from rules import LINE
 from samples import at_times
+from text import MOST_ENTRIES
 from text_cmd import TABLE_BUFFER, TEXT_BUFFER
-from values import ODD_BYTES, byte_changed
+from text_samples import FULL, LONGEST_TEXTS, labels_table, short_table
+from values import ODD_BYTES, bad_line, byte_changed
 
 ROOT = Path(__file__).resolve().parent.parent.parent
 TIME_LIMIT = 20  # seconds
@@ -39,7 +42,17 @@ def segments_requests(rng):
     return b"".join(segments_cmd_cases.random_calls(rng, rng.randrange(150)))
 
 
+def large_table(rng):
+    """A table about as large as there may be, by lines or by bytes, and reads of the longest range."""
+    table = rng.choice((short_table(MOST_ENTRIES), short_table(MOST_ENTRIES + 1), FULL,
+                        labels_table(TABLE_BUFFER + rng.choice((0, 0, 1, 2)))))
+    return text_cmd_cases.table(*table) + text_cmd_cases.SEES_ALL + b"".join(
+        text_cmd_cases.read_range(text) for text in (LONGEST_TEXTS[1], b"-L low -H low", LONGEST_TEXTS[1] + b"0"))
+
+
 def text_requests(rng):
+    if at_times(rng, 0.12):
+        return large_table(rng)
     return text_cmd_cases.random_tables(rng, rng.randrange(4), rng.choice((3, 20, 20, 150)))
 
 
@@ -131,13 +144,19 @@ def cr_before_lf(rng, line):
     return line.rstrip(b"\n") + b"\r\n"
 
 
+def frame_changed(rng, lines, at):
+    """A hex line, the next that there is, changed in a way that may leave its sum right."""
+    at = next((i for i in range(at, len(lines)) if LINE.fullmatch(lines[i]) and len(lines[i]) > 5), None)
+    return lines if at is None else lines[:at] + [bad_line(rng, lines[at])] + lines[at + 1:]
+
+
 def byte_put_in(rng, line):
     at = rng.randrange(len(line))
     return line[:at] + bytes([rng.choice(ODD_BYTES)]) + line[at:]
 
 
 DAMAGE = [line_changed(byte_changed), line_changed(byte_changed), line_changed(other_numbers), line_changed(other_numbers),
-          line_changed(cr_before_lf), line_changed(byte_put_in), line_changed(lambda rng, line: b"#" + line), line_dropped,
+          frame_changed, frame_changed, line_changed(cr_before_lf), line_changed(byte_put_in), line_changed(lambda rng, line: b"#" + line), line_dropped,
           line_moved, lines_swapped, lines_repeated, cut_off, no_last_lf, spliced, line_put_in(long_line),
           line_put_in(binary_line), line_put_in(lambda rng: b"\n")]
 
