@@ -14,7 +14,7 @@ from segment_samples import any_caller, any_operator_call, any_tenant_call
 from segments import MOST_PAGES
 from text import FORMS, VARIANTS
 from text_samples import (BAD_RANGES, BAD_TEXTS, GOOD_RANGES, GOOD_TEXTS, damaged_text, label_in, label_text_in, range_in,
-                          range_text_in, subject_near, text_in)
+                          range_text_in, spoiled, subject_near, text_in)
 from values import (any_line, bent, flag, length_about, near_each_other, number, numbers_of, spoilt)
 
 assert list(FUNCTIONS) == list(MODELLED)
@@ -46,9 +46,10 @@ def any_kind_of_line(rng, pools, at):
 
 def table_alone(rng, pools, at):
     """A table, now and then with fresh damage, most of the time to one that is not long, which takes less time to judge."""
-    _, data = pools.table(pools.some(rng, at))
-    if at_times(rng, 0.3 if len(data) < 10_000 else 0.03):
-        data = spoilt(rng, data)
+    known, data = pools.table(pools.some(rng, at))
+    if at_times(rng, 0.4 if len(data) < 10_000 else 0.1):
+        entries = known.entries()
+        data = b"".join(spoiled(rng, entries)) if entries and at_times(rng, 0.5) else spoilt(rng, data)
     return data, flag(rng, 0.1)
 
 
@@ -112,8 +113,8 @@ def thing(rng, subject, object_type, kind):
 def to_check(rng, pools, at):
     subject = any_label(rng)
     object_type, kind = rng.choice((TYPES[0], TYPES[1], rng.choice(TYPES))), rng.choice(FILE_KINDS)
-    return (credentials(rng, subject), thing(rng, subject, object_type, kind),
-            random_intents(rng, object_type, kind), random_attribute_type(rng))
+    intents = rng.choice((rng.randrange(64), rng.randrange(128))) if at_times(rng, 0.1) else random_intents(rng, object_type, kind)
+    return credentials(rng, subject), thing(rng, subject, object_type, kind), intents, random_attribute_type(rng)
 
 
 # Shared memory

@@ -10,11 +10,12 @@ from rules import write
 from samples import at_times
 from segment_samples import admitting_table, any_call, any_table
 from segments import MOST_PAGES, SLOTS, TENANTS, step
-from text import MOST_ENTRIES, Table
-from text_samples import ENTRIES, FULL, any_entries, labels_table, of_category, of_hierarchy, spoiled, table_of
+from text import MOST_ENTRIES
+from text_samples import ENTRIES, FULL, any_entries, of_category, of_hierarchy, spoiled, table_of
 from values import bent, spoilt
 
 AT_ONCE = 16  # how many a case chooses from
+LARGE = 0  # which of them is a large table
 KEPT_FOR = 400  # cases that choose from the same
 HALF = 2 ** 63  # twice this is 0 in 64 bits
 
@@ -27,23 +28,24 @@ def padded(rng, count):
     return entries + [rng.choice((of_category, of_hierarchy))(n % 200, b"pad%04d" % n) for n in range(count - len(entries))]
 
 
+def large_entries(rng):
+    return FULL if at_times(rng, 0.3) else padded(rng, rng.choice((150, MOST_ENTRIES - 1, MOST_ENTRIES, MOST_ENTRIES + 1, 600)))
+
+
 def some_entries(rng):
-    big = MOST_ENTRIES + rng.choice((-1, 0, 1, 1))
-    return rng.choice((lambda: ENTRIES, lambda: any_entries(rng, 3), lambda: any_entries(rng, 20), lambda: any_entries(rng, 20),
-                       lambda: any_entries(rng, 20), lambda: padded(rng, rng.randrange(200)), lambda: padded(rng, big),
-                       lambda: FULL if at_times(rng, 0.5) else padded(rng, 20)))()
+    return ENTRIES if at_times(rng, 0.1) else rng.choice((any_entries(rng, 3), any_entries(rng, 20), padded(rng, rng.randrange(40))))
 
 
 def spoiled_table(rng, entries, data):
     """The bytes of a table that most of the time is bad."""
-    more = rng.choice((b"\n", b"0", b"x\n", write(entries[0]) if entries else b"\0"))
-    return rng.choice((b"".join(spoiled(rng, entries)) if entries else b"\n", spoilt(rng, data), data + more, data[:-1],
-                       b"".join(labels_table(rng.randrange(2000, 9000, 2)))))
+    more = rng.choice((b"\n", b"0", b"x\n", data[:data.find(b"\n") + 1]))
+    with_bad_lines = b"".join(spoiled(rng, entries)) if entries else b"\n"
+    return rng.choice((with_bad_lines, with_bad_lines, spoilt(rng, data), data + more, data[:-1]))
 
 
-def some_table(rng):
+def some_table(rng, large):
     """A good table, from which texts are made, and the bytes that are passed for it."""
-    entries = some_entries(rng)
+    entries = large_entries(rng) if large else some_entries(rng)
     data = b"".join(map(write, entries))
     known = table_of(*entries[:MOST_ENTRIES])
     if known.judged()[1] is not None:
@@ -87,16 +89,20 @@ class Pools:
 
     def __init__(self, seed):
         self.seed = seed
-        self.table = functools.lru_cache(maxsize=8 * AT_ONCE)(lambda number: some_table(self.rng("table", number)))
+        self.table = functools.lru_cache(maxsize=8 * AT_ONCE)(self.made_table)
         self.state = functools.lru_cache(maxsize=8 * AT_ONCE)(self.made_state)
 
     def rng(self, what, number):
         return random.Random(f"{self.seed} {what} {number}")
+
+    def made_table(self, number):
+        return some_table(self.rng("table", number), number % AT_ONCE == LARGE)
 
     def made_state(self, number):
         table = reached(self.rng("state", number))
         return table, table_numbers(table)
 
     def some(self, rng, number):
-        """The number of a table or state for the case of this number."""
-        return number // KEPT_FOR * AT_ONCE + rng.randrange(AT_ONCE)
+        """The number of a table or state for the case of this number. A large table is rare: it takes a hundred times as
+        long as a small one."""
+        return number // KEPT_FOR * AT_ONCE + (LARGE if at_times(rng, 0.015) else rng.randrange(LARGE + 1, AT_ONCE))

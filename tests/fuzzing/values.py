@@ -23,12 +23,13 @@ def other_number(rng, number, bits):
 
 
 def off(rng, struct, numbers):
-    """A struct's numbers with some of them changed, most of the time one; as often one that is not zero as any."""
-    changed = list(numbers)
-    in_use = [at for at, number in enumerate(numbers) if number]
+    """A struct's numbers with some of them changed, most of the time one: one in use, a byte (a hierarchy, a flag) or a
+    larger one, so that those of which there are few get their turn."""
+    changed, bits = list(numbers), LAYOUTS[struct].bits
     for _ in range(rng.choice((1, 1, 1, 2, 3))):
-        at = rng.choice(in_use) if in_use and at_times(rng, 0.5) else rng.randrange(len(changed))
-        changed[at] = other_number(rng, changed[at], LAYOUTS[struct].bits[at])
+        chosen = rng.choice((lambda at: changed[at] != 0, lambda at: bits[at] == 8, lambda at: bits[at] > 8))
+        at = rng.choice(list(filter(chosen, range(len(bits)))) or range(len(bits)))
+        changed[at] = other_number(rng, changed[at], bits[at])
     return tuple(changed)
 
 
