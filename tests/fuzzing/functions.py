@@ -15,7 +15,7 @@ from segments import MOST_PAGES
 from text import FORMS, VARIANTS
 from text_samples import (BAD_RANGES, BAD_TEXTS, GOOD_RANGES, GOOD_TEXTS, damaged_text, label_in, label_text_in, range_in,
                           range_text_in, spoiled, subject_near, text_in)
-from values import (any_line, bent, flag, length_about, near_each_other, number, numbers_of, spoilt)
+from values import any_line, bent, flag, length_about, near_each_other, number, numbers_of, spoilt
 
 assert list(FUNCTIONS) == list(MODELLED)
 NO_LABEL, NO_TUPLE = (0,) * 5, (0,) * 33
@@ -113,7 +113,7 @@ def thing(rng, subject, object_type, kind):
 def to_check(rng, pools, at):
     subject = any_label(rng)
     object_type, kind = rng.choice((TYPES[0], TYPES[1], rng.choice(TYPES))), rng.choice(FILE_KINDS)
-    intents = rng.choice((rng.randrange(64), rng.randrange(128))) if at_times(rng, 0.1) else random_intents(rng, object_type, kind)
+    intents = random_intents(rng, object_type, kind) if at_times(rng, 0.9) else rng.randrange(rng.choice((64, 128)))
     return credentials(rng, subject), thing(rng, subject, object_type, kind), intents, random_attribute_type(rng)
 
 

@@ -8,15 +8,16 @@ from dataclasses import replace
 from capi import SEGMENT_SIZE, TABLE_SIZE, TENANT_SIZE, table_numbers
 from rules import write
 from samples import at_times
-from segment_samples import admitting_table, any_call, any_table
-from segments import MOST_PAGES, SLOTS, TENANTS, step
+from segment_samples import admitted, admitting_table, any_call, any_segment, any_table
+from segments import MOST_PAGES, SLOTS_EACH, TENANTS, SegmentTable, step
 from text import MOST_ENTRIES
 from text_samples import ENTRIES, FULL, any_entries, of_category, of_hierarchy, spoiled, table_of
 from values import bent, spoilt
 
 AT_ONCE = 16  # how many a case chooses from
+KEPT = 512  # how many are not made again
 LARGE = 0  # which of them is a large table
-KEPT_FOR = 400  # cases that choose from the same
+KEPT_FOR = 150  # cases that choose from the same
 HALF = 2 ** 63  # twice this is 0 in 64 bits
 
 
@@ -29,11 +30,13 @@ def padded(rng, count):
 
 
 def large_entries(rng):
-    return FULL if at_times(rng, 0.3) else padded(rng, rng.choice((150, MOST_ENTRIES - 1, MOST_ENTRIES, MOST_ENTRIES + 1, 600)))
+    sizes = 150, MOST_ENTRIES - 1, MOST_ENTRIES, MOST_ENTRIES + 1, 600
+    return FULL if at_times(rng, 0.3) else padded(rng, rng.choice(sizes))
 
 
 def some_entries(rng):
-    return ENTRIES if at_times(rng, 0.1) else rng.choice((any_entries(rng, 3), any_entries(rng, 20), padded(rng, rng.randrange(40))))
+    few, some = any_entries(rng, 3), any_entries(rng, 20)
+    return rng.choice((few, some, some, padded(rng, rng.randrange(40)), ENTRIES))
 
 
 def spoiled_table(rng, entries, data):
@@ -55,9 +58,20 @@ def some_table(rng, large):
 
 # States
 
+def nearly_full(rng):
+    """A state where tenants have few slots left, or none, or the last ones."""
+    table = admitting_table(rng)
+    for tenant in (tenant for tenant in admitted(table) if table.tenants[tenant].ceiling >= SLOTS_EACH):
+        slots = table.slots_of(tenant)
+        empty = rng.choice((rng.sample(slots, rng.randrange(3)), slots[rng.randrange(SLOTS_EACH):]))
+        for slot in (slot for slot in slots if slot not in empty):
+            table = table.with_segment(slot, any_segment(rng, table.tenants[tenant], 1))
+    return table
+
+
 def reached(rng):
     """The state after a run of random calls, from one with tenants and perhaps segments."""
-    table = rng.choice((admitting_table, any_table))(rng)
+    table = rng.choice((admitting_table, any_table, nearly_full))(rng)
     table = replace(table, pool=table.pool + rng.choice((0, rng.randrange(60), MOST_PAGES - table.pool)))
     for _ in range(rng.choice((0, 5, 40))):
         table, _ = step(table, any_call(rng, table))
@@ -70,7 +84,7 @@ def overflowing(rng, numbers):
     if at_times(rng, 0.5):
         places = [1 + TENANT_SIZE * tenant for tenant in TENANTS]
     else:
-        slots = rng.choice([list(SLOTS)[8 * tenant:8 * tenant + 8] for tenant in TENANTS])
+        slots = SegmentTable().slots_of(rng.choice(TENANTS))
         places = [1 + TENANT_SIZE * len(TENANTS) + SEGMENT_SIZE * slot + SEGMENT_SIZE - 2 for slot in slots]
     filled = [at for at in places if numbers[at]]
     for at in filled[:2]:
@@ -89,8 +103,8 @@ class Pools:
 
     def __init__(self, seed):
         self.seed = seed
-        self.table = functools.lru_cache(maxsize=8 * AT_ONCE)(self.made_table)
-        self.state = functools.lru_cache(maxsize=8 * AT_ONCE)(self.made_state)
+        self.table = functools.lru_cache(maxsize=KEPT)(self.made_table)
+        self.state = functools.lru_cache(maxsize=KEPT)(self.made_state)
 
     def rng(self, what, number):
         return random.Random(f"{self.seed} {what} {number}")

@@ -135,8 +135,8 @@ def binary_line(rng):
 def other_numbers(rng, line):
     """The line with one word replaced by a number, huge or odd ones too."""
     words = line.rstrip(b"\n").split(b" ")
-    words[rng.randrange(len(words))] = rng.choice((rng.choice(GOOD_NUMBERS), rng.choice(BAD_NUMBERS), b"%d" % rng.getrandbits(64),
-                                                   b"%d" % rng.randrange(70)))
+    words[rng.randrange(len(words))] = rng.choice((rng.choice(GOOD_NUMBERS), rng.choice(BAD_NUMBERS),
+                                                   b"%d" % rng.getrandbits(64), b"%d" % rng.randrange(70)))
     return b" ".join(words) + b"\n"
 
 
@@ -155,10 +155,12 @@ def byte_put_in(rng, line):
     return line[:at] + bytes([rng.choice(ODD_BYTES)]) + line[at:]
 
 
-DAMAGE = [line_changed(byte_changed), line_changed(byte_changed), line_changed(other_numbers), line_changed(other_numbers),
-          frame_changed, frame_changed, line_changed(cr_before_lf), line_changed(byte_put_in), line_changed(lambda rng, line: b"#" + line), line_dropped,
-          line_moved, lines_swapped, lines_repeated, cut_off, no_last_lf, spliced, line_put_in(long_line),
-          line_put_in(binary_line), line_put_in(lambda rng: b"\n")]
+DAMAGE = [
+    line_changed(byte_changed), line_changed(byte_changed), line_changed(other_numbers), line_changed(other_numbers),
+    line_changed(cr_before_lf), line_changed(byte_put_in), line_changed(lambda rng, line: b"#" + line), frame_changed,
+    frame_changed, line_dropped, line_moved, lines_swapped, lines_repeated, cut_off, no_last_lf, spliced,
+    line_put_in(long_line), line_put_in(binary_line), line_put_in(lambda rng: b"\n"),
+]
 
 
 def damaged(rng, lines):

@@ -71,7 +71,8 @@ def near_each_other(rng, kinds):
 
 def length_about(rng, needed):
     """The length of a buffer: what is needed, a byte less or more, none, or any."""
-    return max(0, rng.choice((needed, needed, needed + 1, needed - 1, needed - 1, 0, needed + 300, rng.randrange(needed + 100))))
+    some = rng.randrange(needed + 100)
+    return max(0, rng.choice((needed, needed, needed + 1, needed - 1, needed - 1, 0, needed + 300, some)))
 
 
 # Bytes
