@@ -25,8 +25,12 @@ class CantLink(Exception):
 def linked(archive, folder):
     """The archive as a shared object in the folder."""
     shared = folder / "lurmenize.so"
-    done = subprocess.run(["gcc", "-shared", "-Wl,-Bsymbolic", "-Wl,-z,noexecstack", "-Wl,-z,text", "-o", shared,
-                           "-Wl,--whole-archive", archive, "-Wl,--no-whole-archive"], capture_output=True, text=True)
+    command = ["gcc", "-shared", "-Wl,-Bsymbolic", "-Wl,-z,noexecstack", "-Wl,-z,text", "-o", shared,
+               "-Wl,--whole-archive", archive, "-Wl,--no-whole-archive"]
+    try:
+        done = subprocess.run(command, capture_output=True, text=True)
+    except FileNotFoundError as error:
+        raise CantLink(str(error)) from None
     if done.returncode != 0:
         raise CantLink(done.stderr)
     return shared
