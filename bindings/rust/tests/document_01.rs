@@ -1,0 +1,133 @@
+//! The examples of document 01, in its order, and its table of the monitor in a few requests.
+
+use lurmenize::*;
+
+fn range(low: Label, high: Label) -> Range {
+    Range::new(low, high)
+}
+
+fn label(hierarchy: u8, categories: &[u8]) -> Label {
+    Label::new(hierarchy, categories)
+}
+
+#[test]
+fn dominance() {
+    assert_eq!(label(30, &[1, 2]).dominates(&label(20, &[2])), Ok(true));
+    assert_eq!(label(20, &[2]).dominates(&label(30, &[])), Ok(false));
+    assert_eq!(label(30, &[]).dominates(&label(20, &[2])), Ok(false));
+}
+
+#[test]
+fn bounds() {
+    let (a, b) = (label(20, &[1]), label(30, &[2]));
+    assert_eq!(a.upper_bound(&b), Ok(label(30, &[1, 2])));
+    assert_eq!(a.lower_bound(&b), Ok(label(20, &[])));
+}
+
+#[test]
+fn meets() {
+    let x = range(label(20, &[]), label(40, &[1, 2]));
+    let y = range(label(30, &[2]), label(50, &[2, 3]));
+    assert_eq!(x.meet(&y), Ok(range(label(30, &[2]), label(40, &[2]))));
+    let x = range(label(20, &[1]), label(40, &[1]));
+    let y = range(label(20, &[]), label(40, &[2]));
+    assert_eq!(x.meet(&y), Err(Refusal::Domain));
+}
+
+#[test]
+fn split() {
+    let cut = range(label(10, &[]), label(30, &[4])).split().unwrap();
+    let virus_prevention = range(label(10, &[]), label(19, &[4]));
+    let user = range(label(20, &[]), label(30, &[4]));
+    assert_eq!(cut, Tuple { ranges: [Some(virus_prevention), Some(user), None] });
+}
+
+#[test]
+fn lines_and_hierarchies() {
+    assert_eq!(Tuple::default().to_line().unwrap(), "0300fd\n");
+    assert_eq!(Tuple::read_line(b"0300fd\n"), Ok(Tuple::default()));
+    assert_eq!(Tuple::default().is_empty(), Ok(true));
+    assert_eq!(label(199, &[]).region(), Ok(Region::Administrative));
+    assert_eq!(label(200, &[]).region(), Err(Refusal::Invalid));
+}
+
+#[test]
+fn texts() {
+    let table = Table::new(b"040114036c6f770092\n04020704656173740165dc\n");
+    assert_eq!(table.check(), Ok(2));
+    let (low, east) = (label(20, &[]), label(20, &[7]));
+    let subject = Subject { label: east, read_override: false };
+    assert_eq!(table.label_text(&subject, Style::default(), &east).unwrap(), "low:east");
+    let mut buffer = [0xa5; 7];
+    assert_eq!(table.write_label(&subject, Style::default(), &east, &mut buffer), Err(Refusal::TooBig(8)));
+    assert_eq!(buffer, [0xa5; 7]);
+    let subject = Subject { label: low, read_override: false };
+    let text = table.range_text(&subject, Style::default(), &range(low, east)).unwrap();
+    assert_eq!(text, ("-L low -H ?".to_string(), Ends::LowOnly));
+}
+
+#[test]
+fn pages() {
+    let label = label(20, &[]);
+    let clearance = range(label, label).split().unwrap();
+    let [first, second, third] = [TenantId(0), TenantId(1), TenantId(2)];
+    let mut state = SegmentTable::make(100).unwrap();
+    assert_eq!(state.admit(first, 60, &clearance), Ok(()));
+    assert_eq!(state.admit(second, 40, &clearance), Ok(()));
+    assert_eq!(state.admit(third, 1, &clearance), Err(Refusal::NoMem));
+    assert_eq!(state.open(first, &label, 60), Ok(Slot(0)));
+    let before = state.clone();
+    assert_eq!(state.open(first, &label, 1), Err(Refusal::NoMem));
+    assert_eq!(state, before);
+    assert_eq!(state.open(second, &label, 40), Ok(Slot(8)));
+    assert_eq!(state.size(first, &label, Slot(0), 59), Ok(()));
+    assert_eq!(state.open(first, &label, 1), Ok(Slot(1)));
+    assert_eq!((state.pages_in_use(first), state.pages_in_use(second)), (Ok(60), Ok(40)));
+    assert!(state.sound());
+}
+
+#[test]
+fn decisions() {
+    let (low, high) = (label(20, &[]), label(30, &[1]));
+    let subject = Credentials { label: high, range: range(low, high), ..Credentials::default() };
+    let fifo = Object { class: Class::Fifo, label: Some(low), tuple: None };
+    let queue = Object { class: Class::MessageQueue, ..fifo };
+    assert_eq!(check(&subject, &queue, Intents::READ, Attribute::NONE), Ok(Decision::Granted));
+    assert_eq!(check(&subject, &fifo, Intents::READ, Attribute::NONE), Err(Refusal::Access));
+    let writer = Credentials { write_override: true, ..subject };
+    assert_eq!(check(&writer, &fifo, Intents::READ, Attribute::NONE), Ok(Decision::Privileged));
+    assert_eq!(check(&writer, &fifo, Intents::SET_ATTRIBUTE, Attribute::LABEL), Err(Refusal::Perm));
+    let all = Credentials { relabel: true, ..writer };
+    assert_eq!(check(&all, &fifo, Intents::SET_ATTRIBUTE, Attribute::LABEL), Ok(Decision::Privileged));
+    assert_eq!(check(&all, &fifo, Intents::SET_ATTRIBUTE, Attribute::NONE), Err(Refusal::Invalid));
+    assert_eq!(check(&all, &fifo, Intents(64), Attribute::NONE), Err(Refusal::Invalid));
+}
+
+#[test]
+fn refusals_that_carry_a_number() {
+    let (good, bad): (&[u8], &[u8]) = (b"040114036c6f770092\n", b"0300fd\n");
+    let (first, second) = ([bad, good].concat(), [good, bad].concat());
+    let subject = Subject::default();
+    assert_eq!(Table::new(&first).check(), Err(Refusal::BadLine(0)));
+    assert_eq!(Table::new(&second).check(), Err(Refusal::BadLine(1)));
+    assert_eq!(Table { lines: good, more: true }.check(), Err(Refusal::BadLine(1)));
+    assert_eq!(Table::new(&second).read_label(&subject, b"low"), Err(Refusal::BadLine(1)));
+    // What the interface does not tell apart.
+    assert_eq!(Table::new(&first).read_label(&subject, b"low"), Err(Refusal::Invalid));
+    assert_eq!(Table::new(good).read_label(&subject, b"?"), Err(Refusal::Invalid));
+}
+
+#[test]
+fn refusals_are_errors() {
+    let error: Box<dyn std::error::Error> = Refusal::TooBig(8).into();
+    assert_eq!(error.to_string(), "buffer short: 8 bytes are needed");
+    assert_eq!((Refusal::BadLine(3).number(), Refusal::Domain.number()), (22, 33));
+}
+
+#[test]
+fn what_is_too_long_is_refused_and_not_cut() {
+    let entry = |name: usize, short: usize| Entry::new(Named::Hierarchy(20), "n".repeat(name), "s".repeat(short));
+    assert!(entry(31, 15).to_line().is_ok());
+    assert_eq!(entry(32, 15).to_line(), Err(Refusal::Invalid));
+    assert_eq!(entry(31, 16).to_line(), Err(Refusal::Invalid));
+}

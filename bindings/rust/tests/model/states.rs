@@ -1,0 +1,127 @@
+//! Calls on states: runs of random calls from a made state on, with calls on damaged states between them.
+
+use crate::call;
+use crate::case::Cases;
+use crate::inputs;
+use crate::numbers::one_off;
+use crate::random::Random;
+use lurmenize::raw::*;
+
+/// The labels that the calls of a run have, few enough to be met again.
+type Labels = Vec<Label>;
+
+/// A tenant that is mostly one of the first three.
+fn tenant(random: &mut Random) -> u64 {
+    random.pick(&[0, 0, 0, 1, 1, 1, 2, 2, 7, 8, u64::MAX])
+}
+
+/// A slot that is mostly one of a tenant's first, or of another's.
+fn slot(random: &mut Random, tenant: u64) -> u64 {
+    match random.below(10) {
+        0 => random.pick(&[63, 64, 65, u64::MAX]),
+        1 | 2 => random.below(24),
+        _ => tenant.wrapping_mul(8).wrapping_add(random.below(4)),
+    }
+}
+
+fn pages(random: &mut Random) -> u64 {
+    match random.below(12) {
+        0 => random.pick(&[0, MAX_PAGES, MAX_PAGES + 1, u64::MAX]),
+        1 => 1 + random.below(60),
+        _ => 1 + random.below(3),
+    }
+}
+
+fn clearance(random: &mut Random, labels: &Labels) -> Tuple {
+    let with = random.pick(labels);
+    match random.below(6) {
+        0 => inputs::input_tuple(random),
+        1 => inputs::empty_tuple(),
+        2 | 3 => inputs::tuple_with(random, &with),
+        _ => inputs::whole_tuple(),
+    }
+}
+
+/// A label of the run, or once in a while any.
+fn subject(random: &mut Random, labels: &Labels) -> Label {
+    if random.once_in(12) {
+        inputs::input_label(random)
+    } else {
+        random.pick(labels)
+    }
+}
+
+/// One call of the operator, or a question.
+fn operator_call(random: &mut Random, cases: &mut Cases, labels: &Labels, table: Table) -> Table {
+    let (tenant, ceiling) = (tenant(random), pages(random).saturating_mul(random.pick(&[1, 5, 20])));
+    let after = match random.below(4) {
+        0 => {
+            let clearance = clearance(random, labels);
+            call!(cases, lurm_admit(table, tenant, ceiling, clearance))
+        }
+        1 => call!(cases, lurm_set_ceiling(table, tenant, ceiling)),
+        2 => {
+            call!(cases, lurm_pages_in_use(table, tenant));
+            return table;
+        }
+        _ => {
+            call!(cases, lurm_sound(table));
+            return table;
+        }
+    };
+    after.table
+}
+
+/// The tenant, the label and the slot of a segment that is there, or None where the slot that was picked is empty.
+fn owner(random: &mut Random, table: &Table) -> Option<(u64, Label, u64)> {
+    let slot = random.index(18);
+    let segment = &table.segments[slot];
+    (segment.pages > 0).then_some((slot as u64 / 8, segment.label, slot as u64))
+}
+
+/// One call of a tenant, half of the time on a segment of its own where there is one.
+fn tenant_call(random: &mut Random, cases: &mut Cases, labels: &Labels, table: Table) -> Table {
+    let (any, label, pages) = (tenant(random), subject(random, labels), pages(random));
+    let call = (any, label, slot(random, any));
+    let (tenant, label, slot) = if random.once_in(2) { owner(random, &table).unwrap_or(call) } else { call };
+    let after = match random.below(10) {
+        0..=4 => call!(cases, lurm_open(table, tenant, label, pages)),
+        5 => call!(cases, lurm_size(table, tenant, label, slot, pages)),
+        6 => {
+            let version = random.number();
+            call!(cases, lurm_post(table, tenant, label, slot, version))
+        }
+        7 => call!(cases, lurm_close(table, tenant, label, slot)),
+        _ => call!(cases, lurm_look(table, tenant, label, slot)),
+    };
+    after.table
+}
+
+/// The first call of a run, and now and then one that is refused.
+fn made(random: &mut Random, cases: &mut Cases) -> Table {
+    if random.once_in(3) {
+        let pool = random.pick(&[0, MAX_PAGES, MAX_PAGES + 1, u64::MAX]);
+        call!(cases, lurm_make(pool));
+    }
+    let pool = 30 + random.below(200);
+    call!(cases, lurm_make(pool)).table
+}
+
+pub fn run(random: &mut Random, cases: &mut Cases, length: usize) {
+    let base = inputs::label(random);
+    let labels: Labels = vec![base, base, inputs::dominated_by(random, &base), inputs::dominating(random, &base)];
+    let mut table = made(random, cases);
+    for tenant in 0..2u64 {
+        let (ceiling, clearance) = (10 + random.below(20), inputs::whole_tuple());
+        table = call!(cases, lurm_admit(table, tenant, ceiling, clearance)).table;
+    }
+    for _ in 0..length {
+        let call = if random.once_in(3) { operator_call } else { tenant_call };
+        if random.once_in(8) {
+            let damaged = one_off(random, &table);
+            call(random, cases, &labels, damaged);
+        } else {
+            table = call(random, cases, &labels, table);
+        }
+    }
+}
