@@ -115,8 +115,7 @@ impl<'a> Table<'a> {
         let (lines, more) = (self.lines, self.more.into());
         let (subject, style) = (subject.into(), style.into());
         // SAFETY: as in `write_label`.
-        let written =
-            unsafe { raw::lurm_write_range_text(lines.as_ptr(), lines.len(), more, subject, style, *range, out.as_mut_ptr(), out.len()) };
+        let written = unsafe { raw::lurm_write_range_text(lines.as_ptr(), lines.len(), more, subject, style, *range, out.as_mut_ptr(), out.len()) };
         let ends = if written.status == 0 { Ends::Both } else { Ends::LowOnly };
         Ok((written.answer.length()?, ends))
     }

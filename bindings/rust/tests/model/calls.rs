@@ -94,8 +94,7 @@ pub fn hex_lines(random: &mut Random, cases: &mut Cases) {
     writes_line!(random, cases, lurm_write_range(inputs::input_range(random)));
     writes_line!(random, cases, lurm_write_tuple(inputs::input_tuple(random)));
     writes_line!(random, cases, lurm_write_entry(inputs::input_entry(random)));
-    let (label, range, tuple, entry) =
-        (inputs::label(random), inputs::range(random), inputs::tuple(random), inputs::input_entry(random));
+    let (label, range, tuple, entry) = (inputs::label(random), inputs::range(random), inputs::tuple(random), inputs::input_entry(random));
     reads!(cases, lines::as_input(random, lines::of_label(&label)), lurm_line_kind lurm_read_label);
     reads!(cases, lines::as_input(random, lines::of_range(&range)), lurm_line_kind lurm_read_range);
     reads!(cases, lines::as_input(random, lines::of_tuple(&tuple)), lurm_line_kind lurm_read_tuple);
@@ -182,8 +181,7 @@ fn credentials(random: &mut Random) -> Credentials {
     let range = inputs::range(random);
     let label = inputs::label_in(random, &range);
     let flag = |random: &mut Random| random.below(2) as u8;
-    let credentials =
-        Credentials { label, range, read_override: flag(random), write_override: flag(random), relabel: flag(random) };
+    let credentials = Credentials { label, range, read_override: flag(random), write_override: flag(random), relabel: flag(random) };
     inputs::as_input(random, credentials)
 }
 

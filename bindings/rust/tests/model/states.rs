@@ -7,8 +7,13 @@ use crate::numbers::one_off;
 use crate::random::Random;
 use lurmenize::raw::*;
 
-/// The labels that the calls of a run have, few enough to be met again.
-type Labels = Vec<Label>;
+/// What the calls of a run have in common.
+struct Run {
+    /// Few enough to be met again.
+    labels: Vec<Label>,
+    /// By what numbers of pages are multiplied.
+    scale: u64,
+}
 
 /// A tenant that is mostly one of the first three.
 fn tenant(random: &mut Random) -> u64 {
@@ -24,16 +29,16 @@ fn slot(random: &mut Random, tenant: u64) -> u64 {
     }
 }
 
-fn pages(random: &mut Random) -> u64 {
+fn pages(random: &mut Random, run: &Run) -> u64 {
     match random.below(12) {
         0 => random.pick(&[0, MAX_PAGES, MAX_PAGES + 1, u64::MAX]),
-        1 => 1 + random.below(60),
-        _ => 1 + random.below(3),
+        1 => 1 + random.below(60 * run.scale),
+        _ => 1 + random.below(3 * run.scale),
     }
 }
 
-fn clearance(random: &mut Random, labels: &Labels) -> Tuple {
-    let with = random.pick(labels);
+fn clearance(random: &mut Random, run: &Run) -> Tuple {
+    let with = random.pick(&run.labels);
     match random.below(6) {
         0 => inputs::input_tuple(random),
         1 => inputs::empty_tuple(),
@@ -43,20 +48,20 @@ fn clearance(random: &mut Random, labels: &Labels) -> Tuple {
 }
 
 /// A label of the run, or once in a while any.
-fn subject(random: &mut Random, labels: &Labels) -> Label {
+fn subject(random: &mut Random, run: &Run) -> Label {
     if random.once_in(12) {
         inputs::input_label(random)
     } else {
-        random.pick(labels)
+        random.pick(&run.labels)
     }
 }
 
 /// One call of the operator, or a question.
-fn operator_call(random: &mut Random, cases: &mut Cases, labels: &Labels, table: Table) -> Table {
-    let (tenant, ceiling) = (tenant(random), pages(random).saturating_mul(random.pick(&[1, 5, 20])));
+fn operator_call(random: &mut Random, cases: &mut Cases, run: &Run, table: Table) -> Table {
+    let (tenant, ceiling) = (tenant(random), pages(random, run).saturating_mul(random.pick(&[1, 5, 20])));
     let after = match random.below(4) {
         0 => {
-            let clearance = clearance(random, labels);
+            let clearance = clearance(random, run);
             call!(cases, lurm_admit(table, tenant, ceiling, clearance))
         }
         1 => call!(cases, lurm_set_ceiling(table, tenant, ceiling)),
@@ -80,8 +85,8 @@ fn owner(random: &mut Random, table: &Table) -> Option<(u64, Label, u64)> {
 }
 
 /// One call of a tenant, half of the time on a segment of its own where there is one.
-fn tenant_call(random: &mut Random, cases: &mut Cases, labels: &Labels, table: Table) -> Table {
-    let (any, label, pages) = (tenant(random), subject(random, labels), pages(random));
+fn tenant_call(random: &mut Random, cases: &mut Cases, run: &Run, table: Table) -> Table {
+    let (any, label, pages) = (tenant(random), subject(random, run), pages(random, run));
     let call = (any, label, slot(random, any));
     let (tenant, label, slot) = if random.once_in(2) { owner(random, &table).unwrap_or(call) } else { call };
     let after = match random.below(10) {
@@ -98,30 +103,31 @@ fn tenant_call(random: &mut Random, cases: &mut Cases, labels: &Labels, table: T
 }
 
 /// The first call of a run, and now and then one that is refused.
-fn made(random: &mut Random, cases: &mut Cases) -> Table {
+fn made(random: &mut Random, cases: &mut Cases, run: &Run) -> Table {
     if random.once_in(3) {
         let pool = random.pick(&[0, MAX_PAGES, MAX_PAGES + 1, u64::MAX]);
         call!(cases, lurm_make(pool));
     }
-    let pool = 30 + random.below(200);
+    let pool = (30 + random.below(200)) * run.scale;
     call!(cases, lurm_make(pool)).table
 }
 
 pub fn run(random: &mut Random, cases: &mut Cases, length: usize) {
     let base = inputs::label(random);
-    let labels: Labels = vec![base, base, inputs::dominated_by(random, &base), inputs::dominating(random, &base)];
-    let mut table = made(random, cases);
+    let labels = vec![base, base, inputs::dominated_by(random, &base), inputs::dominating(random, &base)];
+    let run = Run { labels, scale: random.pick(&[1, 10, 4000]) };
+    let mut table = made(random, cases, &run);
     for tenant in 0..2u64 {
-        let (ceiling, clearance) = (10 + random.below(20), inputs::whole_tuple());
+        let (ceiling, clearance) = ((10 + random.below(20)) * run.scale, inputs::whole_tuple());
         table = call!(cases, lurm_admit(table, tenant, ceiling, clearance)).table;
     }
     for _ in 0..length {
         let call = if random.once_in(3) { operator_call } else { tenant_call };
         if random.once_in(8) {
             let damaged = one_off(random, &table);
-            call(random, cases, &labels, damaged);
+            call(random, cases, &run, damaged);
         } else {
-            table = call(random, cases, &labels, table);
+            table = call(random, cases, &run, table);
         }
     }
 }

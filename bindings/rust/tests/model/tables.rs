@@ -65,16 +65,15 @@ fn of_class(names: &Names, class: u32) -> Vec<Entry> {
 
 /// A label that mostly has a text: its parts have names, or it has one itself.
 pub fn label(random: &mut Random, names: &Names) -> Label {
-    let (hierarchies, categories, whole) =
-        (of_class(names, NAMES_HIERARCHY), of_class(names, NAMES_CATEGORY), of_class(names, NAMES_LABEL));
+    let (hierarchies, categories, whole) = (of_class(names, NAMES_HIERARCHY), of_class(names, NAMES_CATEGORY), of_class(names, NAMES_LABEL));
     if hierarchies.is_empty() || random.once_in(12) {
         return inputs::input_label(random);
     }
     if !whole.is_empty() && random.once_in(3) {
         return random.pick(&whole).label;
     }
-    let some = (0..random.below(4)).filter_map(|_| (!categories.is_empty()).then(|| random.pick(&categories)));
-    let word = some.fold(0, |word, entry| word | 1 << entry.number);
+    let count = if categories.is_empty() { 0 } else { random.below(4) };
+    let word = (0..count).fold(0, |word, _| word | 1 << random.pick(&categories).number);
     Label { hierarchy: random.pick(&hierarchies).number as u8, categories: [word, 0, 0, 0] }
 }
 
