@@ -11,8 +11,12 @@ use segments::Segment;
 use segments::SegmentTable;
 use segments::TENANTS;
 ghost use mathlib.Core.Path.{_≡_};
+ghost use Prim.Native.Nat.{_<_};
+ghost use lib.ListN.{length};
+ghost use Rattle.label.specs.Region.{regions};
+ghost use Rattle.segments.specs.Segments as core;
 ghost use Rattle.segments.specs.Segments.{zeroSegment};
-ghost use Rattle.abi.specs.Table.{decodedOf, decodedTenant, encodedOf, encodedTenant, formedOf, handedBack, refusedWith, replyAnswer, segmentBeside};
+ghost use Rattle.abi.specs.Table.{Lengths, decodedOf, decodedTenant, encodedOf, encodedTenant, formedOf, handedBack, refusedWith, replyAnswer, segmentBeside, tenantAt};
 
 #[repr(C)]
 pub struct Tenant {
@@ -168,5 +172,25 @@ pub fn refuse(table: Table) -> Outcome
         table,
         answer: answer::refused(Errno::Invalid),
         shown: no_segment(),
+    }
+}
+
+// Every state has the lengths of its type: the clearance of a tenant has its own,
+fn lengths_at(s: Table, i: usize)
+    requires { ⌜ i < core.tenants ⌝ }
+    ensures { λ _. ⌜ length (tenantAt s i .clearance .ranges) ≡ regions ⌝ }
+{
+    let x = s.tenants[i];
+    tuple::lengths(x.clearance);
+}
+
+// and so has the whole.
+fn lengths(s: Table)
+    ensures { λ _. ⌜ Lengths s ⌝ }
+{
+    let mut i = 0;
+    while i < TENANTS {
+        lengths_at(s, i);
+        i += 1;
     }
 }

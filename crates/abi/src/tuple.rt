@@ -4,6 +4,8 @@ use label::region::REGIONS;
 use range::Range;
 use range::tuple;
 ghost use mathlib.Core.Path.{_≡_};
+ghost use lib.ListN.{length};
+ghost use Rattle.label.specs.Region.{regions};
 ghost use Rattle.abi.specs.Tuple.{decodedAt, decodedOf, encodedAt, encodedOf, formedOf};
 
 #[repr(C)]
@@ -79,3 +81,8 @@ pub fn encode(t: tuple::Tuple) -> Tuple
     }
     Tuple { ranges }
 }
+
+// Every tuple has the length of its type.
+pub(crate) fn lengths(t: Tuple)
+    ensures { λ _. ⌜ length (t .ranges) ≡ regions ⌝ }
+{}
