@@ -1,0 +1,117 @@
+//! Tables tested, and labels written and read as text by them.
+
+use super::labels::label;
+use super::names::NamedTable;
+use super::{prepared, Case};
+use crate::harness::{side, Sides};
+use crate::ordinary::label::Label;
+use crate::ordinary::table::check_table;
+use crate::ordinary::text::{read_label_text, write_label_text, Form, Style, Subject, Variant};
+use crate::random::Random;
+use crate::raw;
+use std::rc::Rc;
+
+const SIZES: [usize; 3] = [8, 64, 512];
+const LABELS: usize = 256;
+/// Room for any text of three categories. It is not cleared between calls, for either version.
+const BUFFER: [u8; 256] = [0xa5; 256];
+
+/// Tables to check: fewer where they are longer, so that all fit the processor's second cache.
+fn tables(random: &mut Random, entries: usize) -> Vec<Vec<u8>> {
+    prepared((2048 / entries).max(16), random, |random| NamedTable::new(random, entries).bytes)
+}
+
+fn check(random: &mut Random, entries: usize) -> Sides<raw::Answer> {
+    let tables = tables(random, entries);
+    vec![
+        side((), tables.clone(), |_, table| check_table(table, false), |_, result| result.map(|lines| lines as u64).into()),
+        // SAFETY: pointer and length are those of the table.
+        side((), tables, |_, table| unsafe { raw::lurm_check_table(table.as_ptr(), table.len(), 0) }, |_, answer| answer),
+    ]
+}
+
+/// Either dominates every label, or has the read override.
+fn subject(random: &mut Random) -> Subject {
+    if random.once_in(2) {
+        Subject { label: Label { hierarchy: 199, categories: [u64::MAX; 4] }, read_override: false }
+    } else {
+        Subject { label: label(random), read_override: true }
+    }
+}
+
+fn style(random: &mut Random) -> Style {
+    let form = random.pick(&[Form::Definition, Form::Alias]);
+    Style { form, variant: random.pick(&[Variant::Names, Variant::Abbreviations]) }
+}
+
+type Writing = (Subject, Style, Label);
+
+fn writings(random: &mut Random, table: &NamedTable) -> Vec<Writing> {
+    prepared(LABELS, random, |random| (subject(random), style(random), table.label(random)))
+}
+
+fn write(random: &mut Random, entries: usize) -> Sides<(raw::Answer, [u8; 256])> {
+    let table = NamedTable::new(random, entries);
+    let writings = writings(random, &table);
+    let raw_writings: Vec<(raw::Subject, raw::Style, raw::Label)> =
+        writings.iter().map(|(subject, style, label)| ((*subject).into(), (*style).into(), (*label).into())).collect();
+    let bytes: Rc<[u8]> = table.bytes.into();
+    let raw_bytes = bytes.clone();
+    vec![
+        side(
+            BUFFER,
+            writings,
+            move |buffer, (subject, style, label)| write_label_text(&bytes, false, subject, *style, label, buffer),
+            |buffer, result| (result.map(|length| length as u64).into(), *buffer),
+        ),
+        side(
+            BUFFER,
+            raw_writings,
+            move |buffer, (subject, style, label)| {
+                let (table, out) = (raw_bytes.as_ptr(), buffer.as_mut_ptr());
+                // SAFETY: pointers and lengths are those of the table and the buffer.
+                unsafe { raw::lurm_write_label_text(table, raw_bytes.len(), 0, *subject, *style, *label, out, buffer.len()) }
+            },
+            |buffer, answer| (answer, *buffer),
+        ),
+    ]
+}
+
+/// What is written of each label, with the subject that reads it back.
+fn readings(random: &mut Random, table: &NamedTable) -> Vec<(Subject, Vec<u8>)> {
+    let read_back = |(subject, style, label): Writing| {
+        let mut buffer = BUFFER;
+        let length = write_label_text(&table.bytes, false, &subject, style, &label, &mut buffer).expect("a text of a named label");
+        (subject, buffer[..length].to_vec())
+    };
+    writings(random, table).into_iter().map(read_back).collect()
+}
+
+fn read(random: &mut Random, entries: usize) -> Sides<raw::LabelAnswer> {
+    let table = NamedTable::new(random, entries);
+    let readings = readings(random, &table);
+    let raw_readings: Vec<(raw::Subject, Vec<u8>)> =
+        readings.iter().map(|(subject, text)| ((*subject).into(), text.clone())).collect();
+    let bytes: Rc<[u8]> = table.bytes.into();
+    let raw_bytes = bytes.clone();
+    vec![
+        side((), readings, move |_, (subject, text)| read_label_text(&bytes, false, subject, text), |_, result| result.into()),
+        side(
+            (),
+            raw_readings,
+            move |_, (subject, text)| {
+                let (table, length) = (raw_bytes.as_ptr(), raw_bytes.len());
+                // SAFETY: pointers and lengths are those of the table and the text.
+                unsafe { raw::lurm_read_label_text(table, length, 0, *subject, text.as_ptr(), text.len()) }
+            },
+            |_, answer| answer,
+        ),
+    ]
+}
+
+pub fn cases() -> Vec<Case> {
+    let checks = SIZES.map(|size| Case::new(format!("table check, {size} names"), move |random| check(random, size)));
+    let writes = SIZES.map(|size| Case::new(format!("text written, {size} names"), move |random| write(random, size)));
+    let reads = SIZES.map(|size| Case::new(format!("text read, {size} names"), move |random| read(random, size)));
+    checks.into_iter().chain(writes).chain(reads).collect()
+}

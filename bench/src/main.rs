@@ -1,0 +1,81 @@
+//! Times the proved library beside an ordinary version of the same rules, and prints a table. docs/BENCHMARKS.md says how.
+
+mod cases;
+mod convert;
+mod harness;
+mod ordinary;
+mod random;
+mod raw;
+mod report;
+#[cfg(sepol)]
+mod sepol;
+
+use cases::Case;
+use std::process::ExitCode;
+
+const USAGE: &str = "bench [--list] [--case NAME] [--rounds N]";
+
+struct Options {
+    list: bool,
+    case: Option<String>,
+    rounds: usize,
+}
+
+fn options() -> Option<Options> {
+    let mut options = Options { list: false, case: None, rounds: 31 };
+    let mut arguments = std::env::args().skip(1);
+    while let Some(argument) = arguments.next() {
+        match argument.as_str() {
+            "--list" => options.list = true,
+            "--case" => options.case = Some(arguments.next()?),
+            "--rounds" => options.rounds = arguments.next()?.parse().ok().filter(|rounds| *rounds > 0)?,
+            _ => return None,
+        }
+    }
+    Some(options)
+}
+
+/// Measures each case and prints its row at once; rows for libsepol come last.
+fn measure(cases: &[Case], rounds: usize) -> Result<(), String> {
+    println!("{}", report::HEAD);
+    let mut sepol_rows = Vec::new();
+    for case in cases {
+        let times = case.prepare().measure(rounds).map_err(|message| format!("{}: {message}", case.name))?;
+        println!("{}", report::row(&case.name, &times));
+        sepol_rows.extend(report::sepol_row(&case.name, &times));
+    }
+    if !sepol_rows.is_empty() {
+        println!("{}\n{}", report::SEPOL_HEAD, sepol_rows.join("\n"));
+    }
+    if let Some(reason) = option_env!("BENCH_NO_SEPOL") {
+        println!("\nNot compared with libsepol: {reason}.");
+    }
+    println!("{}", report::machine(rounds));
+    Ok(())
+}
+
+fn main() -> ExitCode {
+    let Some(options) = options() else {
+        eprintln!("usage: {USAGE}");
+        return ExitCode::FAILURE;
+    };
+    let mut cases = cases::all();
+    if let Some(name) = &options.case {
+        cases.retain(|case| case.name == *name);
+    }
+    if cases.is_empty() {
+        eprintln!("there is no such case; --list names them");
+        return ExitCode::FAILURE;
+    }
+    if options.list {
+        cases.iter().for_each(|case| println!("{}", case.name));
+        return ExitCode::SUCCESS;
+    }
+    match measure(&cases, options.rounds) {
+        Ok(()) => ExitCode::SUCCESS,
+        Err(message) => {
+            eprintln!("{message}");
+            ExitCode::FAILURE
+        }
+    }
+}
