@@ -10,7 +10,10 @@ fn main() {
     if let Err(reason) = link_sepol() {
         println!("cargo:rustc-env=BENCH_NO_SEPOL={reason}");
     }
-    println!("cargo:rustc-env=BENCH_COMPILER={}", first_line(Command::new(env::var("RUSTC").unwrap()).arg("--version")).unwrap_or_default());
+    println!(
+        "cargo:rustc-env=BENCH_COMPILER={}",
+        first_line(Command::new(env::var("RUSTC").unwrap()).arg("--version")).unwrap_or_default()
+    );
 }
 
 /// libcapi.a, from LURMENIZE_LIB_DIR or where `rt staticlib` puts it.

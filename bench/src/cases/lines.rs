@@ -21,13 +21,19 @@ fn write(random: &mut Random) -> Sides<(raw::Answer, [u8; 512])> {
     let labels = labels(random);
     let raw_labels = labels.iter().map(|label| raw::Label::from(*label)).collect();
     vec![
-        side(BUFFER, labels, |buffer, label| write_label(label, buffer), |buffer, result| {
-            (result.map(|length| length as u64).into(), *buffer)
-        }),
+        side(
+            BUFFER,
+            labels,
+            |buffer, label| write_label(label, buffer),
+            |buffer, result| (result.map(|length| length as u64).into(), *buffer),
+        ),
         // SAFETY: pointer and length are those of the buffer.
-        side(BUFFER, raw_labels, |buffer, label| unsafe { raw::lurm_write_label(*label, buffer.as_mut_ptr(), buffer.len()) }, |buffer, answer| {
-            (answer, *buffer)
-        }),
+        side(
+            BUFFER,
+            raw_labels,
+            |buffer, label| unsafe { raw::lurm_write_label(*label, buffer.as_mut_ptr(), buffer.len()) },
+            |buffer, answer| (answer, *buffer),
+        ),
     ]
 }
 

@@ -12,9 +12,11 @@ use crate::random::Random;
 
 const SEED: u64 = 0x6c75_726d_656e_697a;
 
+type Prepare = dyn Fn(&mut Random) -> Box<dyn Measurable>;
+
 pub struct Case {
     pub name: String,
-    prepare: Box<dyn Fn(&mut Random) -> Box<dyn Measurable>>,
+    prepare: Box<Prepare>,
 }
 
 impl Case {

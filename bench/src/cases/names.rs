@@ -99,8 +99,10 @@ fn spell_abbreviation(random: &mut Random) -> String {
 /// The line of an entry; half of all entries have an abbreviation.
 fn entry_line(random: &mut Random, used: &mut HashSet<String>, value: Value) -> Vec<u8> {
     let name = unused(used, MAX_NAME, || spell_name(random));
-    let abbreviated = random.once_in(2);
-    let abbreviation = abbreviated.then(|| unused(used, MAX_ABBREVIATION, || spell_abbreviation(random))).unwrap_or_default();
+    let abbreviation = match random.once_in(2) {
+        true => unused(used, MAX_ABBREVIATION, || spell_abbreviation(random)),
+        false => String::new(),
+    };
     let mut bytes = vec![4];
     match value {
         Value::Hierarchy(hierarchy) => bytes.extend([1, hierarchy]),

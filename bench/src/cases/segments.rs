@@ -124,7 +124,8 @@ fn sides_with_undo<T: Granted + 'static>(
     proved: impl Fn(&mut raw::Table, &Call<raw::Label>) -> raw::Outcome + 'static,
     proved_undo: impl Fn(&mut raw::Table, &Call<raw::Label>) + 'static,
 ) -> Sides<Left> {
-    let raw_call = |call: &Call<Label>| Call { tenant: call.tenant, label: raw::Label::from(call.label), place: call.place, number: call.number };
+    let raw_call =
+        |call: &Call<Label>| Call { tenant: call.tenant, label: raw::Label::from(call.label), place: call.place, number: call.number };
     let raw_calls = calls.iter().map(raw_call).collect();
     let stored = move |table: &mut raw::Table, call: &Call<raw::Label>| {
         let outcome = proved(table, call);

@@ -90,8 +90,7 @@ fn readings(random: &mut Random, table: &NamedTable) -> Vec<(Subject, Vec<u8>)> 
 fn read(random: &mut Random, entries: usize) -> Sides<raw::LabelAnswer> {
     let table = NamedTable::new(random, entries);
     let readings = readings(random, &table);
-    let raw_readings: Vec<(raw::Subject, Vec<u8>)> =
-        readings.iter().map(|(subject, text)| ((*subject).into(), text.clone())).collect();
+    let raw_readings: Vec<(raw::Subject, Vec<u8>)> = readings.iter().map(|(subject, text)| ((*subject).into(), text.clone())).collect();
     let bytes: Rc<[u8]> = table.bytes.into();
     let raw_bytes = bytes.clone();
     vec![

@@ -29,7 +29,7 @@ impl Label {
     }
 
     fn includes(&self, other: &Label) -> bool {
-        self.categories.iter().zip(&other.categories).all(|(own, others)| others & !own == 0)
+        self.categories.iter().zip(&other.categories).fold(0, |missing, (own, others)| missing | others & !own) == 0
     }
 
     pub fn region(&self) -> Region {
@@ -74,17 +74,11 @@ pub fn dominates(a: &Label, b: &Label) -> Result<bool, Refusal> {
 #[inline(never)]
 pub fn upper_bound(a: &Label, b: &Label) -> Result<Label, Refusal> {
     require_valid(&[a, b])?;
-    Ok(Label {
-        hierarchy: a.hierarchy.max(b.hierarchy),
-        categories: std::array::from_fn(|i| a.categories[i] | b.categories[i]),
-    })
+    Ok(Label { hierarchy: a.hierarchy.max(b.hierarchy), categories: std::array::from_fn(|i| a.categories[i] | b.categories[i]) })
 }
 
 #[inline(never)]
 pub fn lower_bound(a: &Label, b: &Label) -> Result<Label, Refusal> {
     require_valid(&[a, b])?;
-    Ok(Label {
-        hierarchy: a.hierarchy.min(b.hierarchy),
-        categories: std::array::from_fn(|i| a.categories[i] & b.categories[i]),
-    })
+    Ok(Label { hierarchy: a.hierarchy.min(b.hierarchy), categories: std::array::from_fn(|i| a.categories[i] & b.categories[i]) })
 }

@@ -5,7 +5,7 @@ use super::{require, Refusal};
 
 const LABEL_KIND: u8 = 1;
 /// Bytes of a label wherever it stands in a line.
-pub const LABEL_BYTES: usize = 33;
+const LABEL_BYTES: usize = 33;
 /// A label's line: kind, label, sum.
 const LABEL_LINE_BYTES: usize = LABEL_BYTES + 2;
 

@@ -1,18 +1,16 @@
 //! Alias tables: up to 512 lines, each of which names a hierarchy, a category or a label.
 
 use super::label::Label;
-use super::line::{decode, label_from, LABEL_BYTES};
+use super::line::{decode, label_from};
 use super::{require, Refusal};
-use std::borrow::Borrow;
 use std::collections::HashMap;
-use std::hash::{Hash, Hasher};
 
 const ENTRY_KIND: u8 = 4;
 const MAX_LINES: usize = 512;
 const MAX_NAME: usize = 31;
 const MAX_ABBREVIATION: usize = 15;
-/// An entry's longest line: kind, class, label, a name and an abbreviation with their lengths, sum.
-const MAX_ENTRY_BYTES: usize = 2 + LABEL_BYTES + 1 + MAX_NAME + 1 + MAX_ABBREVIATION + 1;
+/// About as many bytes as most lines have, to reserve memory by.
+const USUAL_LINE: usize = 50;
 
 #[derive(Clone, Copy, Debug, PartialEq, Eq)]
 pub enum Value {
@@ -21,79 +19,48 @@ pub enum Value {
     Label(Label),
 }
 
-/// A name, or an abbreviation, which may be empty.
-#[derive(Clone, Copy, Debug)]
-pub struct Name {
-    bytes: [u8; MAX_NAME],
-    length: u8,
+/// A length, up to `limit`, and as many bytes of a name at the front of `bytes`, and what follows them.
+fn take_name(bytes: &[u8], limit: usize) -> Option<(&[u8], &[u8])> {
+    let (&length, rest) = bytes.split_first()?;
+    let (name, rest) = rest.split_at_checked(length.into())?;
+    (name.len() <= limit && is_name(name)).then_some((name, rest))
 }
 
-impl Name {
-    /// Takes a length, up to `limit`, and as many bytes from the front of `bytes`.
-    fn take(bytes: &mut &[u8], limit: usize) -> Option<Name> {
-        let (&length, rest) = bytes.split_first()?;
-        let (taken, rest) = rest.split_at_checked(length.into())?;
-        if taken.len() > limit || !is_name(taken) {
-            return None;
-        }
-        let mut name = Name { bytes: [0; MAX_NAME], length };
-        name.bytes[..taken.len()].copy_from_slice(taken);
-        *bytes = rest;
-        Some(name)
-    }
+/// Which bytes a name may have after its first.
+const NAME_BYTES: [bool; 256] = name_bytes();
 
-    pub fn as_bytes(&self) -> &[u8] {
-        &self.bytes[..self.length.into()]
+const fn name_bytes() -> [bool; 256] {
+    let mut allowed = [false; 256];
+    let mut byte = 0u8;
+    while byte < 128 {
+        allowed[byte as usize] = byte.is_ascii_alphanumeric() || matches!(byte, b'_' | b'-' | b'.');
+        byte += 1;
     }
-
-    pub fn is_empty(&self) -> bool {
-        self.length == 0
-    }
+    allowed
 }
-
-// A name is compared and hashed as its bytes, so that a map of names can be asked for bytes.
-impl Borrow<[u8]> for Name {
-    fn borrow(&self) -> &[u8] {
-        self.as_bytes()
-    }
-}
-
-impl Hash for Name {
-    fn hash<H: Hasher>(&self, state: &mut H) {
-        self.as_bytes().hash(state);
-    }
-}
-
-impl PartialEq for Name {
-    fn eq(&self, other: &Name) -> bool {
-        self.as_bytes() == other.as_bytes()
-    }
-}
-
-impl Eq for Name {}
 
 /// Whether `bytes` are empty, or a letter and then letters, digits, `_`, `-` and `.`.
 fn is_name(bytes: &[u8]) -> bool {
-    let is_inner = |byte: &u8| byte.is_ascii_alphanumeric() || matches!(byte, b'_' | b'-' | b'.');
-    bytes.first().is_none_or(u8::is_ascii_alphabetic) && bytes.iter().all(is_inner)
+    bytes.first().is_none_or(u8::is_ascii_alphabetic) && bytes.iter().all(|byte| NAME_BYTES[usize::from(*byte)])
 }
 
 #[derive(Clone, Copy, Debug)]
-pub struct Entry {
+pub struct Entry<'a> {
     pub value: Value,
-    pub name: Name,
-    pub abbreviation: Name,
+    pub name: &'a [u8],
+    /// Empty where there is none.
+    pub abbreviation: &'a [u8],
 }
 
-impl Entry {
-    fn read(line: &[u8]) -> Option<Entry> {
-        let mut buffer = [0; MAX_ENTRY_BYTES];
-        let [ENTRY_KIND, class, rest @ ..] = decode(line, &mut buffer)? else {
+impl<'a> Entry<'a> {
+    /// The entry in a line, read into `buffer`.
+    fn read(line: &[u8], buffer: &'a mut [u8]) -> Option<Entry<'a>> {
+        let [ENTRY_KIND, class, rest @ ..] = decode(line, buffer)? else {
             return None;
         };
-        let (value, mut rest) = take_value(*class, rest)?;
-        let name = Name::take(&mut rest, MAX_NAME)?;
-        let abbreviation = Name::take(&mut rest, MAX_ABBREVIATION)?;
+        let (value, rest) = take_value(*class, rest)?;
+        let (name, rest) = take_name(rest, MAX_NAME)?;
+        let (abbreviation, rest) = take_name(rest, MAX_ABBREVIATION)?;
         (!name.is_empty() && rest.is_empty()).then_some(Entry { value, name, abbreviation })
     }
 }
@@ -112,19 +79,23 @@ fn take_value(class: u8, bytes: &[u8]) -> Option<(Value, &[u8])> {
 }
 
 /// A table that has been tested.
-pub struct Table {
-    entries: Vec<Entry>,
-    /// For each name and abbreviation the number of its entry.
-    names: HashMap<Name, usize>,
+pub struct Table<'a> {
+    entries: Vec<Entry<'a>>,
+    /// For each name and abbreviation the number of its entry. Hashing is as fast as sorting at 8 entries, and faster at 64 and 512.
+    names: HashMap<&'a [u8], usize>,
 }
 
-impl Table {
-    /// Tests each line and that all names differ. A table of which `more` follows is bad at its end.
-    pub fn read(bytes: &[u8], more: bool) -> Result<Table, Refusal> {
-        let lines = bytes.iter().filter(|byte| **byte == b'\n').count().min(MAX_LINES);
+impl<'a> Table<'a> {
+    /// Tests each line and that all names differ. A table of which `more` follows is bad at its end. Names stay in `buffer`.
+    pub fn read(bytes: &[u8], more: bool, buffer: &'a mut Vec<u8>) -> Result<Table<'a>, Refusal> {
+        buffer.resize(bytes.len() / 2, 0);
+        let lines = (bytes.len() / USUAL_LINE).min(MAX_LINES);
         let mut table = Table { entries: Vec::with_capacity(lines), names: HashMap::with_capacity(2 * lines) };
+        let mut rest = &mut buffer[..];
         for (number, line) in bytes.split_inclusive(|byte| *byte == b'\n').enumerate() {
-            let entry = Entry::read(line).filter(|_| number < MAX_LINES);
+            let (front, back) = rest.split_at_mut(line.len() / 2);
+            rest = back;
+            let entry = Entry::read(line, front).filter(|_| number < MAX_LINES);
             entry.and_then(|entry| table.add(entry)).ok_or(Refusal::BadLine(number))?;
         }
         require(!more, Refusal::BadLine(table.entries.len()))?;
@@ -132,7 +103,7 @@ impl Table {
     }
 
     /// Adds an entry, if its names are new.
-    fn add(&mut self, entry: Entry) -> Option<()> {
+    fn add(&mut self, entry: Entry<'a>) -> Option<()> {
         let number = self.entries.len();
         for name in [entry.name, entry.abbreviation] {
             if !name.is_empty() && self.names.insert(name, number).is_some() {
@@ -149,12 +120,12 @@ impl Table {
     }
 
     /// The last entry for a value.
-    pub fn entry(&self, value: Value) -> Option<&Entry> {
+    pub fn entry(&self, value: Value) -> Option<&Entry<'a>> {
         self.entries.iter().rev().find(|entry| entry.value == value)
     }
 }
 
 #[inline(never)]
 pub fn check_table(table: &[u8], more: bool) -> Result<usize, Refusal> {
-    Table::read(table, more).map(|table| table.entries.len())
+    Table::read(table, more, &mut Vec::new()).map(|table| table.entries.len())
 }

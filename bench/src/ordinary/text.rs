@@ -35,15 +35,15 @@ pub struct Style {
     pub variant: Variant,
 }
 
-fn written(entry: &Entry, variant: Variant) -> &[u8] {
+fn written<'a>(entry: &Entry<'a>, variant: Variant) -> &'a [u8] {
     match variant {
-        Variant::Abbreviations if !entry.abbreviation.is_empty() => entry.abbreviation.as_bytes(),
-        _ => entry.name.as_bytes(),
+        Variant::Abbreviations if !entry.abbreviation.is_empty() => entry.abbreviation,
+        _ => entry.name,
     }
 }
 
 /// The parts of a label's text, which follow one another: names and what joins them.
-fn parts<'a>(table: &'a Table, style: Style, label: &Label) -> Result<Vec<&'a [u8]>, Refusal> {
+fn parts<'a>(table: &Table<'a>, style: Style, label: &Label) -> Result<Vec<&'a [u8]>, Refusal> {
     if style.form == Form::Alias {
         if let Some(entry) = table.entry(Value::Label(*label)) {
             return Ok(vec![written(entry, style.variant)]);
@@ -67,7 +67,8 @@ pub fn write_label_text(
     label: &Label,
     out: &mut [u8],
 ) -> Result<usize, Refusal> {
-    let table = Table::read(table, more)?;
+    let mut buffer = Vec::new();
+    let table = Table::read(table, more, &mut buffer)?;
     require(label.is_valid() && subject.label.is_valid(), Refusal::Invalid)?;
     require(subject.may_see(label), Refusal::Denied)?;
     let parts = parts(&table, style, label)?;
@@ -101,7 +102,8 @@ fn parse(table: &Table, text: &[u8]) -> Option<Label> {
 
 #[inline(never)]
 pub fn read_label_text(table: &[u8], more: bool, subject: &Subject, text: &[u8]) -> Result<Label, Refusal> {
-    let table = Table::read(table, more)?;
+    let mut buffer = Vec::new();
+    let table = Table::read(table, more, &mut buffer)?;
     require(subject.label.is_valid(), Refusal::Invalid)?;
     parse(&table, text).filter(|label| subject.may_see(label)).ok_or(Refusal::Invalid)
 }
