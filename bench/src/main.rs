@@ -1,5 +1,7 @@
 //! Times the proved library beside an ordinary version of the same rules, and prints a table. docs/BENCHMARKS.md says how.
 
+#[cfg(test)]
+mod agreement;
 mod cases;
 mod convert;
 mod harness;

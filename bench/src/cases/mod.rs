@@ -3,7 +3,7 @@
 mod labels;
 mod lines;
 mod monitor;
-mod names;
+pub mod names;
 mod segments;
 mod texts;
 

@@ -104,6 +104,18 @@ fn texts() {
     assert_eq!(read_label_text(TABLE, true, &subject(label(200, &[])), b"low"), Err(Refusal::BadLine(2)));
 }
 
+fn file(label: Label) -> Object {
+    Object { class: Class::File(FileKind::Regular), label: Some(label), tuple: None }
+}
+
+fn fifo(label: Label) -> Object {
+    Object { class: Class::Fifo, ..file(label) }
+}
+
+fn memory(tuple: Tuple) -> Object {
+    Object { class: Class::SharedMemory, label: None, tuple: Some(tuple) }
+}
+
 /// PROGRAMS.md's worked run of the monitor.
 #[test]
 fn decisions() {
@@ -114,11 +126,8 @@ fn decisions() {
         write_override: false,
         relabel: false,
     };
-    let file = |label| Object { class: Class::File(FileKind::Regular), label: Some(label), tuple: None };
-    let fifo = |label| Object { class: Class::Fifo, ..file(label) };
     let (low, own, high) = (label(20, &[]), label(30, &[]), label(40, &[]));
     let contains = user(low, high);
-    let memory = |tuple| Object { class: Class::SharedMemory, label: None, tuple: Some(tuple) };
     let both = Object { tuple: Some(contains), ..file(high) };
     let directory = Object { class: Class::File(FileKind::Directory), ..file(low) };
     let outside = Credentials { label: label(50, &[]), ..plain };
