@@ -1,4 +1,4 @@
-//! Dominance and the bounds of pairs of labels, of which about half are comparable.
+//! Dominance and the bounds of pairs of labels, most of which are comparable.
 
 use super::{prepared, Case};
 use crate::harness::{side, Side, Sides};
