@@ -4,7 +4,7 @@ use mathlib.Core.Bool.{true, false, _&&_}
 use mathlib.Core.Logic.{⊎-elim}
 use mathlib.Core.Option.{Option, none, some, Option·none-ne-some}
 use mathlib.Core.Path.{_≡_, refl, sym, ap, ap₂, subst, _∙_}
-use Prim.Native.Nat.{ℕ, _+_, _/_, _<_, _≤_}
+use Prim.Native.Nat.{ℕ, _+_, _<_, _≤_}
 use native.Mathlib.Nat.{add-zero}
 use native.Mathlib.Omega.{arith}
 use borrow.Author.Tests.{le-leb, leb-true, lt-ltb, ltb-true}
@@ -60,12 +60,7 @@ pub own-bound : (s : SegmentTable) (t : TenantId) → t .0 < tenants → firstSl
 unfolding firstSlot slotCount
 own-bound s t h = omega arith
 
--- slot p is owned by tenant p / 8,
-pub owner-number : (s : SegmentTable) (p : Slot) → p .0 < slots → owns s (tenantId (p .0 / 8)) p ≡ true
-unfolding firstSlot slotCount
-owner-number s p h = own-of s (tenantId (p .0 / 8)) p (omega arith) (omega arith) (omega arith)
-
--- and no slot has two owners
+-- no slot has two owners
 pub owner-unique : (s : SegmentTable) (t u : TenantId) (p : Slot) → owns s t p ≡ true → owns s u p ≡ true → t ≡ u
 unfolding firstSlot slotCount
 owner-unique s t u p a b =

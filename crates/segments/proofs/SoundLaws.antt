@@ -1,10 +1,10 @@
 -- Soundness part by part, and that every call keeps it. Assumes nothing.
-use mathlib.Core.Bool.{Bool, true, false, cond, not, _&&_, _||_}
+use mathlib.Core.Bool.{Bool, true, false, cond, not, _&&_, _||_, and-false, true≢false}
 use mathlib.Core.Option.{none, some, Option·some-ne-none}
 use mathlib.Core.Path.{_≡_, refl, sym, ap, _∙_}
 use Prim.Native.Nat.{ℕ, _+_, _-_, _<_, _≤_}
 use native.Mathlib.Omega.{arith}
-use borrow.Author.Tests.{le-leb, leb-true, ltb-true}
+use borrow.Author.Tests.{le-leb, leb-true, ltb-true, ne-eqb}
 use lib.Dec.{leb, ltb}
 use Rattle.label.specs.Answer.{granted, require, testOf}
 use Rattle.label.specs.Index.{any}
@@ -12,14 +12,14 @@ use Rattle.label.specs.Label
 use Rattle.label.specs.declared.Label.{Label}
 use Rattle.label.specs.declared.answer.Test.{Test}
 use Rattle.label.proofs.AnswerLaws.{readBy, test-read}
-use Rattle.label.proofs.BoolLaws.{both, first-true, same-truth, second-true, three-true}
+use Rattle.label.proofs.BoolLaws.{both, first-true, not-so, same-truth, second-true, three-true}
 use Rattle.label.proofs.IndexLaws.{every-all, every-at}
 use Rattle.label.proofs.LabelLaws.{equal-exact}
-use Rattle.label.proofs.SearchLaws.{any-of, any-same, any-then, sum-but, sum-same}
+use Rattle.label.proofs.SearchLaws.{any-of, any-same, any-then, none-of, sum-but, sum-same}
 use Rattle.range.specs.Tuple
 use Rattle.range.specs.declared.tuple.Tuple.{Tuple}
 use Rattle.range.proofs.TupleLaws.{contained-valid}
-use Rattle.segments.specs.Parts.{ceilingsKept, segmentSound, slotsSound, tenantsSound}
+use Rattle.segments.specs.Parts.{Owned, ceilingsKept, segmentSound, slotsSound, tenantsSound}
 use Rattle.segments.specs.Calls.{callOf, cleared, lookedAt, slotFor, slotValid, stepOf, writable, written}
 use Rattle.segments.specs.Segments.{Lengths, ceilingAt, clearanceAt, maxPages, pagesAt, pagesValid, segmentAt, segmentOf, slot, slots, tenantAt, tenantId, tenants, withSegment, zeroSegment}
 use Rattle.segments.specs.Slots.{ceilingsOf, filled, firstSlot, owns, pagesOf, slotCount}
@@ -31,6 +31,7 @@ use Rattle.segments.specs.declared.SegmentTable.{SegmentTable}
 use Rattle.segments.specs.declared.Slot.{Slot}
 use Rattle.segments.specs.declared.Tenant.{Tenant}
 use Rattle.segments.specs.declared.TenantId.{TenantId}
+use Rattle.segments.specs.declared.slots.Owner.{Owner}
 use Rattle.segments.proofs.CallsLaws.{Effect, Passed, effect, look-next, looking, next-refused, refusing, valid-numbers, valid-tenant, writable-at, writable-own, writing}
 use Rattle.segments.proofs.SegmentsLaws.{segment-kept, segment-written}
 use Rattle.segments.proofs.SlotsLaws.{by-slot, by-tenant, lowest-own, count-kept, first-kept, own-of, own-pages, own-parts, own-slot, owner-unique, owns-kept, same-slot}
@@ -135,6 +136,29 @@ pub sound-by-owner : (s : SegmentTable) (p : Slot) (t : TenantId) → owns s t p
 unfolding segmentSound
 sound-by-owner s p t o =
     slot-held s p ∙ ap (λ (b : Bool). cond (leb 1 (pagesAt s p)) b (zeros (segmentAt s p))) (owner-clears s p (segmentAt s p .label) t o)
+
+-- a slot that nobody owns is sound where it holds zeros
+pub sound-unowned : (s : SegmentTable) (p : Slot) → any (λ t. owns s (tenantId t) p) tenants ≡ false → slotSound s p ≡ zeros (segmentAt s p)
+unfolding zeros
+sound-unowned s p n = slot-held s p ∙ go (segmentAt s p)
+  where
+    none : (l : Label) → any (clears s p l) tenants ≡ false
+    none l =
+        not-so (any (clears s p l) tenants) (λ e. any-then (clears s p l) tenants e (λ i h f.
+        true≢false (sym (clears-parts s p l i f .0) ∙ none-of (λ t. owns s (tenantId t) p) tenants i n h)))
+
+    go : (x : Segment) → held s p x ≡ zeros x
+    go x = by-pages (leb 1 (x .pages)) refl
+      where
+        by-pages : (b : Bool) → leb 1 (x .pages) ≡ b → held s p x ≡ zeros x
+        by-pages true e =
+            let l = leb-true 1 (x .pages) e in
+            rw (e, none (x .label), ne-eqb (x .pages) 0 (λ z. absurd (omega arith)), and-false (Label.equalOf (x .label) Label.zeroLabel))
+        by-pages false e = rw e
+
+-- what was found of a slot's owner, as the tenant or as nobody
+pub owned-as : (s : SegmentTable) (p : Slot) (o u : Owner) → Owned s p o → o ≡ u → Owned s p u
+owned-as s p o u h e = rw e at h
 
 held-filled : (s : SegmentTable) (p : Slot) (x : Segment) (u : TenantId) → 1 ≤ x .pages → owns s u p ≡ true → Tuple.containsOf (clearanceAt s u) (x .label) ≡ true → held s p x ≡ true
 held-filled s p x u h o e = rw (le-leb 1 (x .pages) h) (owner-clears s p (x .label) u o ∙ e)

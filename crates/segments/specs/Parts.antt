@@ -3,17 +3,17 @@
 use mathlib.Core.Bool.{Bool, true, false, cond}
 use mathlib.Core.Option.{Option, none, some}
 use mathlib.Core.Path.{_≡_}
-use Prim.Native.Nat.{ℕ, _+_, _-_}
+use Prim.Native.Nat.{ℕ, _+_, _-_, _<_}
 use lib.Dec.{leb}
 use Rattle.label.specs.Answer.{Answer, granted, require}
-use Rattle.label.specs.Index.{every}
+use Rattle.label.specs.Index.{any, every}
 use Rattle.label.specs.Label
 use Rattle.label.specs.declared.Label.{Label}
 use Rattle.range.specs.Tuple
 use Rattle.segments.specs.Calls.{callValid, cleared}
 use Rattle.segments.specs.Replies.{Grant, done}
 use Rattle.segments.specs.Segments.{ceilingAt, slot, slots, tenantAt, tenantId, tenants}
-use Rattle.segments.specs.Slots.{ceilingsOf}
+use Rattle.segments.specs.Slots.{ceilingsOf, owns}
 use Rattle.segments.specs.Sound.{slotSound, sound, tenantSound, underCeiling, zeros}
 use Rattle.segments.specs.declared.Call.{Call}
 use Rattle.segments.specs.declared.Outcome.{Outcome}
@@ -21,10 +21,12 @@ use Rattle.segments.specs.declared.Reply.{Reply}
 use Rattle.segments.specs.declared.Segment.{Segment}
 use Rattle.segments.specs.declared.SegmentTable.{SegmentTable}
 use Rattle.segments.specs.declared.Slot.{Slot}
-use Rattle.segments.specs.declared.Tenant.{Tenant}
+use Rattle.segments.specs.declared.Tenant as records
 use Rattle.segments.specs.declared.TenantId.{TenantId}
 use Rattle.segments.specs.declared.slots.Free.{Free}
 use Rattle.segments.specs.declared.slots.Free.the-variants.{At, Nothing}
+use Rattle.segments.specs.declared.slots.Owner.{Owner}
+use Rattle.segments.specs.declared.slots.Owner.the-variants.{Tenant, Nobody}
 use Rattle.segments.specs.declared.slots.Remaining.{Remaining}
 use Rattle.segments.specs.declared.slots.Remaining.the-variants.{Pages, Exceeded}
 
@@ -37,6 +39,13 @@ freeOf Nothing = none
 abbrev pub remainingOf : Remaining → Option ℕ
 remainingOf (Pages n) = some n
 remainingOf Exceeded = none
+
+-- ---- owners
+
+-- r says whose slot p is: a tenant's, or nobody's
+abbrev pub Owned : SegmentTable → Slot → Owner → Type 0
+Owned s p (Tenant t) = (t .0 < tenants) × (owns s t p ≡ true)
+Owned s p Nobody = any (λ t. owns s (tenantId t) p) tenants ≡ false
 
 -- ---- limits
 
@@ -64,7 +73,7 @@ abbrev pub tenantsSound : SegmentTable → Bool
 tenantsSound s = every (λ t. tenantSound (tenantAt s (tenantId t))) tenants
 
 -- whether a slot may hold x where that tenant owns it
-unfoldable pub segmentSound : Segment → Tenant → Bool
+unfoldable pub segmentSound : Segment → records.Tenant → Bool
 segmentSound x owner = cond (leb 1 (x .pages)) (Tuple.containsOf (owner .clearance) (x .label)) (zeros x)
 
 abbrev pub slotsSound : SegmentTable → Bool

@@ -4,10 +4,9 @@ use crate::Slot;
 use crate::TENANTS;
 use crate::TenantId;
 ghost use mathlib.Core.Path.{_≡_};
-ghost use mathlib.Core.Bool.{true};
 ghost use Prim.Native.Nat.{_<_};
 ghost use Rattle.segments.specs.Calls as calls;
-ghost use Rattle.segments.specs.Parts.{fitsIn, freeOf, keptIn, leftOf, remainingOf};
+ghost use Rattle.segments.specs.Parts.{Owned, fitsIn, freeOf, keptIn, leftOf, remainingOf};
 ghost use Rattle.segments.specs.Segments.{slots, tenants};
 ghost use Rattle.segments.specs.Slots as rules;
 
@@ -17,13 +16,19 @@ pub(crate) enum Free {
     Nothing,
 }
 
+// Whose a slot is.
+pub(crate) enum Owner {
+    Tenant(TenantId),
+    Nobody,
+}
+
 // What is left of a limit, or that it is exceeded.
 pub(crate) enum Remaining {
     Pages(u64),
     Exceeded,
 }
 
-// The first slot of t's own. This function and the next two alone know which slots a tenant owns: t owns 8t to 8t+7.
+// The first slot of t's own. This function and the next alone know which slots a tenant owns: t owns 8t to 8t+7.
 pub(crate) fn first_slot(s: SegmentTable, t: TenantId) -> u64
     requires { ⌜ t .0 < tenants ⌝ }
     ensures { λ r. ⌜ r ≡ rules.firstSlot s t ⌝ }
@@ -38,14 +43,6 @@ pub(crate) fn slot_count(s: SegmentTable, t: TenantId) -> u64
     8
 }
 
-// Whose p is.
-pub(crate) fn owner(s: SegmentTable, p: Slot) -> TenantId
-    requires { ⌜ p .0 < slots ⌝ }
-    ensures { λ r. ⌜ (r .0 < tenants) × (rules.owns s r p ≡ true) ⌝ }
-{
-    TenantId(p.0 / 8)
-}
-
 // Whether p is t's own.
 pub(crate) fn owns(s: SegmentTable, t: TenantId, p: Slot) -> bool
     ensures { λ r. ⌜ r ≡ rules.owns s t p ⌝ }
@@ -56,6 +53,20 @@ pub(crate) fn owns(s: SegmentTable, t: TenantId, p: Slot) -> bool
         return (first <= p.0) & (p.0 < end);
     }
     false
+}
+
+// Whose p is, if anybody's.
+pub(crate) fn owner_of(s: SegmentTable, p: Slot) -> Owner
+    ensures { λ r. ⌜ Owned s p r ⌝ }
+{
+    let mut i: u64 = 0;
+    while i < TENANTS as u64 {
+        if owns(s, TenantId(i), p) {
+            return Owner::Tenant(TenantId(i));
+        }
+        i += 1;
+    }
+    Owner::Nobody
 }
 
 // Whether p has pages.

@@ -8,6 +8,7 @@ use crate::TENANTS;
 use crate::Tenant;
 use crate::TenantId;
 use crate::slots;
+use crate::slots::Owner;
 use crate::slots::Remaining;
 use label::answer::Number;
 use label::answer::Test;
@@ -81,13 +82,24 @@ fn segment_sound(x: Segment, owner: Tenant) -> bool
     zeros(x)
 }
 
+// Whether a slot is sound: by its owner's record, or, where nobody owns it, by zeros.
+fn slot_sound(s: SegmentTable, p: Slot) -> bool
+    requires { ⌜ p .0 < slots ⌝ }
+    ensures { λ r. ⌜ r ≡ rules.slotSound s p ⌝ }
+{
+    let owner = slots::owner_of(s, p);
+    match owner {
+        Owner::Tenant(t) => segment_sound(s.segments[p.0 as usize], s.tenants[t.0 as usize]),
+        Owner::Nobody => zeros(s.segments[p.0 as usize]),
+    }
+}
+
 fn slots_sound(s: SegmentTable) -> bool
     ensures { λ r. ⌜ r ≡ slotsSound s ⌝ }
 {
     let mut i: u64 = 0;
     while i < SLOTS as u64 {
-        let t = slots::owner(s, Slot(i));
-        if !segment_sound(s.segments[i as usize], s.tenants[t.0 as usize]) {
+        if !slot_sound(s, Slot(i)) {
             return false;
         }
         i += 1;

@@ -1,12 +1,9 @@
 use borrow.Author.Needs.{needs}
-use mathlib.Core.Path.{_≡_, sym, _∙_}
 use Prim.Native.Nat.{_-_}
-use native.Mathlib.Omega.{arith}
 use Rattle.label.proofs.BoolLaws.{told-false, told-true}
 use Rattle.label.proofs.IndexLaws.{Tested, test-all, test-next, test-none, test-stop}
 use Rattle.segments.specs.Segments.{slot, slots}
 use Rattle.segments.specs.Sound.{slotSound}
-use Rattle.segments.proofs.SoundLaws.{sound-by-owner}
 use Rattle.segments.proofs.state.slots_sound.Statement.{statement}
 use Rattle.segments.proofs.state.slots_sound.Tie as tie
 
@@ -19,28 +16,14 @@ abbrev μ-loop : tie.MeasureT-loop
 loop-holds : tie.Need-loop-holds Inv-loop μ-loop
 loop-holds c = test-none
 
-mul-owner : tie.Need-mul-segment-sound-2 Inv-loop μ-loop
-mul-owner c = let h = c .before .owner .ensures .0 in omega arith
-
-copy-owner : tie.Need-element-copy-out-segment-sound-2 Inv-loop μ-loop
-copy-owner c = let h = c .before .owner .ensures .0 in omega arith
-
--- what was found of slot i
-found : (c : tie.After-segment-sound Inv-loop μ-loop) → let h = c .before .before .before .before in
-    c .segment-sound .result ≡ slotSound (h .before .before .args .t1) (slot (h .before .loop .i))
-found c =
-    let o = c .before .before .before in
-    c .segment-sound .ensures ∙ sym (sound-by-owner _ _ _ (o .owner .ensures .1))
-
 returns : tie.Need-returns Inv-loop μ-loop
-returns c = let h = c .before .before .before .before .before in test-stop (h .before .loop .inv) (h .loop-test .taken) (told-false (found (c .before)) (c .if1 .taken))
+returns c = let h = c .before .before in test-stop (h .before .loop .inv) (h .loop-test .taken) (told-false (c .before .slot-sound .ensures) (c .if1 .taken))
 
 loop-again : tie.Need-loop-again Inv-loop μ-loop
-loop-again c = let h = c .before .before .before .before .before in test-next (h .before .loop .inv) (h .loop-test .taken) (told-true (found (c .before)) (c .if1 .left))
+loop-again c = let h = c .before .before in test-next (h .before .loop .inv) (h .loop-test .taken) (told-true (c .before .slot-sound .ensures) (c .if1 .left))
 
 returns-2 : tie.Need-returns-2 Inv-loop μ-loop
 returns-2 c = test-all (c .before .loop .inv) (c .loop-test .left)
 
 pub slots-sound-spec : {M : Type 1} → statement M
-slots-sound-spec =
-    tie.close (tie.spec Inv-loop μ-loop loop-holds (search needs) (search needs) (search needs) mul-owner copy-owner (search needs) returns (search needs) (search needs) loop-again returns-2)
+slots-sound-spec = tie.close (tie.spec Inv-loop μ-loop loop-holds (λ c. search needs) returns (search needs) (search needs) loop-again returns-2)
