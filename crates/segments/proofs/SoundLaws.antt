@@ -32,6 +32,7 @@ use Rattle.segments.specs.declared.Slot.{Slot}
 use Rattle.segments.specs.declared.Tenant.{Tenant}
 use Rattle.segments.specs.declared.TenantId.{TenantId}
 use Rattle.segments.specs.declared.slots.Owner.{Owner}
+use Rattle.segments.specs.declared.slots.Owner.the-variants.{Tenant as ByTenant, Nobody}
 use Rattle.segments.proofs.CallsLaws.{Effect, Passed, effect, look-next, looking, next-refused, refusing, valid-numbers, valid-tenant, writable-at, writable-own, writing}
 use Rattle.segments.proofs.SegmentsLaws.{segment-kept, segment-written}
 use Rattle.segments.proofs.SlotsLaws.{by-slot, by-tenant, lowest-own, count-kept, first-kept, own-of, own-pages, own-parts, own-slot, owner-unique, owns-kept, same-slot}
@@ -156,9 +157,12 @@ sound-unowned s p n = slot-held s p ∙ go (segmentAt s p)
             rw (e, none (x .label), ne-eqb (x .pages) 0 (λ z. absurd (omega arith)), and-false (Label.equalOf (x .label) Label.zeroLabel))
         by-pages false e = rw e
 
--- what was found of a slot's owner, as the tenant or as nobody
-pub owned-as : (s : SegmentTable) (p : Slot) (o u : Owner) → Owned s p o → o ≡ u → Owned s p u
-owned-as s p o u h e = rw e at h
+-- what was found of a slot's owner: a tenant, or nobody
+pub owned-by : (s : SegmentTable) (p : Slot) (o : Owner) (t : TenantId) → Owned s p o → o ≡ ByTenant t → (t .0 < tenants) × (owns s t p ≡ true)
+owned-by s p o t h e = rw e at h
+
+pub owned-by-nobody : (s : SegmentTable) (p : Slot) (o : Owner) → Owned s p o → o ≡ Nobody → any (λ t. owns s (tenantId t) p) tenants ≡ false
+owned-by-nobody s p o h e = rw e at h
 
 held-filled : (s : SegmentTable) (p : Slot) (x : Segment) (u : TenantId) → 1 ≤ x .pages → owns s u p ≡ true → Tuple.containsOf (clearanceAt s u) (x .label) ≡ true → held s p x ≡ true
 held-filled s p x u h o e = rw (le-leb 1 (x .pages) h) (owner-clears s p (x .label) u o ∙ e)

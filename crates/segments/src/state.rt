@@ -82,24 +82,20 @@ fn segment_sound(x: Segment, owner: Tenant) -> bool
     zeros(x)
 }
 
-// Whether a slot is sound: by its owner's record, or, where nobody owns it, by zeros.
-fn slot_sound(s: SegmentTable, p: Slot) -> bool
-    requires { ⌜ p .0 < slots ⌝ }
-    ensures { λ r. ⌜ r ≡ rules.slotSound s p ⌝ }
-{
-    let owner = slots::owner_of(s, p);
-    match owner {
-        Owner::Tenant(t) => segment_sound(s.segments[p.0 as usize], s.tenants[t.0 as usize]),
-        Owner::Nobody => zeros(s.segments[p.0 as usize]),
-    }
-}
-
+// Whether a slot is sound: by its owner's record, or, where nobody owns it, by zeros. The loop takes records and segments out itself: a
+// function that it handed the state would be handed a copy each time.
 fn slots_sound(s: SegmentTable) -> bool
     ensures { λ r. ⌜ r ≡ slotsSound s ⌝ }
 {
     let mut i: u64 = 0;
     while i < SLOTS as u64 {
-        if !slot_sound(s, Slot(i)) {
+        let owner = slots::owner_of(s, Slot(i));
+        let x = s.segments[i as usize];
+        let good = match owner {
+            Owner::Tenant(t) => segment_sound(x, s.tenants[t.0 as usize]),
+            Owner::Nobody => zeros(x),
+        };
+        if !good {
             return false;
         }
         i += 1;
