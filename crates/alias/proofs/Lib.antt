@@ -1,3 +1,4 @@
+pub mod KeyLaws
 pub mod LinesLaws
 pub mod LookupLaws
 pub mod TableLaws

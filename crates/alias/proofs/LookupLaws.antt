@@ -110,10 +110,10 @@ module _ (bytes starts : List ℕ) where
   pub entries-at : (k : ℕ) → k < length starts - 1 → entryAt (entriesBy bytes starts) k ≡ standingIn (lineAt (linesBy bytes starts) k)
   entries-at k h = let l = lines-length bytes starts in entry-of (linesBy bytes starts) k (omega arith)
 
-  -- a test of an entry, by the line that it stands in
-  pub entry-test : (t : Entry → Bool) (k : ℕ) {line : List ℕ} {x : Bool} → k < length starts - 1 → line ≡ lineAt (linesBy bytes starts) k → x ≡ t (standingIn line)
+  -- what is made of an entry, by the line that it stands in
+  pub entry-test : {A : Type 0} (t : Entry → A) (k : ℕ) {line : List ℕ} {x : A} → k < length starts - 1 → line ≡ lineAt (linesBy bytes starts) k → x ≡ t (standingIn line)
       → t (entryAt (entriesBy bytes starts) k) ≡ x
-  entry-test t k {line} {x} h e f = rw (f, e, entries-at k h)
+  entry-test {A} t k {line} {x} h e f = rw (f, e, entries-at k h)
 
   -- a search of the entries at entry k, by the test of its line: it ends there, or goes on
   pub entry-step : (t : Entry → Bool) (k n : ℕ) {line : List ℕ} {x : Bool} (b : Bool) → k < length starts - 1 → k < n → line ≡ lineAt (linesBy bytes starts) k

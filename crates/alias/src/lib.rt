@@ -1,5 +1,6 @@
 // Alias tables: 0 to 512 lines of kind 04, one after another in a lent slice. `check` tests a table and gives where its lines begin; the look-ups
 // take the table and these starts, and walk the lines where they stand.
+mod keys;
 mod lines;
 pub mod lookup;
 mod names;

@@ -1,5 +1,8 @@
 // Names that are repeated in a table.
 use crate::Found;
+use crate::MAX_LINES;
+use crate::keys::fill;
+use crate::keys::may_share;
 use crate::lookup::count;
 use crate::lookup::line;
 use crate::names::repeats_itself;
@@ -8,19 +11,45 @@ ghost use mathlib.Core.Path.{_≡_};
 ghost use Prim.Native.Nat.{_-_, _<_};
 ghost use lib.ListN.{length};
 ghost use Rattle.label.specs.Index.{any};
+ghost use Rattle.alias.specs.Keys.{Keys, keyed};
 ghost use Rattle.alias.specs.Lines.{entriesBy, entryAt};
 ghost use Rattle.alias.specs.Lookup.{foundOf};
 ghost use Rattle.alias.specs.Table.{firstRepeat, repeatsAt, sharesOf};
 
+// Whether entry k has a name in common with an earlier entry j. The names are read where their keys leave it open.
+fn shared(
+    table: &[u8],
+    starts: &[usize],
+    names: &[u64; MAX_LINES],
+    others: &[u64; MAX_LINES],
+    j: usize,
+    k: usize,
+) -> bool
+    requires { ⌜ (j < k) × (k < length (now starts) - 1) ⌝ }
+    requires { ⌜ Keys (entriesBy (now table) (now starts)) (keyed (length (now starts) - 1)) (now names) (now others) ⌝ }
+    ensures { λ r. ⌜ r ≡ sharesOf (entryAt (entriesBy (now (table .entry)) (now (starts .entry))) j) (entryAt (entriesBy (now (table .entry)) (now (starts .entry))) k) ⌝ }
+{
+    if !may_share(names, others, j, k) {
+        return false;
+    }
+    shares(line(table, starts, j), line(table, starts, k))
+}
+
 // Whether an entry before entry k has a name in common with it.
-fn shared_before(table: &[u8], starts: &[usize], k: usize) -> bool
+fn shared_before(
+    table: &[u8],
+    starts: &[usize],
+    names: &[u64; MAX_LINES],
+    others: &[u64; MAX_LINES],
+    k: usize,
+) -> bool
     requires { ⌜ k < length (now starts) - 1 ⌝ }
+    requires { ⌜ Keys (entriesBy (now table) (now starts)) (keyed (length (now starts) - 1)) (now names) (now others) ⌝ }
     ensures { λ r. ⌜ r ≡ any (λ j. sharesOf (entryAt (entriesBy (now (table .entry)) (now (starts .entry))) j) (entryAt (entriesBy (now (table .entry)) (now (starts .entry))) k)) k ⌝ }
 {
-    let own = line(table, starts, k);
     let mut j = 0;
     while j < k {
-        if shares(line(table, starts, j), own) {
+        if shared(table, starts, names, others, j, k) {
             return true;
         }
         j += 1;
@@ -29,21 +58,31 @@ fn shared_before(table: &[u8], starts: &[usize], k: usize) -> bool
 }
 
 // Whether entry k repeats a name, its own or that of an earlier entry.
-fn repeats(table: &[u8], starts: &[usize], k: usize) -> bool
+fn repeats(
+    table: &[u8],
+    starts: &[usize],
+    names: &[u64; MAX_LINES],
+    others: &[u64; MAX_LINES],
+    k: usize,
+) -> bool
     requires { ⌜ k < length (now starts) - 1 ⌝ }
+    requires { ⌜ Keys (entriesBy (now table) (now starts)) (keyed (length (now starts) - 1)) (now names) (now others) ⌝ }
     ensures { λ r. ⌜ r ≡ repeatsAt (entriesBy (now (table .entry)) (now (starts .entry))) k ⌝ }
 {
-    repeats_itself(line(table, starts, k)) | shared_before(table, starts, k)
+    repeats_itself(line(table, starts, k)) | shared_before(table, starts, names, others, k)
 }
 
 // The first entry that repeats a name.
 pub(crate) fn first(table: &[u8], starts: &[usize]) -> Found
     ensures { λ r. ⌜ foundOf r ≡ firstRepeat (entriesBy (now (table .entry)) (now (starts .entry))) ⌝ }
 {
+    let mut names = [0u64; MAX_LINES];
+    let mut others = [0u64; MAX_LINES];
+    fill(table, starts, &mut names, &mut others);
     let n = count(starts);
     let mut k = 0;
     while k < n {
-        if repeats(table, starts, k) {
+        if repeats(table, starts, &names, &others, k) {
             return Found::At(k);
         }
         k += 1;

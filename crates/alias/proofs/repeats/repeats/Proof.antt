@@ -7,6 +7,9 @@ use Rattle.alias.proofs.LookupLaws.{entry-test}
 use Rattle.alias.proofs.repeats.repeats.Statement.{statement}
 use Rattle.alias.proofs.repeats.repeats.Tie as tie
 
+shared-before-requires : tie.Need-shared-before-requires
+shared-before-requires c κs = c .before .before .before .before .pre
+
 returns : tie.Need-returns
 unfolding repeatsAt
 returns c =
@@ -18,4 +21,4 @@ returns c =
     )
 
 pub repeats-spec : {M : Type 1} → statement M
-repeats-spec = tie.close (tie.spec (search needs) (search needs) (search needs) returns)
+repeats-spec = tie.close (tie.spec (search needs) (search needs) shared-before-requires returns)

@@ -1,0 +1,50 @@
+-- Keys of names, which tell most names apart without reading them: for functions that are not public. Assumes nothing.
+use mathlib.Core.Bool.{Bool, cond, _||_}
+use mathlib.Core.List.{List, [], _∷_}
+use mathlib.Core.Path.{_≡_}
+use Prim.Native.Nat.{ℕ, _+_, _*_, _%_, min}
+use lib.Dec.{eqb, leb}
+use lib.ListN.{getD, length, take}
+use Rattle.label.specs.Index.{tabulate}
+use Rattle.hexline.specs.Entry.{abbreviationBytes, nameBytes}
+use Rattle.hexline.specs.declared.entry.Entry.{Entry}
+use Rattle.alias.specs.Lines.{entryAt, maxLines}
+
+-- a key with one byte more. It fits a word: the first number is 2 ^ 48, the second below 2 ^ 16
+abbrev pub nextKey : ℕ → ℕ → ℕ
+nextKey key b = key % 281474976710656 * 65521 + b
+
+unfoldable pub keyFrom : ℕ → List ℕ → ℕ
+keyFrom key [] = key
+keyFrom key (b ∷ bs) = keyFrom (nextKey key b) bs
+
+-- the key of bytes: any function of them would do
+unfoldable pub keyOf : List ℕ → ℕ
+keyOf bs = keyFrom (length bs) bs
+
+-- an entry's other name: its abbreviation, and its name where that is empty
+unfoldable pub otherBytes : Entry → List ℕ
+otherBytes e = cond (leb 1 (length (abbreviationBytes e))) (abbreviationBytes e) (nameBytes e)
+
+-- so many of n entries have keys
+abbrev pub keyed : ℕ → ℕ
+keyed n = min n maxLines
+
+abbrev pub nameKey : List Entry → ℕ → ℕ
+nameKey es k = keyOf (nameBytes (entryAt es k))
+
+abbrev pub otherKey : List Entry → ℕ → ℕ
+otherKey es k = keyOf (otherBytes (entryAt es k))
+
+-- the first n of each are the keys of the entries' names, and of their other names
+pub record Keys (es : List Entry) (n : ℕ) (names others : List ℕ) : Type 0 where
+  pub name : take n names ≡ tabulate (nameKey es) n
+  pub other : take n others ≡ tabulate (otherKey es) n
+
+-- whether one of a and b is one of c and d
+abbrev pub meet : ℕ → ℕ → ℕ → ℕ → Bool
+meet a b c d = (eqb a c || eqb b c) || (eqb a d || eqb b d)
+
+-- whether entry k, by its keys, may have a name in common with an earlier entry j: one that has no keys may
+unfoldable pub mayShare : List ℕ → List ℕ → ℕ → ℕ → Bool
+mayShare names others j k = leb maxLines k || meet (getD names j 0) (getD others j 0) (getD names k 0) (getD others k 0)
