@@ -1,5 +1,5 @@
 -- The laws of the keys of names: names that are the same have the same key. Assumes nothing.
-use mathlib.Core.Bool.{Bool, true, false, _&&_, _||_, true≢false}
+use mathlib.Core.Bool.{Bool, true, false, not, _&&_, _||_, true≢false}
 use mathlib.Core.List.{List, _∷_}
 use mathlib.Core.Logic.{⊎-elim}
 use mathlib.Core.Path.{_≡_, refl, sym, ap, _∙_}
@@ -10,9 +10,10 @@ use lib.Dec.{eqb, leb}
 use lib.ListN.{drop, getD, length, take, drop-of-length-le}
 use lib.Seq.{drop-cons, getD-take}
 use borrow.Author.Tests.{eq-eqb, le-leb, leb-false, lt-leb}
-use Rattle.label.specs.Index.{tabulate}
+use Rattle.label.specs.Index.{any, every, tabulate}
 use Rattle.label.proofs.BoolLaws.{either, first-true, neither, not-so, or-first, or-second, second-true}
-use Rattle.label.proofs.IndexLaws.{Filled, tabulate-at}
+use Rattle.label.proofs.IndexLaws.{Filled, every-all, tabulate-at}
+use Rattle.label.proofs.SearchLaws.{none-of}
 use Rattle.octets.specs.Bytes.{sameBytes}
 use Rattle.octets.proofs.ByteLaws.{same-is}
 use Rattle.frame.specs.Frame.{bodyOf}
@@ -22,7 +23,7 @@ use Rattle.hexline.specs.Line.{abbreviationIn, nameIn, standingIn}
 use Rattle.hexline.specs.declared.entry.Entry.{Entry}
 use Rattle.hexline.specs.declared.entry.Span.{Span}
 use Rattle.hexline.proofs.StandingLaws.{abbreviation-stands, name-stands, span-at, span-length}
-use Rattle.alias.specs.Keys.{Keys, keyFrom, keyOf, keyed, mayShare, meet, nameKey, nextKey, otherBytes, otherKey}
+use Rattle.alias.specs.Keys.{Keys, halfOf, keyFrom, keyOf, keyed, meet, meetAt, metBefore, nameKey, nextKey, otherBytes, otherKey}
 use Rattle.alias.specs.Lines.{entryAt, maxLines}
 use Rattle.alias.specs.Lookup.{calledOf}
 use Rattle.alias.specs.Table.{sharesOf}
@@ -33,12 +34,12 @@ use Rattle.alias.proofs.LookupLaws.{sharesAt}
 -- the first i bytes have that key
 pub record KeySoFar (bs : List ℕ) (s : Span) (key i : ℕ) : Type 0 where
   pub within : i ≤ s .length
-  pub rest : keyOf (spanBytes bs s) ≡ keyFrom key (drop i (spanBytes bs s))
+  pub rest : keyOf (spanBytes bs s) ≡ halfOf (keyFrom key (drop i (spanBytes bs s)))
 
 module _ (bs : List ℕ) (s : Span) where
   pub key-start : KeySoFar bs s (s .length) 0
   unfolding keyOf
-  key-start = record { within = omega arith; rest = ap (λ (n : ℕ). keyFrom n (spanBytes bs s)) (span-length bs s) }
+  key-start = record { within = omega arith; rest = ap (λ (n : ℕ). halfOf (keyFrom n (spanBytes bs s))) (span-length bs s) }
 
   pub key-next : {key i x : ℕ} → KeySoFar bs s key i → i < s .length → x ≡ byteAt bs (s .at + i) → KeySoFar bs s (nextKey key x) (i + 1)
   unfolding keyFrom
@@ -46,14 +47,14 @@ module _ (bs : List ℕ) (s : Span) where
       let m = span-length bs s in
       let b : getD (spanBytes bs s) i 0 ≡ x = span-at bs s i l ∙ sym e in
       let r : drop i (spanBytes bs s) ≡ x ∷ drop (i + 1) (spanBytes bs s) = rw (drop-cons (spanBytes bs s) i 0 (omega arith), b, add-one) in
-      record { within = omega arith; rest = h .rest ∙ ap (keyFrom key) r }
+      record { within = omega arith; rest = h .rest ∙ ap (λ (xs : List ℕ). halfOf (keyFrom key xs)) r }
 
-  pub key-end : {key i : ℕ} → KeySoFar bs s key i → s .length ≤ i → key ≡ keyOf (spanBytes bs s)
+  pub key-end : {key i : ℕ} → KeySoFar bs s key i → s .length ≤ i → halfOf key ≡ keyOf (spanBytes bs s)
   unfolding keyFrom
   key-end {key} {i} h l =
       let m = span-length bs s in
       let n : length (spanBytes bs s) ≤ i = omega arith in
-      sym (h .rest ∙ ap (keyFrom key) (drop-of-length-le (spanBytes bs s) n))
+      sym (h .rest ∙ ap (λ (xs : List ℕ). halfOf (keyFrom key xs)) (drop-of-length-le (spanBytes bs s) n))
 
 -- ---- an entry's other name
 
@@ -106,6 +107,25 @@ shared-keys e f h =
     (λ u. or-second (eqb (keyOf (nameBytes e)) (keyOf (nameBytes f)) || eqb (keyOf (otherBytes e)) (keyOf (nameBytes f))) (called-keys e (otherBytes f) (rw (abbreviated f (first-true p q u)) (second-true p q u))))
     (either (calledOf e (nameBytes f)) (p && q) h)
 
+-- ---- a loop that asks whether f holds at some number
+
+module _ (f : ℕ → Bool) where
+  any-none : (n : ℕ) → ((i : ℕ) → i < n → f i ≡ false) → any f n ≡ false
+  any-none n h = ap not (every-all (λ i. not (f i)) n (λ i l. ap not (h i l)))
+
+  pub any-start : false ≡ any f 0
+  unfolding every
+  any-start = refl
+
+  pub any-next : (n : ℕ) → (any f n || f n) ≡ any f (n + 1)
+  unfolding every
+  any-next n = rw add-one (pick (every (λ i. not (f i)) n) (f n))
+    where
+      pick : (p q : Bool) → (not p || q) ≡ not (p && not q)
+      pick true true = refl
+      pick true false = refl
+      pick false q = refl
+
 -- ---- the lists of keys
 
 -- a loop that fills them has those of the first k of n entries
@@ -124,21 +144,21 @@ fill-done {es} {n} {names} {others} {k} h l =
 key-at : (f : ℕ → ℕ) (n k : ℕ) (xs : List ℕ) → take n xs ≡ tabulate f n → k < n → getD xs k 0 ≡ f k
 key-at f n k xs e h = sym (getD-take n xs k 0 h) ∙ ap (λ (ys : List ℕ). getD ys k 0) e ∙ tabulate-at f n k 0 h
 
-module _ {es : List Entry} (n : ℕ) {names others : List ℕ} (h : Keys es (keyed n) names others) where
-  met : (j k : ℕ) → j < k → k < keyed n → sharesAt es k j ≡ true → meet (getD names j 0) (getD others j 0) (getD names k 0) (getD others k 0) ≡ true
-  met j k l m e =
+module _ {es : List Entry} (n : ℕ) {names others : List ℕ} (h : Keys es (keyed n) names others) (k : ℕ) (l : k < n) where
+  meeting : (j : ℕ) → j < k → k < maxLines → sharesAt es k j ≡ true → meetAt names others k j ≡ true
+  meeting j m f e =
       rw (
         key-at (nameKey es) (keyed n) j names (h .name) (omega arith),
         key-at (otherKey es) (keyed n) j others (h .other) (omega arith),
-        key-at (nameKey es) (keyed n) k names (h .name) m,
-        key-at (otherKey es) (keyed n) k others (h .other) m,
+        key-at (nameKey es) (keyed n) k names (h .name) (omega arith),
+        key-at (otherKey es) (keyed n) k others (h .other) (omega arith),
       )
       (shared-keys (entryAt es j) (entryAt es k) e)
 
-  -- entries that may not have a name in common, by their keys, have none
-  pub no-meeting : (j k : ℕ) → j < k → k < n → mayShare names others j k ≡ false → sharesAt es k j ≡ false
-  unfolding mayShare
-  no-meeting j k l m e =
+  -- an entry that may have no name in common with an earlier one, by its keys, has none
+  pub not-met : metBefore names others k ≡ false → any (sharesAt es k) k ≡ false
+  unfolding metBefore
+  not-met e =
       let d = neither (leb maxLines k) _ e in
       let f = leb-false maxLines k (d .0) in
-      not-so (sharesAt es k j) (λ s. true≢false (sym (met j k l (omega arith) s) ∙ d .1))
+      any-none (sharesAt es k) k (λ j m. not-so (sharesAt es k j) (λ s. true≢false (sym (meeting j m f s) ∙ none-of (meetAt names others k) k j (d .1) m)))

@@ -2,25 +2,29 @@
 use mathlib.Core.Bool.{Bool, cond, _||_}
 use mathlib.Core.List.{List, [], _∷_}
 use mathlib.Core.Path.{_≡_}
-use Prim.Native.Nat.{ℕ, _+_, _*_, _%_, min}
+use Prim.Native.Nat.{ℕ, _+_, _*_, _/_, _%_, min}
 use lib.Dec.{eqb, leb}
 use lib.ListN.{getD, length, take}
-use Rattle.label.specs.Index.{tabulate}
+use Rattle.label.specs.Index.{any, tabulate}
 use Rattle.hexline.specs.Entry.{abbreviationBytes, nameBytes}
 use Rattle.hexline.specs.declared.entry.Entry.{Entry}
 use Rattle.alias.specs.Lines.{entryAt, maxLines}
 
--- a key with one byte more. It fits a word: the first number is 2 ^ 48, the second below 2 ^ 16
+-- one byte more. The first number is 2 ^ 48 and the second below 2 ^ 16, so that this fits a word
 abbrev pub nextKey : ℕ → ℕ → ℕ
-nextKey key b = key % 281474976710656 * 65521 + b
+nextKey key b = key % 281474976710656 * 65491 + b
 
 unfoldable pub keyFrom : ℕ → List ℕ → ℕ
 keyFrom key [] = key
 keyFrom key (b ∷ bs) = keyFrom (nextKey key b) bs
 
+-- the sum of a word's halves, half a word
+abbrev pub halfOf : ℕ → ℕ
+halfOf key = (key / 4294967296 + key % 4294967296) % 4294967296
+
 -- the key of bytes: any function of them would do
 unfoldable pub keyOf : List ℕ → ℕ
-keyOf bs = keyFrom (length bs) bs
+keyOf bs = halfOf (keyFrom (length bs) bs)
 
 -- an entry's other name: its abbreviation, and its name where that is empty
 unfoldable pub otherBytes : Entry → List ℕ
@@ -45,6 +49,9 @@ pub record Keys (es : List Entry) (n : ℕ) (names others : List ℕ) : Type 0 w
 abbrev pub meet : ℕ → ℕ → ℕ → ℕ → Bool
 meet a b c d = (eqb a c || eqb b c) || (eqb a d || eqb b d)
 
--- whether entry k, by its keys, may have a name in common with an earlier entry j: one that has no keys may
-unfoldable pub mayShare : List ℕ → List ℕ → ℕ → ℕ → Bool
-mayShare names others j k = leb maxLines k || meet (getD names j 0) (getD others j 0) (getD names k 0) (getD others k 0)
+abbrev pub meetAt : List ℕ → List ℕ → ℕ → ℕ → Bool
+meetAt names others k j = meet (getD names j 0) (getD others j 0) (getD names k 0) (getD others k 0)
+
+-- whether entry k, by its keys, may have a name in common with an earlier entry: one that has no keys may
+unfoldable pub metBefore : List ℕ → List ℕ → ℕ → Bool
+metBefore names others k = leb maxLines k || any (meetAt names others k) k

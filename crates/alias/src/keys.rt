@@ -1,4 +1,4 @@
-// Keys of the names in a table: names with different keys are different, and are told apart without reading them again.
+// Keys of the names in a table: names that have different keys differ.
 use crate::MAX_LINES;
 use crate::lookup::count;
 use crate::lookup::line;
@@ -10,15 +10,23 @@ ghost use lib.ListN.{length};
 ghost use Rattle.frame.specs.Frame.{bodyOf};
 ghost use Rattle.hexline.specs.Entry.{nameBytes, spanBytes};
 ghost use Rattle.hexline.specs.Line.{standingIn};
-ghost use Rattle.alias.specs.Keys.{Keys, keyOf, keyed, mayShare, otherBytes};
+ghost use Rattle.alias.specs.Keys.{Keys, halfOf, keyOf, keyed, metBefore, otherBytes};
 ghost use Rattle.alias.specs.Lines.{entriesBy, maxLines};
 
 const ROOM: u64 = 281474976710656;
 
-const FACTOR: u64 = 65521;
+const FACTOR: u64 = 65491;
+
+const HALF: u64 = 4294967296;
+
+fn half(key: u64) -> u32
+    ensures { λ r. ⌜ r ≡ halfOf key ⌝ }
+{
+    ((key / HALF + key % HALF) % HALF) as u32
+}
 
 // The key of the bytes of a line's body at a span.
-fn key(line: &[u8], s: Span) -> u64
+fn key(line: &[u8], s: Span) -> u32
     requires { ⌜ s .at + s .length < 1024 ⌝ }
     ensures { λ r. ⌜ r ≡ keyOf (spanBytes (bodyOf (now (line .entry))) s) ⌝ }
 {
@@ -28,18 +36,18 @@ fn key(line: &[u8], s: Span) -> u64
         key = key % ROOM * FACTOR + frame::byte(line, s.at + i) as u64;
         i += 1;
     }
-    key
+    half(key)
 }
 
 // The key of the name of the entry in a line.
-fn name_key(line: &[u8]) -> u64
+fn name_key(line: &[u8]) -> u32
     ensures { λ r. ⌜ r ≡ keyOf (nameBytes (standingIn (now (line .entry)))) ⌝ }
 {
     key(line, parts::name(line))
 }
 
 // The key of its other name, from that of its name.
-fn other_key(line: &[u8], name: u64) -> u64
+fn other_key(line: &[u8], name: u32) -> u32
     requires { ⌜ name ≡ keyOf (nameBytes (standingIn (now line))) ⌝ }
     ensures { λ r. ⌜ r ≡ keyOf (otherBytes (standingIn (now (line .entry)))) ⌝ }
 {
@@ -62,8 +70,8 @@ fn keyed_count(starts: &[usize]) -> usize
 pub(crate) fn fill(
     table: &[u8],
     starts: &[usize],
-    names: &mut [u64; MAX_LINES],
-    others: &mut [u64; MAX_LINES],
+    names: &mut [u32; MAX_LINES],
+    others: &mut [u32; MAX_LINES],
 )
     requires { ⌜ (length (now names) ≡ maxLines) × (length (now others) ≡ maxLines) ⌝ }
     ensures { λ _. ⌜ Keys (entriesBy (now (table .entry)) (now (starts .entry))) (keyed (length (now (starts .entry)) - 1)) (now (names .exit)) (now (others .exit)) ⌝ }
@@ -79,22 +87,22 @@ pub(crate) fn fill(
     }
 }
 
-// Whether entry k may have a name in common with an earlier entry j, by their keys.
-pub(crate) fn may_share(
-    names: &[u64; MAX_LINES],
-    others: &[u64; MAX_LINES],
-    j: usize,
-    k: usize,
-) -> bool
-    requires { ⌜ j < k ⌝ }
-    ensures { λ r. ⌜ r ≡ mayShare (now (names .entry)) (now (others .entry)) j k ⌝ }
+// Whether entry k, by its keys, may have a name in common with an earlier entry. The loop has no way out, so that it takes several keys at a time.
+pub(crate) fn met_before(names: &[u32; MAX_LINES], others: &[u32; MAX_LINES], k: usize) -> bool
+    ensures { λ r. ⌜ r ≡ metBefore (now (names .entry)) (now (others .entry)) k ⌝ }
 {
     if MAX_LINES <= k {
         return true;
     }
-    let a = names[j];
-    let b = others[j];
     let c = names[k];
     let d = others[k];
-    ((a == c) | (b == c)) | ((a == d) | (b == d))
+    let mut met = false;
+    let mut j = 0;
+    while j < k {
+        let a = names[j];
+        let b = others[j];
+        met = met | (((a == c) | (b == c)) | ((a == d) | (b == d)));
+        j += 1;
+    }
+    met
 }

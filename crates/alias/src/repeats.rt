@@ -2,7 +2,7 @@
 use crate::Found;
 use crate::MAX_LINES;
 use crate::keys::fill;
-use crate::keys::may_share;
+use crate::keys::met_before;
 use crate::lookup::count;
 use crate::lookup::line;
 use crate::names::repeats_itself;
@@ -16,40 +16,15 @@ ghost use Rattle.alias.specs.Lines.{entriesBy, entryAt};
 ghost use Rattle.alias.specs.Lookup.{foundOf};
 ghost use Rattle.alias.specs.Table.{firstRepeat, repeatsAt, sharesOf};
 
-// Whether entry k has a name in common with an earlier entry j. The names are read where their keys leave it open.
-fn shared(
-    table: &[u8],
-    starts: &[usize],
-    names: &[u64; MAX_LINES],
-    others: &[u64; MAX_LINES],
-    j: usize,
-    k: usize,
-) -> bool
-    requires { ⌜ (j < k) × (k < length (now starts) - 1) ⌝ }
-    requires { ⌜ Keys (entriesBy (now table) (now starts)) (keyed (length (now starts) - 1)) (now names) (now others) ⌝ }
-    ensures { λ r. ⌜ r ≡ sharesOf (entryAt (entriesBy (now (table .entry)) (now (starts .entry))) j) (entryAt (entriesBy (now (table .entry)) (now (starts .entry))) k) ⌝ }
-{
-    if !may_share(names, others, j, k) {
-        return false;
-    }
-    shares(line(table, starts, j), line(table, starts, k))
-}
-
-// Whether an entry before entry k has a name in common with it.
-fn shared_before(
-    table: &[u8],
-    starts: &[usize],
-    names: &[u64; MAX_LINES],
-    others: &[u64; MAX_LINES],
-    k: usize,
-) -> bool
+// Whether an entry before entry k has a name in common with it, by the names.
+fn shared_before(table: &[u8], starts: &[usize], k: usize) -> bool
     requires { ⌜ k < length (now starts) - 1 ⌝ }
-    requires { ⌜ Keys (entriesBy (now table) (now starts)) (keyed (length (now starts) - 1)) (now names) (now others) ⌝ }
     ensures { λ r. ⌜ r ≡ any (λ j. sharesOf (entryAt (entriesBy (now (table .entry)) (now (starts .entry))) j) (entryAt (entriesBy (now (table .entry)) (now (starts .entry))) k)) k ⌝ }
 {
+    let own = line(table, starts, k);
     let mut j = 0;
     while j < k {
-        if shared(table, starts, names, others, j, k) {
+        if shares(line(table, starts, j), own) {
             return true;
         }
         j += 1;
@@ -57,27 +32,45 @@ fn shared_before(
     false
 }
 
+// The same: the names are read only where the keys leave it open.
+fn shared(
+    table: &[u8],
+    starts: &[usize],
+    names: &[u32; MAX_LINES],
+    others: &[u32; MAX_LINES],
+    k: usize,
+) -> bool
+    requires { ⌜ k < length (now starts) - 1 ⌝ }
+    requires { ⌜ Keys (entriesBy (now table) (now starts)) (keyed (length (now starts) - 1)) (now names) (now others) ⌝ }
+    ensures { λ r. ⌜ r ≡ any (λ j. sharesOf (entryAt (entriesBy (now (table .entry)) (now (starts .entry))) j) (entryAt (entriesBy (now (table .entry)) (now (starts .entry))) k)) k ⌝ }
+{
+    if !met_before(names, others, k) {
+        return false;
+    }
+    shared_before(table, starts, k)
+}
+
 // Whether entry k repeats a name, its own or that of an earlier entry.
 fn repeats(
     table: &[u8],
     starts: &[usize],
-    names: &[u64; MAX_LINES],
-    others: &[u64; MAX_LINES],
+    names: &[u32; MAX_LINES],
+    others: &[u32; MAX_LINES],
     k: usize,
 ) -> bool
     requires { ⌜ k < length (now starts) - 1 ⌝ }
     requires { ⌜ Keys (entriesBy (now table) (now starts)) (keyed (length (now starts) - 1)) (now names) (now others) ⌝ }
     ensures { λ r. ⌜ r ≡ repeatsAt (entriesBy (now (table .entry)) (now (starts .entry))) k ⌝ }
 {
-    repeats_itself(line(table, starts, k)) | shared_before(table, starts, names, others, k)
+    repeats_itself(line(table, starts, k)) | shared(table, starts, names, others, k)
 }
 
 // The first entry that repeats a name.
 pub(crate) fn first(table: &[u8], starts: &[usize]) -> Found
     ensures { λ r. ⌜ foundOf r ≡ firstRepeat (entriesBy (now (table .entry)) (now (starts .entry))) ⌝ }
 {
-    let mut names = [0u64; MAX_LINES];
-    let mut others = [0u64; MAX_LINES];
+    let mut names = [0u32; MAX_LINES];
+    let mut others = [0u32; MAX_LINES];
     fill(table, starts, &mut names, &mut others);
     let n = count(starts);
     let mut k = 0;

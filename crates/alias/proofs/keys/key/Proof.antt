@@ -1,4 +1,5 @@
 use borrow.Author.Needs.{needs}
+use mathlib.Core.Path.{_∙_}
 use Prim.Native.Nat.{_-_}
 use native.Mathlib.Omega.{arith}
 use Rattle.frame.specs.Frame.{bodyOf}
@@ -29,10 +30,10 @@ loop-again c =
 
 returns : tie.Need-returns Inv-loop μ-loop
 returns c =
-    let h = c .before .before in
+    let h = c .before .before .before in
     let a = h .before .before .args in
-    key-end (bodyOf (a .line .now)) (a .s) (h .loop .inv) (omega arith)
+    c .half .ensures ∙ key-end (bodyOf (a .line .now)) (a .s) (h .loop .inv) (omega arith)
 
 pub key-spec : {M : Type 1} → statement M
 key-spec =
-    tie.close (tie.spec Inv-loop μ-loop loop-holds mul-key (search needs) (search needs) (search needs) add-key (search needs) (search needs) loop-again returns)
+    tie.close (tie.spec Inv-loop μ-loop loop-holds mul-key (search needs) (search needs) (search needs) add-key (search needs) (search needs) loop-again (search needs) returns)

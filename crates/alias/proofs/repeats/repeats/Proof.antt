@@ -7,8 +7,8 @@ use Rattle.alias.proofs.LookupLaws.{entry-test}
 use Rattle.alias.proofs.repeats.repeats.Statement.{statement}
 use Rattle.alias.proofs.repeats.repeats.Tie as tie
 
-shared-before-requires : tie.Need-shared-before-requires
-shared-before-requires c κs = c .before .before .before .before .pre
+shared-requires : tie.Need-shared-requires
+shared-requires c κs = c .before .before .before .before .pre
 
 returns : tie.Need-returns
 unfolding repeatsAt
@@ -16,9 +16,9 @@ returns c =
     let d = c .before .before in
     let a = d .before .before .before .args in
     rw (
-      c .shared-before .ensures,
+      c .shared .ensures,
       ← entry-test (a .table .now) (a .starts .now) (λ e. sameBytes (nameBytes e) (abbreviationBytes e)) (a .k) (omega arith) (d .line .ensures) (c .before .repeats-itself .ensures),
     )
 
 pub repeats-spec : {M : Type 1} → statement M
-repeats-spec = tie.close (tie.spec (search needs) (search needs) shared-before-requires returns)
+repeats-spec = tie.close (tie.spec (search needs) (search needs) shared-requires returns)
