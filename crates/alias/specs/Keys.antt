@@ -10,7 +10,7 @@ use Rattle.hexline.specs.Entry.{abbreviationBytes, nameBytes}
 use Rattle.hexline.specs.declared.entry.Entry.{Entry}
 use Rattle.alias.specs.Lines.{entryAt, maxLines}
 
--- one byte more. The first number is 2 ^ 48 and the second below 2 ^ 16, so that this fits a word
+-- a key with one byte more. The first number is 2 ^ 48 and the second is below 2 ^ 16, so that it fits a word
 abbrev pub nextKey : ℕ → ℕ → ℕ
 nextKey key b = key % 281474976710656 * 65491 + b
 
@@ -18,7 +18,7 @@ unfoldable pub keyFrom : ℕ → List ℕ → ℕ
 keyFrom key [] = key
 keyFrom key (b ∷ bs) = keyFrom (nextKey key b) bs
 
--- the sum of a word's halves, half a word
+-- the halves of a word in one: their sum, modulo 2 ^ 32
 abbrev pub halfOf : ℕ → ℕ
 halfOf key = (key / 4294967296 + key % 4294967296) % 4294967296
 

@@ -13,12 +13,14 @@ ghost use Rattle.hexline.specs.Line.{standingIn};
 ghost use Rattle.alias.specs.Keys.{Keys, halfOf, keyOf, keyed, metBefore, otherBytes};
 ghost use Rattle.alias.specs.Lines.{entriesBy, maxLines};
 
+// What keys are made with: 2 ^ 48, a number below 2 ^ 16, and 2 ^ 32.
 const ROOM: u64 = 281474976710656;
 
 const FACTOR: u64 = 65491;
 
 const HALF: u64 = 4294967296;
 
+// The halves of a word in one.
 fn half(key: u64) -> u32
     ensures { λ r. ⌜ r ≡ halfOf key ⌝ }
 {
@@ -87,7 +89,8 @@ pub(crate) fn fill(
     }
 }
 
-// Whether entry k, by its keys, may have a name in common with an earlier entry. The loop has no way out, so that it takes several keys at a time.
+// Whether entry k, by its keys, may have a name in common with an earlier entry. The loop has no early exit, so that it can take several keys at
+// a time.
 pub(crate) fn met_before(names: &[u32; MAX_LINES], others: &[u32; MAX_LINES], k: usize) -> bool
     ensures { λ r. ⌜ r ≡ metBefore (now (names .entry)) (now (others .entry)) k ⌝ }
 {
