@@ -3,8 +3,9 @@ use mathlib.Core.Bool.{Bool, false, cond, _&&_, _||_}
 use mathlib.Core.List.{List, [], _∷_, _++_}
 use Prim.Native.Nat.{ℕ, _+_, _*_, _-_, _/_, _%_}
 use lib.Dec.{eqb, leb, ltb}
-use lib.ListN.{length, take}
+use lib.ListN.{getD, length, take}
 use Rattle.label.specs.Answer.{Answer, granted, require}
+use Rattle.label.specs.Index.{tabulate}
 
 -- ---- digits: lower-case hex
 
@@ -66,6 +67,10 @@ framedOf line = spelledOf line && leb 1 (length (bytesOf line)) && eqb (sumOf (b
 -- all bytes but the last
 unfoldable pub bodyOf : List ℕ → List ℕ
 bodyOf line = take (length (bytesOf line) - 1) (bytesOf line)
+
+-- n bytes of a line's body from index i on, with 0 past its end
+unfoldable pub bodyFrom : List ℕ → ℕ → ℕ → List ℕ
+bodyFrom line i n = tabulate (λ k. getD (bodyOf line) (i + k) 0) n
 
 -- what is read of a line by way of its body: a line that is no frame is refused with 22
 abbrev pub readOf : {A : Type 0} → (List ℕ → Answer A) → List ℕ → Answer A

@@ -3,10 +3,10 @@
 use label::answer::Written;
 use label::errno::Errno;
 ghost use mathlib.Core.Path.{_≡_};
-ghost use Prim.Native.Nat.{_+_, _*_, _<_, _≤_, _/_, _%_};
+ghost use Prim.Native.Nat.{_+_, _*_, _-_, _<_, _≤_, _/_, _%_};
 ghost use lib.ListN.{getD, length, set};
 ghost use Rattle.label.specs.Buffer.{WrittenTo, overlay};
-ghost use Rattle.frame.specs.Frame.{bodyOf, bytesOf, digitOf, digitsOf, frameAnswerOf, framedOf, isDigit, spelledOf, sumOf, valueOf};
+ghost use Rattle.frame.specs.Frame.{bodyFrom, bodyOf, bytesOf, digitOf, digitsOf, frameAnswerOf, framedOf, isDigit, spelledOf, sumOf, valueOf};
 
 // A longer body is not written.
 pub const MAX_BODY: usize = 65536;
@@ -67,19 +67,73 @@ pub fn body_length(line: &[u8]) -> usize
     if bytes == 0 { 0 } else { bytes - 1 }
 }
 
-// Whether a line is pairs of digits, then LF and nothing after it.
+// How many bytes of a line's body there are from index at on.
+fn left_from(line: &[u8], at: usize) -> usize
+    ensures { λ r. ⌜ r ≡ length (bodyOf (now (line .entry))) - at ⌝ }
+{
+    let body = body_length(line);
+    if at <= body { body - at } else { 0 }
+}
+
+// Fills out with bytes of a line's body from index at on, where all of them are there.
+fn copy_inside(line: &[u8], at: usize, out: &mut [u8])
+    requires { ⌜ length (now out) ≤ length (bodyOf (now line)) - at ⌝ }
+    ensures { λ _. ⌜ now (out .exit) ≡ bodyFrom (now (line .entry)) at (length (now (out .entry))) ⌝ }
+{
+    let mut i = 0;
+    while i < out.len() {
+        out[i] = byte_at(line, at + i);
+        i += 1;
+    }
+}
+
+// Byte i of those from index at on, where there are so many of them left, and 0 past these.
+fn byte_or_0(line: &[u8], at: usize, left: usize, i: usize) -> u8
+    requires { ⌜ left ≡ length (bodyOf (now line)) - at ⌝ }
+    ensures { λ r. ⌜ r ≡ getD (bodyOf (now (line .entry))) (at + i) 0 ⌝ }
+{
+    if i < left {
+        return byte_at(line, at + i);
+    }
+    0
+}
+
+// The same where some of them may lie past the end.
+fn copy_padded(line: &[u8], at: usize, left: usize, out: &mut [u8])
+    requires { ⌜ left ≡ length (bodyOf (now line)) - at ⌝ }
+    ensures { λ _. ⌜ now (out .exit) ≡ bodyFrom (now (line .entry)) at (length (now (out .entry))) ⌝ }
+{
+    let mut i = 0;
+    while i < out.len() {
+        out[i] = byte_or_0(line, at, left, i);
+        i += 1;
+    }
+}
+
+// Fills out with the bytes of a line's body from index at on, and with 0 past its end.
+pub fn copy(line: &[u8], at: usize, out: &mut [u8])
+    ensures { λ _. ⌜ now (out .exit) ≡ bodyFrom (now (line .entry)) at (length (now (out .entry))) ⌝ }
+{
+    let left = left_from(line, at);
+    if out.len() <= left {
+        copy_inside(line, at, out);
+    } else {
+        copy_padded(line, at, left, out);
+    }
+}
+
+// Whether a line is pairs of digits, then LF and nothing after it. A fault does not end the loop: without a way out it is several times as fast.
 fn spelled(line: &[u8]) -> bool
     ensures { λ r. ⌜ r ≡ spelledOf (now (line .entry)) ⌝ }
 {
+    let mut good = true;
     let mut i = 0;
     while i + 1 < line.len() {
-        if !(is_digit(line[i]) & is_digit(line[i + 1])) {
-            return false;
-        }
+        good = good & (is_digit(line[i]) & is_digit(line[i + 1]));
         i += 2;
     }
     if i < line.len() {
-        return line[i] == LINE_FEED;
+        return good & (line[i] == LINE_FEED);
     }
     false
 }

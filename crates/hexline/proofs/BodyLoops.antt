@@ -1,17 +1,22 @@
 -- What the functions of `body` need at each turn of a loop. Assumes nothing.
+use mathlib.Core.Bool.{cond}
 use mathlib.Core.List.{List, _∷_, [], _++_, append-assoc, append-nil}
 use mathlib.Core.Path.{_≡_, refl, sym, ap, _∙_}
 use Prim.Native.Nat.{ℕ, _+_, _*_, _≤_, _<_}
 use native.Mathlib.Nat.{add-zero, lt-of-lt-of-le, pow-le-pow-right, zero-lt-suc}
 use native.Mathlib.Numerals.{add-one}
 use native.Mathlib.Omega.{arith}
+use lib.Dec.{ltb}
 use lib.ListN.{length, set, take, length-append, length-set}
 use lib.Seq.{length-take-le, take-at, take-length, take-suc-set}
 use Rattle.label.specs.Index.{tabulate}
+use Rattle.label.specs.Words.{words as setWords}
+use Rattle.label.proofs.IndexLaws.{tabulate-at}
 use Rattle.label.specs.declared.Label.{Label}
+use Rattle.frame.specs.Frame.{bodyFrom, bodyOf}
 use Rattle.frame.proofs.FrameLaws.{Bytes}
-use Rattle.hexline.specs.Body.{Appended, byteAt, categoryByte, labelBytes, numberOf}
-use Rattle.hexline.proofs.NumberLaws.{number-bound}
+use Rattle.hexline.specs.Body.{Appended, byteAt, categoryByte, labelBytes, labelSize, numberOf, wordFrom}
+use Rattle.hexline.proofs.NumberLaws.{number-bound, number-moved}
 
 -- the bytes past the lowest of a word leave room for one more
 pub word-room : (bs : List ℕ) → Bytes bs → (i n : ℕ) → n ≤ 7 → numberOf 256 (byteAt bs) i n < 72057594037927936
@@ -68,3 +73,21 @@ appended-none a i = record { next = sym (add-zero i); holds = sym (append-nil (t
 
 pub appended-byte : (a : List ℕ) (i b : ℕ) → i < length a → Appended a i (b ∷ []) (i + 1) (set a i b)
 appended-byte a i b h = record { next = refl; holds = take-more (take i a) a i b h refl; size = length-set a i b }
+
+-- ---- a label's bytes, copied out of a line's body
+
+copied-byte : (line : List ℕ) (at i : ℕ) → i < labelSize setWords → byteAt (bodyFrom line at (labelSize setWords)) i ≡ byteAt (bodyOf line) (at + i)
+unfolding bodyFrom
+copied-byte line at i h = tabulate-at (λ k. byteAt (bodyOf line) (at + k)) (labelSize setWords) i 0 h
+
+-- the first is the hierarchy,
+pub copied-hierarchy : (line : List ℕ) (at : ℕ) → byteAt (bodyFrom line at (labelSize setWords)) 0 ≡ byteAt (bodyOf line) at
+copied-hierarchy line at = copied-byte line at 0 (omega arith) ∙ ap (byteAt (bodyOf line)) (add-zero at)
+
+-- and the others are the words of the set
+pub copied-word : (line : List ℕ) (at w j : ℕ) → j < setWords → wordFrom w (bodyFrom line at (labelSize setWords)) 1 j ≡ wordFrom w (bodyOf line) (at + 1) j
+unfolding wordFrom
+copied-word line at w j h =
+    ap (λ (n : ℕ). cond (ltb j w) n 0)
+    (number-moved 256 (byteAt (bodyFrom line at (labelSize setWords))) (byteAt (bodyOf line)) (1 + 8 * j) (at + 1 + 8 * j) 8
+    (λ k l. copied-byte line at (1 + 8 * j + k) (omega arith) ∙ ap (byteAt (bodyOf line)) (omega arith)))

@@ -94,3 +94,11 @@ byte-bit x j k h =
     let d : suc (7 - k) + k ≡ 8 = omega arith in
     ap (λ (p : ℕ). x / p % 2) e ∙ ap (λ (y : ℕ). y % 2) (sym (div-div-eq-div-mul x (256 ^ j) (2 ^ k)))
     ∙ sym (ap (λ (n : ℕ). x / 256 ^ j % 2 ^ n / 2 ^ k % 2) (sym d) ∙ low-bit (x / 256 ^ j) (7 - k) k)
+
+-- a number is known by its digits, wherever they stand
+pub number-moved : (b : ℕ) (f g : ℕ → ℕ) (i j n : ℕ) → ((k : ℕ) → k < n → f (i + k) ≡ g (j + k)) → numberOf b f i n ≡ numberOf b g j n
+unfolding numberOf
+number-moved b f g i j zero h = refl
+number-moved b f g i j (suc n) h =
+    ap₂ (λ (x y : ℕ). x + b * y) (ap f (sym (add-zero i)) ∙ h 0 (omega arith) ∙ ap g (add-zero j))
+    (number-moved b f g (suc i) (suc j) n (λ k l. ap f (omega arith) ∙ h (suc k) (omega arith) ∙ ap g (omega arith)))

@@ -2,8 +2,6 @@ use borrow.Author.Needs.{needs}
 use mathlib.Core.Path.{_≡_, refl, ap, ap₂, _∙_}
 use Prim.Native.Nat.{ℕ, _≤_, _+_, _*_, _-_}
 use native.Mathlib.Omega.{arith}
-use Rattle.frame.specs.Frame.{bodyOf}
-use Rattle.frame.proofs.FrameLaws.{body-small}
 use Rattle.hexline.specs.Body.{byteAt, numberOf}
 use Rattle.hexline.proofs.NumberLaws.{number-next}
 use Rattle.hexline.proofs.BodyLoops.{word-room}
@@ -11,47 +9,47 @@ use Rattle.hexline.proofs.body.word_at.Statement.{statement}
 use Rattle.hexline.proofs.body.word_at.Tie as tie
 
 abbrev Inv-loop : tie.InvT-loop
-Inv-loop line at w₀ k₀ w k = (k ≤ 8) × (w ≡ numberOf 256 (byteAt (bodyOf line)) (at + k) (8 - k))
+Inv-loop bytes at w₀ k₀ w k = (k ≤ 8) × (w ≡ numberOf 256 (byteAt bytes) (at + k) (8 - k))
 
 abbrev μ-loop : tie.MeasureT-loop
-μ-loop line at w₀ k₀ w k = k
+μ-loop bytes at w₀ k₀ w k = k
 
 loop-holds : tie.Need-loop-holds Inv-loop μ-loop
 unfolding numberOf
 loop-holds c = (search needs, refl)
 
+cast-b : tie.Need-cast-b Inv-loop μ-loop
+cast-b c = let h = c .before .before in record { fits = omega (arith, c .shared-slice-known .given (h .before .args .at + (h .loop .k - 1))) }
+
 mul-w : tie.Need-mul-w Inv-loop μ-loop
 mul-w c =
-    let h = c .before in
-    let room = word-room (bodyOf (h .before .before .args .line .now)) (body-small (h .before .before .args .line .now)) (h .before .before .args .at + h .loop .k) (8 - h .loop .k) (omega arith) in
+    let h = c .before .before in
+    let s = h .before in
+    let room = word-room (s .args .bytes .now) (λ (i : ℕ). omega (arith, c .shared-slice-known .given i)) (s .args .at + h .loop .k) (8 - h .loop .k) (omega arith) in
     record { fits = omega (arith, h .loop .inv .1) }
 
 add-w : tie.Need-add-w Inv-loop μ-loop
 add-w c =
     let h = c .before .before in
-    let line = h .before .before .args .line .now in
-    let at = h .before .before .args .at in
-    let room = word-room (bodyOf line) (body-small line) (at + h .loop .k) (8 - h .loop .k) (omega arith) in
-    record { fits = omega (arith, h .loop .inv .1, c .byte .ensures, body-small line (at + (h .loop .k - 1))) }
+    let s = h .before in
+    let room = word-room (s .args .bytes .now) (λ (i : ℕ). omega (arith, c .shared-slice-known .given i)) (s .args .at + h .loop .k) (8 - h .loop .k) (omega arith) in
+    record { fits = omega (arith, h .loop .inv .1, c .shared-slice-known .given (s .args .at + (h .loop .k - 1))) }
 
 loop-again : tie.Need-loop-again Inv-loop μ-loop
 loop-again c =
     let h = c .before .before in
-    let at = h .before .before .args .at in
-    let f = byteAt (bodyOf (h .before .before .args .line .now)) in
+    let at = h .before .args .at in
+    let f = byteAt (h .before .args .bytes .now) in
     let k = h .loop .k in (
       search needs,
-      ap (λ (b : ℕ). h .loop .w * 256 + b) (c .byte .ensures)
-          ∙ number-next 256 f (at + (k - 1)) (8 - k) (h .loop .w) (h .loop .inv .1 ∙ ap (λ (i : ℕ). numberOf 256 f i (8 - k)) (omega arith))
+      number-next 256 f (at + (k - 1)) (8 - k) (h .loop .w) (h .loop .inv .1 ∙ ap (λ (i : ℕ). numberOf 256 f i (8 - k)) (omega arith))
           ∙ ap (λ (n : ℕ). numberOf 256 f (at + (k - 1)) n) (omega arith),
     )
 
 returns : tie.Need-returns Inv-loop μ-loop
 returns c =
     let h = c .before in
-    h .loop .inv .1 ∙ ap₂ (numberOf 256 (byteAt (bodyOf (h .before .before .args .line .now)))) (omega arith) (omega arith)
+    h .loop .inv .1 ∙ ap₂ (numberOf 256 (byteAt (h .before .args .bytes .now))) (omega arith) (omega arith)
 
 pub word-at-spec : {M : Type 1} → statement M
-word-at-spec =
-    tie.close (tie.spec Inv-loop μ-loop loop-holds (search needs) mul-w (search needs) (search needs) (search needs) add-w (search needs)
-    loop-again returns)
+word-at-spec = tie.close (tie.spec Inv-loop μ-loop loop-holds (search needs) (search needs) (search needs) cast-b mul-w add-w (search needs) loop-again returns)
