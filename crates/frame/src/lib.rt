@@ -122,7 +122,7 @@ pub fn copy(line: &[u8], at: usize, out: &mut [u8])
     }
 }
 
-// Whether a line is pairs of digits, then LF and nothing after it. A fault does not end the loop: without a way out it is several times as fast.
+// Whether a line is pairs of digits, then LF and nothing after it. A fault does not end the loop, which takes fewer instructions without a way out.
 fn spelled(line: &[u8]) -> bool
     ensures { λ r. ⌜ r ≡ spelledOf (now (line .entry)) ⌝ }
 {

@@ -75,7 +75,7 @@ fn set_word(bytes: &[u8], j: usize, words: usize) -> u64
     0
 }
 
-// The label at index at of a line's body. Its bytes are copied at once, which is several times as fast as one by one.
+// The label at index at of a line's body. Its bytes are copied at once, with one test of the line's length.
 pub(crate) fn label_at(line: &[u8], at: usize, words: usize) -> Label
     requires { ⌜ at + labelSize words < 2 ^ 64 ⌝ }
     ensures { λ r. ⌜ r ≡ labelAt words (bodyOf (now (line .entry))) at ⌝ }
