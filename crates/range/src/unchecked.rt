@@ -1,14 +1,21 @@
 // Tests without those of validity, for callers that have tested the tuple and the label.
+use crate::tuple::RegionRange;
 use crate::tuple::Tuple;
 use label::Label;
 use label::region;
 ghost use mathlib.Core.Path.{_≡_};
-ghost use Rattle.range.specs.Tuple.{containsOf};
+ghost use Rattle.range.specs.Tuple.{containsAt, containsOf};
 
-// Whether a label is in a tuple: in the range of its region, if that is present.
+// Whether a label is in what a tuple has for its region: in the range, if that is present.
+pub fn contains_at(e: RegionRange, l: Label) -> bool
+    ensures { λ r. ⌜ r ≡ containsAt e l ⌝ }
+{
+    e.present & crate::holds(e.range, l)
+}
+
+// Whether a label is in a tuple.
 pub fn contains(t: Tuple, l: Label) -> bool
     ensures { λ r. ⌜ r ≡ containsOf t l ⌝ }
 {
-    let e = t.ranges[region::of_hierarchy(l.hierarchy)];
-    e.present & crate::holds(e.range, l)
+    contains_at(t.ranges[region::of_hierarchy(l.hierarchy)], l)
 }

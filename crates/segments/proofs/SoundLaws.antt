@@ -1,5 +1,5 @@
 -- Soundness part by part, and that every call keeps it. Assumes nothing.
-use mathlib.Core.Bool.{Bool, true, false, cond, not, _&&_, _||_, and-false, true≢false}
+use mathlib.Core.Bool.{Bool, true, false, cond, not, _&&_, _||_, and-false, and-true, true≢false}
 use mathlib.Core.Option.{none, some, Option·some-ne-none}
 use mathlib.Core.Path.{_≡_, refl, sym, ap, _∙_}
 use Prim.Native.Nat.{ℕ, _+_, _-_, _<_, _≤_}
@@ -16,10 +16,11 @@ use Rattle.label.proofs.BoolLaws.{both, first-true, not-so, same-truth, second-
 use Rattle.label.proofs.IndexLaws.{every-all, every-at}
 use Rattle.label.proofs.LabelLaws.{equal-exact}
 use Rattle.label.proofs.SearchLaws.{any-of, any-same, any-then, none-of, sum-but, sum-same}
+use Rattle.label.specs.Region.{regionOf}
 use Rattle.range.specs.Tuple
 use Rattle.range.specs.declared.tuple.Tuple.{Tuple}
 use Rattle.range.proofs.TupleLaws.{contained-valid}
-use Rattle.segments.specs.Parts.{Owned, ceilingsKept, segmentSound, slotsSound, tenantsSound}
+use Rattle.segments.specs.Parts.{Owned, ceilingsKept, ownerOr, segmentSound, slotsSound, tenantsSound}
 use Rattle.segments.specs.Calls.{callOf, cleared, lookedAt, slotFor, slotValid, stepOf, writable, written}
 use Rattle.segments.specs.Segments.{Lengths, ceilingAt, clearanceAt, maxPages, pagesAt, pagesValid, segmentAt, segmentOf, slot, slots, tenantAt, tenantId, tenants, withSegment, zeroSegment}
 use Rattle.segments.specs.Slots.{ceilingsOf, filled, firstSlot, owns, pagesOf, slotCount}
@@ -132,14 +133,16 @@ owner-clears s p l t o =
     ap (λ (u : TenantId). Tuple.containsOf (clearanceAt s u) l) (owner-unique s t (tenantId i) p o (c .0)) ∙ c .1))
     (λ e. any-of (clears s p l) tenants (t .0) (own-parts s t p o .tenant) (both o e))
 
--- so the owner's record tells whether a slot is sound
-pub sound-by-owner : (s : SegmentTable) (p : Slot) (t : TenantId) → owns s t p ≡ true → slotSound s p ≡ segmentSound (segmentAt s p) (tenantAt s t)
-unfolding segmentSound
+-- so the owner's clearance tells whether a slot is sound, by what it has for the region of the label there
+sound-by-owner : (s : SegmentTable) (p : Slot) (t : TenantId) → owns s t p ≡ true
+    → slotSound s p ≡ segmentSound (segmentAt s p) (ByTenant t) (Tuple.rangeAt (clearanceAt s t) (regionOf (segmentAt s p .label .hierarchy)))
+unfolding segmentSound Tuple.containsOf
 sound-by-owner s p t o =
-    slot-held s p ∙ ap (λ (b : Bool). cond (leb 1 (pagesAt s p)) b (zeros (segmentAt s p))) (owner-clears s p (segmentAt s p .label) t o)
+    rw (and-true (leb 1 (pagesAt s p)))
+    (slot-held s p ∙ ap (λ (b : Bool). cond (leb 1 (pagesAt s p)) b (zeros (segmentAt s p))) (owner-clears s p (segmentAt s p .label) t o))
 
 -- a slot that nobody owns is sound where it holds zeros
-pub sound-unowned : (s : SegmentTable) (p : Slot) → any (λ t. owns s (tenantId t) p) tenants ≡ false → slotSound s p ≡ zeros (segmentAt s p)
+sound-unowned : (s : SegmentTable) (p : Slot) → any (λ t. owns s (tenantId t) p) tenants ≡ false → slotSound s p ≡ zeros (segmentAt s p)
 unfolding zeros
 sound-unowned s p n = slot-held s p ∙ go (segmentAt s p)
   where
@@ -157,12 +160,16 @@ sound-unowned s p n = slot-held s p ∙ go (segmentAt s p)
             rw (e, none (x .label), ne-eqb (x .pages) 0 (λ z. absurd (omega arith)), and-false (Label.equalOf (x .label) Label.zeroLabel))
         by-pages false e = rw e
 
--- what was found of a slot's owner: a tenant, or nobody
-pub owned-by : (s : SegmentTable) (p : Slot) (o : Owner) (t : TenantId) → Owned s p o → o ≡ ByTenant t → (t .0 < tenants) × (owns s t p ≡ true)
-owned-by s p o t h e = rw e at h
+-- what was found of a slot's owner, a tenant or nobody, tells whether the slot is sound
+pub sound-as-owned : (s : SegmentTable) (p : Slot) (o : Owner) (n : ℕ) → Owned s p o
+    → slotSound s p ≡ segmentSound (segmentAt s p) o (Tuple.rangeAt (clearanceAt s (tenantId (ownerOr o n))) (regionOf (segmentAt s p .label .hierarchy)))
+unfolding segmentSound
+sound-as-owned s p (ByTenant t) n h = sound-by-owner s p t (h .1)
+sound-as-owned s p Nobody n h = rw (and-false (leb 1 (pagesAt s p))) (sound-unowned s p h)
 
-pub owned-by-nobody : (s : SegmentTable) (p : Slot) (o : Owner) → Owned s p o → o ≡ Nobody → any (λ t. owns s (tenantId t) p) tenants ≡ false
-owned-by-nobody s p o h e = rw e at h
+pub owner-within : (s : SegmentTable) (p : Slot) (o : Owner) (n : ℕ) → Owned s p o → n < tenants → ownerOr o n < tenants
+owner-within s p (ByTenant t) n h l = h .0
+owner-within s p Nobody n h l = l
 
 held-filled : (s : SegmentTable) (p : Slot) (x : Segment) (u : TenantId) → 1 ≤ x .pages → owns s u p ≡ true → Tuple.containsOf (clearanceAt s u) (x .label) ≡ true → held s p x ≡ true
 held-filled s p x u h o e = rw (le-leb 1 (x .pages) h) (owner-clears s p (x .label) u o ∙ e)

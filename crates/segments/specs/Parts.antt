@@ -1,6 +1,6 @@
 -- For the contracts of functions that are not public: what their enums say, and the parts of the rules that they test by themselves. No
 -- promise cites this file. Assumes nothing.
-use mathlib.Core.Bool.{Bool, true, false, cond}
+use mathlib.Core.Bool.{Bool, true, false, cond, _&&_}
 use mathlib.Core.Option.{Option, none, some}
 use mathlib.Core.Path.{_≡_}
 use Prim.Native.Nat.{ℕ, _+_, _-_, _<_}
@@ -10,6 +10,7 @@ use Rattle.label.specs.Index.{any, every}
 use Rattle.label.specs.Label
 use Rattle.label.specs.declared.Label.{Label}
 use Rattle.range.specs.Tuple
+use Rattle.range.specs.declared.tuple.RegionRange.{RegionRange}
 use Rattle.segments.specs.Calls.{callValid, cleared}
 use Rattle.segments.specs.Replies.{Grant, done}
 use Rattle.segments.specs.Segments.{ceilingAt, slot, slots, tenantAt, tenantId, tenants}
@@ -21,7 +22,6 @@ use Rattle.segments.specs.declared.Reply.{Reply}
 use Rattle.segments.specs.declared.Segment.{Segment}
 use Rattle.segments.specs.declared.SegmentTable.{SegmentTable}
 use Rattle.segments.specs.declared.Slot.{Slot}
-use Rattle.segments.specs.declared.Tenant as records
 use Rattle.segments.specs.declared.TenantId.{TenantId}
 use Rattle.segments.specs.declared.slots.Free.{Free}
 use Rattle.segments.specs.declared.slots.Free.the-variants.{At, Nothing}
@@ -46,6 +46,15 @@ remainingOf Exceeded = none
 abbrev pub Owned : SegmentTable → Slot → Owner → Type 0
 Owned s p (Tenant t) = (t .0 < tenants) × (owns s t p ≡ true)
 Owned s p Nobody = any (λ t. owns s (tenantId t) p) tenants ≡ false
+
+abbrev pub isOwned : Owner → Bool
+isOwned (Tenant t) = true
+isOwned Nobody = false
+
+-- the owner's number, or another where nobody owns the slot
+abbrev pub ownerOr : Owner → ℕ → ℕ
+ownerOr (Tenant t) other = t .0
+ownerOr Nobody other = other
 
 -- ---- limits
 
@@ -72,9 +81,9 @@ poolAnswer s t n = require (leb (ceilingsOf s - ceilingAt s t + n) (s .pool)) 12
 abbrev pub tenantsSound : SegmentTable → Bool
 tenantsSound s = every (λ t. tenantSound (tenantAt s (tenantId t))) tenants
 
--- whether a slot may hold x where that tenant owns it
-unfoldable pub segmentSound : Segment → records.Tenant → Bool
-segmentSound x owner = cond (leb 1 (x .pages)) (Tuple.containsOf (owner .clearance) (x .label)) (zeros x)
+-- whether a slot of this owner may hold x, where its clearance has e for the region of x
+unfoldable pub segmentSound : Segment → Owner → RegionRange → Bool
+segmentSound x owner e = cond (leb 1 (x .pages) && isOwned owner) (Tuple.containsAt e (x .label)) (zeros x)
 
 abbrev pub slotsSound : SegmentTable → Bool
 slotsSound s = every (λ p. slotSound s (slot p)) slots

@@ -6,7 +6,7 @@ use crate::TenantId;
 ghost use mathlib.Core.Path.{_≡_};
 ghost use Prim.Native.Nat.{_<_};
 ghost use Rattle.segments.specs.Calls as calls;
-ghost use Rattle.segments.specs.Parts.{Owned, fitsIn, freeOf, keptIn, leftOf, remainingOf};
+ghost use Rattle.segments.specs.Parts.{Owned, fitsIn, freeOf, isOwned, keptIn, leftOf, ownerOr, remainingOf};
 ghost use Rattle.segments.specs.Segments.{slots, tenants};
 ghost use Rattle.segments.specs.Slots as rules;
 
@@ -67,6 +67,26 @@ pub(crate) fn owner_of(s: SegmentTable, p: Slot) -> Owner
         i += 1;
     }
     Owner::Nobody
+}
+
+// Whether a slot has an owner.
+pub(crate) fn owned(owner: Owner) -> bool
+    ensures { λ r. ⌜ r ≡ isOwned owner ⌝ }
+{
+    match owner {
+        Owner::Tenant(_) => true,
+        Owner::Nobody => false,
+    }
+}
+
+// The owner's number, or another where nobody owns the slot.
+pub(crate) fn owner_or(owner: Owner, other: u64) -> u64
+    ensures { λ r. ⌜ r ≡ ownerOr owner other ⌝ }
+{
+    match owner {
+        Owner::Tenant(t) => t.0,
+        Owner::Nobody => other,
+    }
 }
 
 // Whether p has pages.

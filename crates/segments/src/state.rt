@@ -13,7 +13,9 @@ use crate::slots::Remaining;
 use label::answer::Number;
 use label::answer::Test;
 use label::errno::Errno;
+use label::region;
 use range::tuple;
+use range::tuple::RegionRange;
 use range::unchecked;
 ghost use mathlib.Core.Path.{_≡_};
 ghost use Prim.Native.Nat.{_<_};
@@ -72,30 +74,37 @@ fn zeros(x: Segment) -> bool
     label::is_zero(x.label) & (x.pages == 0) & (x.version == 0)
 }
 
-// Whether a slot may hold x where that tenant owns it: a filled one a label in the clearance, an empty one zeros.
-fn segment_sound(x: Segment, owner: Tenant) -> bool
-    ensures { λ r. ⌜ r ≡ segmentSound x owner ⌝ }
+// Whether a slot may hold x: a filled one that somebody owns a label in e, which the owner's clearance has for the region of x; any other one
+// zeros.
+fn segment_sound(x: Segment, owner: Owner, e: RegionRange) -> bool
+    ensures { λ r. ⌜ r ≡ segmentSound x owner e ⌝ }
 {
-    if 1 <= x.pages {
-        return unchecked::contains(owner.clearance, x.label);
+    if (1 <= x.pages) & slots::owned(owner) {
+        return unchecked::contains_at(e, x.label);
     }
     zeros(x)
 }
 
-// Whether a slot is sound: by its owner's record, or, where nobody owns it, by zeros. The loop takes records and segments out itself: a
-// function that it handed the state would be handed a copy each time.
+// Whether each slot is sound: by its owner's clearance, or, where nobody owns it, by zeros. The loop takes segments and clearances out itself,
+// a clearance once for the slots of one owner that follow each other: a function that it handed the state would be handed a copy each time.
 fn slots_sound(s: SegmentTable) -> bool
     ensures { λ r. ⌜ r ≡ slotsSound s ⌝ }
 {
+    let mut at: u64 = 0;
+    let first = s.tenants[0];
+    let mut clearance = first.clearance;
     let mut i: u64 = 0;
     while i < SLOTS as u64 {
         let owner = slots::owner_of(s, Slot(i));
         let x = s.segments[i as usize];
-        let good = match owner {
-            Owner::Tenant(t) => segment_sound(x, s.tenants[t.0 as usize]),
-            Owner::Nobody => zeros(x),
-        };
-        if !good {
+        let t = slots::owner_or(owner, at);
+        if t != at {
+            at = t;
+            let record = s.tenants[t as usize];
+            clearance = record.clearance;
+        }
+        let r = region::of_hierarchy(x.label.hierarchy);
+        if !segment_sound(x, owner, clearance.ranges[r]) {
             return false;
         }
         i += 1;

@@ -1,5 +1,5 @@
 use borrow.Author.Needs.{needs}
-use mathlib.Core.Bool.{Bool, _&&_}
+use mathlib.Core.Bool.{Bool}
 use mathlib.Core.Path.{ap, _∙_}
 use Prim.Native.Nat.{ℕ}
 use native.Mathlib.Omega.{arith}
@@ -8,20 +8,17 @@ use Rattle.range.specs.Tuple.{containsAt, containsOf, rangeAt}
 use Rattle.range.proofs.unchecked.contains.Statement.{statement}
 use Rattle.range.proofs.unchecked.contains.Tie as tie
 
-mul-e : tie.Need-mul-e
-mul-e c = omega (arith, region-within (c .before .args .l .hierarchy) .known)
+mul-contains-at : tie.Need-mul-contains-at
+mul-contains-at c = omega (arith, region-within (c .before .args .l .hierarchy) .known)
 
-element-copy-out-e : tie.Need-element-copy-out-e
-element-copy-out-e c = omega (arith, region-within (c .before .args .l .hierarchy) .known)
+element-copy-out-contains-at : tie.Need-element-copy-out-contains-at
+element-copy-out-contains-at c = omega (arith, region-within (c .before .args .l .hierarchy) .known)
 
 returns : tie.Need-returns
-unfolding containsAt containsOf
+unfolding containsOf
 returns c =
-    let h = c .before in
-    let s = h .before .before in
-    let t = s .before .args .t1 in
-    ap (λ (b : Bool). rangeAt t (s .of-hierarchy .result) .present && b) (h .holds .ensures)
-    ∙ ap (λ (r : ℕ). containsAt (rangeAt t r) (s .before .args .l)) (s .of-hierarchy .ensures)
+    let s = c .before .before in
+    c .contains-at .ensures ∙ ap (λ (r : ℕ). containsAt (rangeAt (s .before .args .t1) r) (s .before .args .l)) (s .of-hierarchy .ensures)
 
 pub contains-spec : {M : Type 1} → statement M
-contains-spec = tie.close (tie.spec (search needs) mul-e element-copy-out-e (search needs) returns)
+contains-spec = tie.close (tie.spec (search needs) mul-contains-at element-copy-out-contains-at (search needs) returns)
