@@ -1,28 +1,35 @@
 -- What the proofs of the calls' code need of their answers. Assumes nothing.
-use mathlib.Core.Bool.{true}
+use mathlib.Core.Bool.{Bool, true, false, cond, _&&_, true≢false}
 use mathlib.Core.Option.{some}
-use mathlib.Core.Path.{_≡_, refl, sym, ap, subst, _∙_}
+use mathlib.Core.Path.{_≡_, refl, sym, ap, ap₂, _∙_}
 use Prim.Native.Nat.{_<_, _≤_}
-use Rattle.label.specs.Answer.{Answer, andThen, granted, refusedBy, require}
+use borrow.Author.Tests.{lt-ltb}
+use lib.Dec.{lit<, ltb}
+use Rattle.label.specs.Answer.{Answer, andThen, granted, isGranted, refusedBy, require}
 use Rattle.label.specs.Label
 use Rattle.label.specs.declared.Label.{Label}
 use Rattle.label.specs.declared.errno.Errno.{Errno}
+use Rattle.label.specs.declared.errno.Errno.the-variants.{Invalid}
 use Rattle.label.proofs.AnswerLaws.{grant-passed, require-then}
-use Rattle.segments.specs.Calls.{accessOf, answerOf, callOf, callValid, cleared, found, grantOf, pagesFit, permitted, slotFor, stepOf, target, written}
-use Rattle.segments.specs.Parts.{Started, startOf, unlabeled}
-use Rattle.segments.specs.Replies.{Grant, Results, done, leaving, replyOf, shownLabel}
+use Rattle.label.proofs.BoolLaws.{both, first-true, not-so}
+use Rattle.segments.specs.Calls.{Decides, accessOf, answerOf, callOf, callValid, cleared, found, grantOf, numbersValid, pagesFit, permitted, slotFor, slotOr0, slotValid, stepOf, target, written}
+use Rattle.segments.specs.Parts.{Started, namedSlot, startOf, unlabeled}
+use Rattle.segments.specs.Replies.{Answers, Grant, Results, done, isRefusal, labelBeside, leaving, refusedWith, replyOf, shownLabel}
 use Rattle.segments.specs.Segments.{ceilingAt, segmentAt, slots, tenants, withSegment}
 use Rattle.segments.specs.Slots.{pagesOf}
 use Rattle.segments.specs.Sound.{sound}
 use Rattle.segments.specs.declared.Action.{Action}
+use Rattle.segments.specs.declared.Action.the-variants.{Open, Size, Post, Look, Close}
 use Rattle.segments.specs.declared.Call.{Call}
+use Rattle.segments.specs.declared.Change.{Change}
 use Rattle.segments.specs.declared.Outcome.{Outcome}
 use Rattle.segments.specs.declared.Reply.{Reply}
-use Rattle.segments.specs.declared.Reply.the-variants.{Refused}
+use Rattle.segments.specs.declared.Reply.the-variants.{Done, Opened, Shown, Refused}
 use Rattle.segments.specs.declared.Segment.{Segment}
 use Rattle.segments.specs.declared.SegmentTable.{SegmentTable}
 use Rattle.segments.specs.declared.Slot.{Slot}
-use Rattle.segments.proofs.CallsLaws.{valid-slot, valid-tenant}
+use Rattle.segments.specs.declared.TenantId.{TenantId}
+use Rattle.segments.proofs.CallsLaws.{slot-found, valid-numbers, valid-slot, valid-tenant}
 use Rattle.segments.proofs.SoundLaws.{sound-parts}
 
 -- ---- outcomes that show no label
@@ -38,6 +45,29 @@ module _ (o : Outcome) (s next : SegmentTable) (x : Answer Grant) where
 -- a part that answers what the whole does
 pub results-same : {o : Outcome} (s next : SegmentTable) {x y : Answer Grant} → x ≡ y → Results o (leaving s next y) → Results o (leaving s next x)
 results-same s next e h = rw e h
+
+-- ---- changes
+
+grant-is-no-refusal : (r : Reply) (l : Label) (g : Grant) → replyOf r l ≡ granted g → isRefusal r ≡ false
+grant-is-no-refusal Done l g e = refl
+grant-is-no-refusal (Opened p) l g e = refl
+grant-is-no-refusal (Shown x) l g e = refl
+grant-is-no-refusal (Refused x) l g e = absurd (true≢false (sym (ap isGranted e)))
+
+-- what an open writes and answers does not depend on what was in its slot; the others are about the slot that they name
+named-written : (s : SegmentTable) (t : TenantId) (l : Label) (a : Action) → written (segmentAt s (namedSlot a)) l a ≡ written (segmentAt s (slotOr0 (slotFor s t a))) l a
+named-written s t l (Open x) = refl
+named-written s t l (Size x) = refl
+named-written s t l (Post x) = refl
+named-written s t l (Look x) = refl
+named-written s t l (Close x) = refl
+
+named-grant : (s : SegmentTable) (p : Slot) (t : TenantId) (a : Action) → grantOf p (segmentAt s (namedSlot a)) a ≡ grantOf p (segmentAt s (slotOr0 (slotFor s t a))) a
+named-grant s p t (Open x) = refl
+named-grant s p t (Size x) = refl
+named-grant s p t (Post x) = refl
+named-grant s p t (Look x) = refl
+named-grant s p t (Close x) = refl
 
 -- ---- a call that has passed the first checks
 
@@ -55,9 +85,32 @@ module _ (s : SegmentTable) (c : Call) where
       let d = grant-passed (cleared s c) 1 done (granted done) (b .1) in
       record { sound = a .0; valid = b .0; cleared = d .0 }
 
-  pub step-stopped : (o : Outcome) (e : Errno) → o ≡ unlabeled s (Refused e) → refusedBy e ≡ startOf s c → Results o (stepOf s c)
+  -- a refusal changes nothing
+  pub decides-refused : {x : Change} (e : Errno) → x ≡ refusedWith e → answerOf s c ≡ refusedBy e → Decides s c x
   unfolding stepOf
-  step-stopped o e h k = results-refused o s _ _ e h (answer-start ∙ ap (λ (x : Answer Grant). andThen x (λ g. accessOf s c)) (sym k))
+  decides-refused e h k = rw h (record { slot = lit< tt; results = results-refused _ s _ _ e refl k })
+
+  pub decides-stopped : {x : Change} (e : Errno) → x ≡ refusedWith e → refusedBy e ≡ startOf s c → Decides s c x
+  decides-stopped e h k = decides-refused e h (answer-start ∙ ap (λ (y : Answer Grant). andThen y (λ g. accessOf s c)) (sym k))
+
+  pub unsound : sound s ≡ false → answerOf s c ≡ refusedBy Invalid
+  unfolding answerOf
+  unsound h = rw h
+
+  -- a call whose tenant, or the slot that it names, is not there is not valid
+  pub out-of-bounds : sound s ≡ true → (ltb (c .tenant .0) tenants && slotValid (namedSlot (c .action))) ≡ false → answerOf s c ≡ refusedBy Invalid
+  unfolding answerOf
+  out-of-bounds h k = rw (h, not-so (callValid s c) (λ e. true≢false (sym (in-bounds (c .tenant) (c .label) (c .action) e) ∙ k)))
+    where
+      named-valid : (a : Action) → numbersValid a ≡ true → slotValid (namedSlot a) ≡ true
+      named-valid (Open x) e = refl
+      named-valid (Size x) e = first-true (slotValid (x .slot)) _ e
+      named-valid (Post x) e = e
+      named-valid (Look x) e = e
+      named-valid (Close x) e = e
+
+      in-bounds : (t : TenantId) (l : Label) (a : Action) → callValid s (callOf t l a) ≡ true → (ltb (t .0) tenants && slotValid (namedSlot a)) ≡ true
+      in-bounds t l a e = both (lt-ltb (t .0) tenants (valid-tenant s t l a e)) (named-valid a (valid-numbers s t l a e))
 
 module _ (s : SegmentTable) (c : Call) (w : Started s c) where
   started-answer : answerOf s c ≡ accessOf s c
@@ -74,21 +127,27 @@ module _ (s : SegmentTable) (c : Call) (w : Started s c) where
   pub started-pages : pagesOf s (c .tenant) ≤ ceilingAt s (c .tenant)
   started-pages = sound-parts s (w .sound) .pages (c .tenant) started-tenant
 
-  pub step-refused : (o : Outcome) (e : Errno) → o ≡ unlabeled s (Refused e) → accessOf s c ≡ refusedBy e → Results o (stepOf s c)
-  unfolding stepOf
-  step-refused o e h k = results-refused o s _ _ e h (started-answer ∙ k)
+  pub access-refused : {x : Change} (e : Errno) → x ≡ refusedWith e → accessOf s c ≡ refusedBy e → Decides s c x
+  access-refused e h k = decides-refused s c e h (started-answer ∙ k)
 
-  -- what a granted call leaves: x in the slot p, which is the one that the call is about
-  pub step-granted : {o : Outcome} {next : SegmentTable} {p : Slot} {x : Segment} → permitted s (c .tenant) (c .label) (c .action) ≡ true
-      → found (slotFor s (c .tenant) (c .action)) ≡ true → pagesFit s (c .tenant) (c .action) ≡ true → p ≡ target s c
-      → x ≡ written (segmentAt s p) (c .label) (c .action) → next ≡ withSegment s p x
-      → Results o (leaving next next (granted (grantOf p (segmentAt s p) (c .action)))) → Results o (stepOf s c)
+  -- what a granted call does: its slot is the one that the call is about, and gets what is written over y, which is in the slot that it names
+  pub decides-granted : {x : Change} {y : Segment} → permitted s (c .tenant) (c .label) (c .action) ≡ true
+      → found (slotFor s (c .tenant) (c .action)) ≡ true → pagesFit s (c .tenant) (c .action) ≡ true → x .slot ≡ target s c
+      → y ≡ segmentAt s (namedSlot (c .action)) → x .segment ≡ written y (c .label) (c .action)
+      → Answers (x .answer) (granted (grantOf (x .slot) y (c .action))) → Decides s c x
   unfolding stepOf accessOf
-  step-granted {o} {next} {p} {x} a b d e f g h =
+  decides-granted {x} {y} a b d e v f g =
       let k : answerOf s c ≡ granted (grantOf (target s c) (segmentAt s (target s c)) (c .action)) = started-answer ∙ rw (a, b, d) in
-      let r = subst (λ (q : Slot). Results o (leaving next next (granted (grantOf q (segmentAt s q) (c .action))))) e h in
-      rw k (record {
-        table = r .table ∙ g ∙ ap (withSegment s p) f ∙ ap (λ (q : Slot). withSegment s q (written (segmentAt s q) (c .label) (c .action))) e;
-        answer = r .answer;
-        label = r .label;
-      })
+      let h : granted (grantOf (x .slot) y (c .action)) ≡ granted (grantOf (target s c) (segmentAt s (target s c)) (c .action)) =
+      ap granted (ap (λ (z : Segment). grantOf (x .slot) z (c .action)) v ∙ named-grant s (x .slot) (c .tenant) (c .action) ∙ ap (λ (p : Slot). grantOf p (segmentAt s (target s c)) (c .action)) e) in
+      record {
+        slot = rw e (started-slot refl (slot-found (slotFor s (c .tenant) (c .action)) b));
+        results =
+            rw k (record {
+              table =
+                  ap (λ (b : Bool). cond b s (withSegment s (x .slot) (x .segment))) (grant-is-no-refusal (x .answer .reply) (x .answer .label) _ (g .reply))
+                  ∙ ap₂ (withSegment s) e (f ∙ ap (λ (z : Segment). written z (c .label) (c .action)) v ∙ named-written s (c .tenant) (c .label) (c .action));
+              answer = g .reply ∙ h;
+              label = g .label ∙ ap labelBeside h;
+            });
+      }

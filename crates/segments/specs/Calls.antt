@@ -1,19 +1,20 @@
 -- Document 01, "The board": the tenant calls. Assumes nothing.
 use mathlib.Core.Bool.{Bool, true, false, _&&_}
 use mathlib.Core.Option.{Option, none, some}
-use Prim.Native.Nat.{ℕ, _+_, _-_}
+use Prim.Native.Nat.{ℕ, _+_, _-_, _<_}
 use lib.Dec.{leb, ltb}
 use Rattle.label.specs.Answer.{Answer, granted, require}
 use Rattle.label.specs.Label
 use Rattle.label.specs.declared.Label.{Label}
 use Rattle.range.specs.Tuple
-use Rattle.segments.specs.Replies.{Grant, Step, done, leaving, opened, shown}
+use Rattle.segments.specs.Replies.{Grant, Results, Step, applied, done, leaving, opened, shown}
 use Rattle.segments.specs.Segments.{ceilingAt, clearanceAt, pagesAt, pagesValid, segmentAt, segmentOf, slot, slots, withSegment, zeroSegment}
 use Rattle.segments.specs.Slots.{filled, lowestEmpty, owns, pagesOf}
 use Rattle.segments.specs.Sound.{admitted, sound}
 use Rattle.segments.specs.declared.Action.{Action}
 use Rattle.segments.specs.declared.Action.the-variants.{Open, Size, Post, Look, Close}
 use Rattle.segments.specs.declared.Call.{Call}
+use Rattle.segments.specs.declared.Change.{Change}
 use Rattle.segments.specs.declared.Segment.{Segment}
 use Rattle.segments.specs.declared.SegmentTable.{SegmentTable}
 use Rattle.segments.specs.declared.Slot.{Slot}
@@ -144,3 +145,8 @@ answerOf s c = require (sound s) 22 (require (callValid s c) 22 (require (cleare
 -- a granted call changes the slot that it is about and nothing else
 unfoldable pub stepOf : SegmentTable → Call → Step
 stepOf s c = leaving s (withSegment s (target s c) (written (segmentAt s (target s c)) (c .label) (c .action))) (answerOf s c)
+
+-- the code's change is what the call does: made to the state, it gives the call's outcome
+pub record Decides (s : SegmentTable) (c : Call) (x : Change) : Type 0 where
+  pub slot : x .slot .0 < slots
+  pub results : Results (applied s x) (stepOf s c)

@@ -12,10 +12,12 @@ use Rattle.label.specs.declared.Label.{Label}
 use Rattle.range.specs.Tuple
 use Rattle.range.specs.declared.tuple.RegionRange.{RegionRange}
 use Rattle.segments.specs.Calls.{callValid, cleared}
-use Rattle.segments.specs.Replies.{Grant, done}
-use Rattle.segments.specs.Segments.{ceilingAt, slot, slots, tenantAt, tenantId, tenants}
+use Rattle.segments.specs.Replies.{Grant, done, unlabeledAnswer}
+use Rattle.segments.specs.Segments.{ceilingAt, segmentAt, slot, slots, tenantAt, tenantId, tenants}
 use Rattle.segments.specs.Slots.{ceilingsOf, owns}
 use Rattle.segments.specs.Sound.{slotSound, sound, tenantSound, underCeiling, zeros}
+use Rattle.segments.specs.declared.Action.{Action}
+use Rattle.segments.specs.declared.Action.the-variants.{Open, Size, Post, Look, Close}
 use Rattle.segments.specs.declared.Call.{Call}
 use Rattle.segments.specs.declared.Outcome.{Outcome}
 use Rattle.segments.specs.declared.Reply.{Reply}
@@ -23,6 +25,7 @@ use Rattle.segments.specs.declared.Segment.{Segment}
 use Rattle.segments.specs.declared.SegmentTable.{SegmentTable}
 use Rattle.segments.specs.declared.Slot.{Slot}
 use Rattle.segments.specs.declared.TenantId.{TenantId}
+use Rattle.segments.specs.declared.calls.View.{View}
 use Rattle.segments.specs.declared.slots.Free.{Free}
 use Rattle.segments.specs.declared.slots.Free.the-variants.{At, Nothing}
 use Rattle.segments.specs.declared.slots.Owner.{Owner}
@@ -91,6 +94,23 @@ slotsSound s = every (λ p. slotSound s (slot p)) slots
 abbrev pub ceilingsKept : SegmentTable → Bool
 ceilingsKept s = every (λ t. underCeiling s (tenantId t)) tenants
 
+-- ---- what the state has for a call
+
+-- the slot that an action names; an open names none, and has the first here
+abbrev pub namedSlot : Action → Slot
+namedSlot (Open x) = slot 0
+namedSlot (Size x) = x .slot
+namedSlot (Post x) = x .slot
+namedSlot (Look x) = x .slot
+namedSlot (Close x) = x .slot
+
+-- v has the record of the call's tenant and the segment in that slot
+pub record Viewed (s : SegmentTable) (c : Call) (v : View) : Type 0 where
+  pub tenant-in : c .tenant .0 < tenants
+  pub slot-in : namedSlot (c .action) .0 < slots
+  pub tenant : v .tenant ≡ tenantAt s (c .tenant)
+  pub segment : v .segment ≡ segmentAt s (namedSlot (c .action))
+
 -- ---- the checks that every call starts with
 
 unfoldable pub startOf : SegmentTable → Call → Answer Grant
@@ -105,4 +125,4 @@ pub record Started (s : SegmentTable) (c : Call) : Type 0 where
 -- ---- outcomes that show no label
 
 abbrev pub unlabeled : SegmentTable → Reply → Outcome
-unlabeled s r = record { table = s; answer = record { reply = r; label = Label.zeroLabel } }
+unlabeled s r = record { table = s; answer = unlabeledAnswer r }

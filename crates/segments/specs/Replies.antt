@@ -1,10 +1,13 @@
 -- What a call on the state answers, and the state that it leaves. Assumes nothing.
+use mathlib.Core.Bool.{Bool, true, false, cond}
 use mathlib.Core.Path.{_≡_}
 use Rattle.label.specs.Answer as answers
 use Rattle.label.specs.Label
 use Rattle.label.specs.declared.Label.{Label}
-use Rattle.segments.specs.Segments.{segmentOf}
+use Rattle.label.specs.declared.errno.Errno.{Errno}
+use Rattle.segments.specs.Segments.{segmentOf, slot, withSegment, zeroSegment}
 use Rattle.segments.specs.declared.Answer.{Answer}
+use Rattle.segments.specs.declared.Change.{Change}
 use Rattle.segments.specs.declared.Outcome.{Outcome}
 use Rattle.segments.specs.declared.Reply.{Reply}
 use Rattle.segments.specs.declared.Reply.the-variants.{Done, Opened, Shown, Refused}
@@ -35,6 +38,15 @@ abbrev pub labelBeside : answers.Answer Grant → Label
 labelBeside (answers.granted g) = shownLabel g
 labelBeside (answers.refused n detail) = Label.zeroLabel
 
+-- the code's answer is x, with the label that stands beside it
+pub record Answers (a : Answer) (x : answers.Answer Grant) : Type 0 where
+  pub reply : replyOf (a .reply) (a .label) ≡ x
+  pub label : a .label ≡ labelBeside x
+
+-- an answer that shows no label
+abbrev pub unlabeledAnswer : Reply → Answer
+unlabeledAnswer r = record { reply = r; label = Label.zeroLabel }
+
 -- a state and an answer
 pub record Step : Type 0 where
   pub table : SegmentTable
@@ -47,6 +59,20 @@ left s next (answers.refused n detail) = s
 
 abbrev pub leaving : SegmentTable → SegmentTable → answers.Answer Grant → Step
 leaving s next a = record { table = left s next a; answer = a }
+
+abbrev pub isRefusal : Reply → Bool
+isRefusal Done = false
+isRefusal (Opened p) = false
+isRefusal (Shown x) = false
+isRefusal (Refused e) = true
+
+-- the change of a refusal
+abbrev pub refusedWith : Errno → Change
+refusedWith e = record { slot = slot 0; segment = zeroSegment; answer = unlabeledAnswer (Refused e) }
+
+-- the outcome of a change: the slot gets the segment, and a refusal leaves the state as it was
+abbrev pub applied : SegmentTable → Change → Outcome
+applied s c = record { table = cond (isRefusal (c .answer .reply)) s (withSegment s (c .slot) (c .segment)); answer = c .answer }
 
 -- the code's outcome is x, whole
 pub record Results (o : Outcome) (x : Step) : Type 0 where

@@ -2,6 +2,7 @@
 use crate::Action;
 use crate::Answer;
 use crate::Call;
+use crate::Change;
 use crate::CloseCall;
 use crate::LookCall;
 use crate::OpenCall;
@@ -14,11 +15,14 @@ use crate::SegmentTable;
 use crate::Shown;
 use crate::SizeCall;
 use crate::Slot;
+use crate::TENANTS;
+use crate::Tenant;
 use crate::TenantId;
+use crate::no_label;
+use crate::refuses;
 use crate::slots;
 use crate::slots::Free;
 use crate::state;
-use crate::unlabeled;
 use label::Label;
 use label::answer;
 use label::components;
@@ -31,12 +35,18 @@ ghost use Rattle.label.specs.Answer as answers;
 ghost use Rattle.label.specs.Answer.{outcomeOf};
 ghost use Rattle.label.specs.Label as labels;
 ghost use Rattle.segments.specs.Calls as rules;
-ghost use Rattle.segments.specs.Calls.{callOf, closeCall, lookCall, numbersValid, openCall, postCall, sizeCall, slotValid, stepOf};
-ghost use Rattle.segments.specs.Parts.{Started, fitsIn, freeOf, leftOf, startOf};
-ghost use Rattle.segments.specs.Replies.{Results, done, leaving};
-ghost use Rattle.segments.specs.Segments.{ceilingAt, slots, tenants};
+ghost use Rattle.segments.specs.Calls.{Decides, callOf, closeCall, lookCall, numbersValid, openCall, postCall, sizeCall, slotValid, stepOf};
+ghost use Rattle.segments.specs.Parts.{Started, Viewed, fitsIn, freeOf, leftOf, namedSlot, startOf};
+ghost use Rattle.segments.specs.Replies.{Answers, Results, applied, done, refusedWith};
+ghost use Rattle.segments.specs.Segments.{segmentAt, slots, tenantAt, tenants};
 ghost use Rattle.segments.specs.Slots.{pagesOf};
 ghost use Rattle.segments.specs.Sound.{sound};
+
+// What the state has for a call.
+pub(crate) struct View {
+    pub tenant: Tenant,
+    pub segment: Segment,
+}
 
 // ---- the checks that every call starts with
 
@@ -60,35 +70,58 @@ fn numbers_valid(action: Action) -> bool
     }
 }
 
+// The slot that an action names. An open names none, and has the first here.
+fn named(action: Action) -> Slot
+    ensures { λ r. ⌜ r ≡ namedSlot action ⌝ }
+{
+    match action {
+        Action::Open(_) => Slot(0),
+        Action::Size(x) => Slot(x.slot.0),
+        Action::Post(x) => Slot(x.slot.0),
+        Action::Look(x) => Slot(x.slot.0),
+        Action::Close(x) => Slot(x.slot.0),
+    }
+}
+
+// What the state has for a call: its tenant's record, and what is in the slot that it names. They are taken out together and once, since each
+// function that takes something out of the state is handed a copy of it.
+fn view_of(table: SegmentTable, tenant: TenantId, slot: Slot) -> View
+    requires { ⌜ (tenant .0 < tenants) × (slot .0 < slots) ⌝ }
+    ensures { λ r. ⌜ (r .tenant ≡ tenantAt table tenant) × (r .segment ≡ segmentAt table slot) ⌝ }
+{
+    View {
+        tenant: table.tenants[tenant.0 as usize],
+        segment: table.segments[slot.0 as usize],
+    }
+}
+
 // Whether the tenant is admitted, the label valid, and the numbers are in bounds.
-fn valid(table: SegmentTable, call: Call) -> bool
+fn valid(table: SegmentTable, call: Call, v: View) -> bool
+    requires { ⌜ Viewed table call v ⌝ }
     ensures { λ r. ⌜ r ≡ rules.callValid table call ⌝ }
 {
     let action = call.action;
-    state::admitted(table, call.tenant) & label::valid(call.label) & numbers_valid(action)
+    (1 <= v.tenant.ceiling) & label::valid(call.label) & numbers_valid(action)
 }
 
 // Whether the subject's label is in its tenant's clearance.
-fn cleared(table: SegmentTable, call: Call) -> bool
-    requires { ⌜ sound table ≡ true ⌝ }
-    requires { ⌜ rules.callValid table call ≡ true ⌝ }
+fn cleared(table: SegmentTable, call: Call, v: View) -> bool
+    requires { ⌜ Viewed table call v ⌝ }
     ensures { λ r. ⌜ r ≡ rules.cleared table call ⌝ }
 {
-    let tenant = table.tenants[call.tenant.0 as usize];
-    unchecked::contains(tenant.clearance, call.label)
+    unchecked::contains(v.tenant.clearance, call.label)
 }
 
-// The checks that every call starts with, in document 01's order.
-fn start(table: SegmentTable, call: Call) -> answer::Outcome
+// The checks that every call on a sound state starts with, in document 01's order.
+fn start(table: SegmentTable, call: Call, v: View) -> answer::Outcome
+    requires { ⌜ sound table ≡ true ⌝ }
+    requires { ⌜ Viewed table call v ⌝ }
     ensures { λ o. ⌜ outcomeOf o done ≡ startOf table call ⌝ }
 {
-    if !state::sound(table) {
+    if !valid(table, call, v) {
         return answer::Outcome::Refused(Errno::Invalid);
     }
-    if !valid(table, call) {
-        return answer::Outcome::Refused(Errno::Invalid);
-    }
-    if !cleared(table, call) {
+    if !cleared(table, call, v) {
         return answer::Outcome::Refused(Errno::Perm);
     }
     answer::Outcome::Granted
@@ -115,48 +148,46 @@ fn dominates(a: Label, b: Label) -> bool
 }
 
 // Whether the slot is the tenant's own, filled, and its label the subject's.
-fn writable(table: SegmentTable, tenant: TenantId, label: Label, slot: Slot) -> bool
-    requires { ⌜ slot .0 < slots ⌝ }
+fn writable(table: SegmentTable, tenant: TenantId, label: Label, slot: Slot, x: Segment) -> bool
+    requires { ⌜ x ≡ segmentAt table slot ⌝ }
     ensures { λ r. ⌜ r ≡ rules.writable table tenant label slot ⌝ }
 {
-    let segment = table.segments[slot.0 as usize];
-    slots::owns(table, tenant, slot) & slots::filled(table, slot) & equal(label, segment.label)
+    slots::owns(table, tenant, slot) & (1 <= x.pages) & equal(label, x.label)
 }
 
 // Whether the slot is filled and the subject's label dominates the label there.
-fn visible(table: SegmentTable, label: Label, slot: Slot) -> bool
-    requires { ⌜ slot .0 < slots ⌝ }
+fn visible(table: SegmentTable, label: Label, slot: Slot, x: Segment) -> bool
+    requires { ⌜ x ≡ segmentAt table slot ⌝ }
     ensures { λ r. ⌜ r ≡ rules.visible table label slot ⌝ }
 {
-    let segment = table.segments[slot.0 as usize];
-    slots::filled(table, slot) & dominates(label, segment.label)
+    (1 <= x.pages) & dominates(label, x.label)
 }
 
 // Whether the tenant's ceiling has room for pages, some of which take the place of others.
-fn has_room(table: SegmentTable, tenant: TenantId, replaced: u64, pages: u64) -> bool
+fn has_room(table: SegmentTable, tenant: TenantId, ceiling: u64, replaced: u64, pages: u64) -> bool
     requires { ⌜ tenant .0 < tenants ⌝ }
-    ensures { λ r. ⌜ r ≡ fitsIn (leftOf (ceilingAt table tenant) (pagesOf table tenant)) replaced pages ⌝ }
+    ensures { λ r. ⌜ r ≡ fitsIn (leftOf ceiling (pagesOf table tenant)) replaced pages ⌝ }
 {
-    let ceiling = table.tenants[tenant.0 as usize].ceiling;
     slots::fits(slots::pages_left(table, tenant, ceiling), replaced, pages)
 }
 
 // ---- what each action asks, writes and answers
 
 // Whether the subject may do that to the slot that it names. An open names none.
-fn permitted(table: SegmentTable, call: Call) -> bool
-    requires { ⌜ Started table call ⌝ }
+fn permitted(table: SegmentTable, call: Call, v: View) -> bool
+    requires { ⌜ Viewed table call v ⌝ }
     ensures { λ r. ⌜ r ≡ rules.permitted table (call .tenant) (call .label) (call .action) ⌝ }
 {
     let tenant = call.tenant;
     let label = call.label;
     let action = call.action;
+    let segment = v.segment;
     match action {
         Action::Open(_) => true,
-        Action::Size(x) => writable(table, tenant, label, x.slot),
-        Action::Post(x) => writable(table, tenant, label, x.slot),
-        Action::Look(x) => visible(table, label, x.slot),
-        Action::Close(x) => writable(table, tenant, label, x.slot),
+        Action::Size(x) => writable(table, tenant, label, x.slot, segment),
+        Action::Post(x) => writable(table, tenant, label, x.slot, segment),
+        Action::Look(x) => visible(table, label, x.slot, segment),
+        Action::Close(x) => writable(table, tenant, label, x.slot, segment),
     }
 }
 
@@ -177,19 +208,18 @@ fn slot_for(table: SegmentTable, call: Call) -> Free
 }
 
 // Whether the tenant's pages would then be at most its ceiling.
-fn pages_fit(table: SegmentTable, call: Call) -> bool
+fn pages_fit(table: SegmentTable, call: Call, v: View) -> bool
     requires { ⌜ Started table call ⌝ }
+    requires { ⌜ Viewed table call v ⌝ }
     requires { ⌜ rules.permitted table (call .tenant) (call .label) (call .action) ≡ true ⌝ }
     ensures { λ r. ⌜ r ≡ rules.pagesFit table (call .tenant) (call .action) ⌝ }
 {
     let tenant = call.tenant;
     let action = call.action;
+    let ceiling = v.tenant.ceiling;
     match action {
-        Action::Open(x) => has_room(table, tenant, 0, x.pages),
-        Action::Size(x) => {
-            let replaced = table.segments[x.slot.0 as usize].pages;
-            has_room(table, tenant, replaced, x.pages)
-        }
+        Action::Open(x) => has_room(table, tenant, ceiling, 0, x.pages),
+        Action::Size(x) => has_room(table, tenant, ceiling, v.segment.pages, x.pages),
         Action::Post(_) => true,
         Action::Look(_) => true,
         Action::Close(_) => true,
@@ -222,64 +252,117 @@ fn written(segment: Segment, label: Label, action: Action) -> Segment
     }
 }
 
-// The state that a granted call leaves, and its answer: the slot of an open, what a look found, or that it is done.
-fn granted(table: SegmentTable, slot: Slot, segment: Segment, action: Action) -> Outcome
-    ensures { λ r. ⌜ Results r (leaving table table (answers.granted (rules.grantOf slot segment action))) ⌝ }
+// What a granted call answers: the slot of an open, what a look found, or that it is done.
+fn granted(slot: Slot, segment: Segment, action: Action) -> Answer
+    ensures { λ r. ⌜ Answers r (answers.granted (rules.grantOf slot segment action)) ⌝ }
 {
     let shown = segment.label;
     match action {
-        Action::Open(_) => unlabeled(table, Reply::Opened(slot)),
-        Action::Size(_) => unlabeled(table, Reply::Done),
-        Action::Post(_) => unlabeled(table, Reply::Done),
-        Action::Look(_) => Outcome {
-            table,
-            answer: Answer {
-                reply: Reply::Shown(Shown {
-                    pages: segment.pages,
-                    version: segment.version,
-                }),
-                label: shown,
-            },
+        Action::Open(_) => no_label(Reply::Opened(slot)),
+        Action::Size(_) => no_label(Reply::Done),
+        Action::Post(_) => no_label(Reply::Done),
+        Action::Look(_) => Answer {
+            reply: Reply::Shown(Shown {
+                pages: segment.pages,
+                version: segment.version,
+            }),
+            label: shown,
         },
-        Action::Close(_) => unlabeled(table, Reply::Done),
+        Action::Close(_) => no_label(Reply::Done),
+    }
+}
+
+// A refused call changes nothing.
+fn refused(e: Errno) -> Change
+    ensures { λ r. ⌜ r ≡ refusedWith e ⌝ }
+{
+    Change {
+        slot: Slot(0),
+        segment: state::zero_segment(),
+        answer: no_label(Reply::Refused(e)),
     }
 }
 
 // The checks that look into slots, in document 01's order, and the grant.
-fn started(table: SegmentTable, call: Call) -> Outcome
+fn started(table: SegmentTable, call: Call, v: View) -> Change
     requires { ⌜ Started table call ⌝ }
-    ensures { λ r. ⌜ Results r (stepOf table call) ⌝ }
+    requires { ⌜ Viewed table call v ⌝ }
+    ensures { λ r. ⌜ Decides table call r ⌝ }
 {
-    if !permitted(table, call) {
-        return unlabeled(table, Reply::Refused(Errno::Access));
+    if !permitted(table, call, v) {
+        return refused(Errno::Access);
     }
     let free = slot_for(table, call);
-    let room = pages_fit(table, call);
+    let room = pages_fit(table, call, v);
     if !slots::found(free) {
-        return unlabeled(table, Reply::Refused(Errno::NoSpace));
+        return refused(Errno::NoSpace);
     }
     if !room {
-        return unlabeled(table, Reply::Refused(Errno::NoMem));
+        return refused(Errno::NoMem);
     }
     let slot = slots::slot_or_0(free);
-    let segment = table.segments[slot.0 as usize];
+    let segment = v.segment;
     let label = call.label;
     let action = call.action;
-    let next = state::with_segment(table, slot, written(segment, label, action));
-    granted(next, slot, segment, action)
+    Change {
+        slot,
+        segment: written(segment, label, action),
+        answer: granted(slot, segment, action),
+    }
 }
 
 // ---- the calls
+
+// The checks on a sound state.
+fn checked(table: SegmentTable, call: Call, v: View) -> Change
+    requires { ⌜ sound table ≡ true ⌝ }
+    requires { ⌜ Viewed table call v ⌝ }
+    ensures { λ r. ⌜ Decides table call r ⌝ }
+{
+    let o = start(table, call, v);
+    match o {
+        answer::Outcome::Granted => started(table, call, v),
+        answer::Outcome::Refused(e) => refused(e),
+    }
+}
+
+// What a call answers, and what it changes.
+pub fn decide(table: SegmentTable, call: Call) -> Change
+    ensures { λ r. ⌜ Decides table call r ⌝ }
+{
+    if !state::sound(table) {
+        return refused(Errno::Invalid);
+    }
+    let tenant = call.tenant;
+    let action = call.action;
+    let slot = named(action);
+    if !((tenant.0 < TENANTS as u64) & slot_valid(slot)) {
+        return refused(Errno::Invalid);
+    }
+    checked(table, call, view_of(table, tenant, slot))
+}
+
+// Makes a change.
+fn apply(table: SegmentTable, change: Change) -> Outcome
+    requires { ⌜ change .slot .0 < slots ⌝ }
+    ensures { λ r. ⌜ r ≡ applied table change ⌝ }
+{
+    let answer = change.answer;
+    let reply = answer.reply;
+    if refuses(reply) {
+        return Outcome { table, answer };
+    }
+    Outcome {
+        table: state::with_segment(table, change.slot, change.segment),
+        answer,
+    }
+}
 
 // What a call answers, and the state that it leaves.
 pub fn step(table: SegmentTable, call: Call) -> Outcome
     ensures { λ r. ⌜ Results r (stepOf table call) ⌝ }
 {
-    let o = start(table, call);
-    match o {
-        answer::Outcome::Granted => started(table, call),
-        answer::Outcome::Refused(e) => unlabeled(table, Reply::Refused(e)),
-    }
+    apply(table, decide(table, call))
 }
 
 // The same, of an action.

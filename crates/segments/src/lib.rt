@@ -9,6 +9,7 @@ use label::errno::Errno;
 use range::tuple::Tuple;
 ghost use mathlib.Core.Path.{_≡_};
 ghost use Rattle.segments.specs.Parts as parts;
+ghost use Rattle.segments.specs.Replies.{isRefusal, unlabeledAnswer};
 ghost use Rattle.segments.specs.Segments.{Lengths};
 
 // How many tenants, and how many slots, a machine has.
@@ -105,10 +106,39 @@ pub struct Answer {
     pub label: Label,
 }
 
+// What a call changes, and its answer: the slot gets the segment. Beside a refusal both are zeros and nothing changes.
+pub struct Change {
+    pub slot: Slot,
+    pub segment: Segment,
+    pub answer: Answer,
+}
+
 // The state that a call leaves, and its answer.
 pub struct Outcome {
     pub table: SegmentTable,
     pub answer: Answer,
+}
+
+// Whether a reply is a refusal.
+pub fn refuses(reply: Reply) -> bool
+    ensures { λ r. ⌜ r ≡ isRefusal reply ⌝ }
+{
+    match reply {
+        Reply::Done => false,
+        Reply::Opened(_) => false,
+        Reply::Shown(_) => false,
+        Reply::Refused(_) => true,
+    }
+}
+
+// A reply that shows no label.
+pub(crate) fn no_label(reply: Reply) -> Answer
+    ensures { λ r. ⌜ r ≡ unlabeledAnswer reply ⌝ }
+{
+    Answer {
+        reply,
+        label: label::zero(),
+    }
 }
 
 // A state and a reply that shows no label.
@@ -117,10 +147,7 @@ pub(crate) fn unlabeled(table: SegmentTable, reply: Reply) -> Outcome
 {
     Outcome {
         table,
-        answer: Answer {
-            reply,
-            label: label::zero(),
-        },
+        answer: no_label(reply),
     }
 }
 

@@ -89,14 +89,7 @@ pub(crate) fn owner_or(owner: Owner, other: u64) -> u64
     }
 }
 
-// Whether p has pages.
-pub(crate) fn filled(s: SegmentTable, p: Slot) -> bool
-    requires { ⌜ p .0 < slots ⌝ }
-    ensures { λ r. ⌜ r ≡ rules.filled s p ⌝ }
-{
-    1 <= s.segments[p.0 as usize].pages
-}
-
+// The lowest slot of t's own without pages, if there is one.
 pub(crate) fn lowest_empty(s: SegmentTable, t: TenantId) -> Free
     requires { ⌜ t .0 < tenants ⌝ }
     ensures { λ r. ⌜ freeOf r ≡ rules.lowestEmpty s t ⌝ }
@@ -105,7 +98,8 @@ pub(crate) fn lowest_empty(s: SegmentTable, t: TenantId) -> Free
     let count = slot_count(s, t);
     let mut k: u64 = 0;
     while k < count {
-        if !filled(s, Slot(first + k)) {
+        let pages = s.segments[(first + k) as usize].pages;
+        if pages == 0 {
             return Free::At(Slot(first + k));
         }
         k += 1;

@@ -13,4 +13,4 @@ returns c =
     c .fits2 .ensures ∙ ap (λ (x : Option ℕ). fitsIn x (a .replaced) (a .pages)) (p .pages-left .ensures)
 
 pub has-room-spec : {M : Type 1} → statement M
-has-room-spec = tie.close (tie.spec (search needs) (search needs) (search needs) (search needs) returns)
+has-room-spec = tie.close (tie.spec (search needs) (search needs) returns)

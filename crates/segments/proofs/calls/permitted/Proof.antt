@@ -1,20 +1,18 @@
 use borrow.Author.Needs.{needs}
-use mathlib.Core.Path.{refl}
-use Rattle.segments.proofs.ResultsLaws.{started-slot}
 use Rattle.segments.proofs.calls.permitted.Statement.{statement}
 use Rattle.segments.proofs.calls.permitted.Tie as tie
 
 writable-requires : tie.Need-writable-requires
-writable-requires c κs = started-slot _ _ (c .before .before .before .before .before .pre) (c .before .action .given .1) refl
+writable-requires c κs = rw (c .before .action .given .1) at (c .before .before .before .before .before .before .pre .segment)
 
 writable-requires-2 : tie.Need-writable-requires-2
-writable-requires-2 c κs = started-slot _ _ (c .before .before .before .before .before .pre) (c .before .action2 .given .1) refl
+writable-requires-2 c κs = rw (c .before .action2 .given .1) at (c .before .before .before .before .before .before .pre .segment)
 
 visible-requires : tie.Need-visible-requires
-visible-requires c κs = started-slot _ _ (c .before .before .before .before .before .pre) (c .before .action3 .given .1) refl
+visible-requires c κs = rw (c .before .action3 .given .1) at (c .before .before .before .before .before .before .pre .segment)
 
 writable-requires-3 : tie.Need-writable-requires-3
-writable-requires-3 c κs = started-slot _ _ (c .before .before .before .before .before .pre) (c .before .action4 .given .1) refl
+writable-requires-3 c κs = rw (c .before .action4 .given .1) at (c .before .before .before .before .before .before .pre .segment)
 
 returns-2 : tie.Need-returns-2
 returns-2 c = rw (c .writable .ensures, c .before .before .action .given .1)
@@ -29,4 +27,6 @@ returns-5 : tie.Need-returns-5
 returns-5 c = rw (c .writable3 .ensures, c .before .before .action4 .given .1)
 
 pub permitted-spec : {M : Type 1} → statement M
-permitted-spec = tie.close (tie.spec (search needs) (search needs) writable-requires (search needs) writable-requires-2 (search needs) visible-requires (search needs) writable-requires-3 (λ c. search needs) returns-2 returns-3 returns-4 returns-5)
+permitted-spec =
+    tie.close (tie.spec (search needs) (search needs) writable-requires (search needs) writable-requires-2 (search needs) visible-requires (search needs) writable-requires-3
+    (λ c. search needs) returns-2 returns-3 returns-4 returns-5)

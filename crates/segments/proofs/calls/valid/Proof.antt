@@ -1,11 +1,16 @@
 use borrow.Author.Needs.{needs}
+use borrow.Author.Tests.{lt-ltb}
 use Rattle.segments.specs.Calls.{callValid}
+use Rattle.segments.specs.Segments.{tenants}
+use Rattle.segments.specs.Sound.{admitted}
 use Rattle.segments.proofs.calls.valid.Statement.{statement}
 use Rattle.segments.proofs.calls.valid.Tie as tie
 
 returns : tie.Need-returns
-unfolding callValid
-returns c = rw (c .before .before .admitted .ensures, c .before .valid .ensures, c .numbers-valid .ensures)
+unfolding callValid admitted
+returns c =
+    let v = c .before .before .before .pre in
+    rw (lt-ltb _ tenants (v .tenant-in), ← v .tenant, c .before .valid .ensures, c .numbers-valid .ensures)
 
 pub valid-spec : {M : Type 1} → statement M
-valid-spec = tie.close (tie.spec (search needs) (search needs) (search needs) returns)
+valid-spec = tie.close (tie.spec (search needs) (search needs) returns)

@@ -1,11 +1,12 @@
 use borrow.Author.Needs.{needs}
 use mathlib.Core.Bool.{false, not}
-use mathlib.Core.Path.{_≡_, sym, ap, _∙_}
+use mathlib.Core.Path.{_≡_, ap}
 use Prim.Native.Nat.{ℕ, _+_, _-_, _≤_, _<_}
 use native.Mathlib.Omega.{arith}
 use borrow.Author.Count.{below-more}
-use Rattle.segments.specs.Segments.{slots}
-use Rattle.segments.specs.Slots.{emptyAt}
+use borrow.Author.Tests.{le-leb, lt-leb}
+use Rattle.segments.specs.Segments.{pagesAt, slot, slots}
+use Rattle.segments.specs.Slots.{emptyAt, filled}
 use Rattle.segments.proofs.SlotsLaws.{bound-by, lowest-found, lowest-none}
 use Rattle.segments.proofs.slots.lowest_empty.Statement.{statement}
 use Rattle.segments.proofs.slots.lowest_empty.Tie as tie
@@ -23,35 +24,44 @@ bound c = bound-by _ _ _ _ (c .before .first-slot .ensures) (c .slot-count .ensu
 loop-holds : tie.Need-loop-holds Inv-loop μ-loop
 loop-holds c = (search needs, λ j l. absurd (omega arith))
 
-add-t7 : tie.Need-add-t7 Inv-loop μ-loop
-add-t7 c = let b = bound (c .before .before) in omega arith
+add-pages : tie.Need-add-pages Inv-loop μ-loop
+add-pages c = let b = bound (c .before .before) in omega arith
 
-filled-requires : tie.Need-filled-requires Inv-loop μ-loop
-filled-requires c κs = let b = bound (c .before .before) in omega arith
+mul-pages : tie.Need-mul-pages Inv-loop μ-loop
+mul-pages c = let b = bound (c .before .before) in omega arith
 
-add-t10 : tie.Need-add-t10 Inv-loop μ-loop
-add-t10 c = let b = bound (c .before .before .before .before) in omega arith
+element-copy-out-pages : tie.Need-element-copy-out-pages Inv-loop μ-loop
+element-copy-out-pages c = let b = bound (c .before .before) in omega arith
+
+add-t15 : tie.Need-add-t15 Inv-loop μ-loop
+add-t15 c = let b = bound (c .before .before .before) in omega arith
 
 returns : tie.Need-returns Inv-loop μ-loop
+unfolding filled
 returns c =
-    let h = c .before .before .before in
+    let h = c .before .before in
     let n = h .before in
     let a = n .before .before .args in
-    lowest-found (a .s) (a .t) _ _ (n .before .first-slot .ensures) (n .slot-count .ensures) (h .loop .k) (c .before .before .loop-test .taken) (h .loop .inv .1) (ap not (sym (c .before .filled .ensures)) ∙ c .if1 .taken)
+    let e = c .if1 .taken in
+    lowest-found (a .t1) (a .t) _ _ (n .before .first-slot .ensures) (n .slot-count .ensures) (h .loop .k) (c .before .loop-test .taken) (h .loop .inv .1)
+    (ap not (lt-leb 1 (pagesAt (a .t1) (slot (n .before .first-slot .result + h .loop .k))) (omega arith)))
 
 loop-again : tie.Need-loop-again Inv-loop μ-loop
+unfolding filled
 loop-again c =
-    let h = c .before .before .before in
-    (search needs, below-more _ _ (h .loop .inv .1) (ap not (sym (c .before .filled .ensures)) ∙ c .if1 .left))
+    let h = c .before .before in
+    let n = h .before in
+    let e = c .if1 .left in
+    (search needs, below-more _ _ (h .loop .inv .1) (ap not (le-leb 1 (pagesAt (n .before .before .args .t1) (slot (n .before .first-slot .result + h .loop .k))) (omega arith))))
 
 returns-2 : tie.Need-returns-2 Inv-loop μ-loop
 returns-2 c =
     let h = c .before in
     let n = h .before in
     let a = n .before .before .args in
-    lowest-none (a .s) (a .t) _ _ (n .before .first-slot .ensures) (n .slot-count .ensures) (h .loop .k) (omega arith) (h .loop .inv .1)
+    lowest-none (a .t1) (a .t) _ _ (n .before .first-slot .ensures) (n .slot-count .ensures) (h .loop .k) (omega arith) (h .loop .inv .1)
 
 pub lowest-empty-spec : {M : Type 1} → statement M
 lowest-empty-spec =
-    tie.close (tie.spec Inv-loop μ-loop (search needs) (search needs) loop-holds add-t7 filled-requires add-t10 returns (search needs)
+    tie.close (tie.spec Inv-loop μ-loop (search needs) (search needs) loop-holds add-pages mul-pages element-copy-out-pages add-t15 returns (search needs)
     (search needs) loop-again returns-2)
