@@ -1,18 +1,21 @@
 -- Laws of the forms: what is formed comes back from its value as it was, so that a refused call hands back the very state that was passed. Assumes nothing.
-use mathlib.Core.Bool.{Bool, true, false}
+use mathlib.Core.Bool.{Bool, true, false, cond, or-false}
 use mathlib.Core.Path.{_≡_, refl, sym, ap, _∙_}
 use Prim.Native.Nat.{ℕ, zero, suc, _<_, _≤_}
 use native.Mathlib.Omega.{arith}
 use lib.ListN.{length}
-use borrow.Author.Tests.{leb-true}
+use borrow.Author.Tests.{leb-true, lt-leb}
 use Rattle.label.specs.Index.{tabulate}
 use Rattle.label.specs.Region.{regions}
 use Rattle.label.proofs.IndexLaws.{every-at, tabulate-at, tabulate-is}
 use Rattle.range.specs.Tuple as coreTuples
 use Rattle.range.specs.declared.tuple.RegionRange as coreRegion
-use Rattle.segments.specs.Replies.{Step}
+use Rattle.segments.specs.Replies.{Step, applied, isRefusal}
 use Rattle.segments.specs.Segments as core
+use Rattle.segments.specs.declared.Change.{Change}
+use Rattle.segments.specs.declared.Segment.{Segment}
 use Rattle.segments.specs.declared.SegmentTable.{SegmentTable}
+use Rattle.segments.specs.declared.Slot.{Slot}
 use Rattle.segments.specs.declared.Tenant as coreTenant
 use Rattle.abi.specs.Flag as flags
 use Rattle.abi.specs.Table as tables
@@ -59,6 +62,24 @@ table-back s long h = sym (ap (λ ts. tables.tableOf (s .pool) ts (s .segments))
     at i l =
         tenant-back (tables.tenantAt s i) (long .regions-are i l) (every-at (λ k. tuples.formedOf (tables.tenantAt s k .clearance)) core.tenants i h l)
         ∙ ap tables.encodedTenant (sym (tabulate-at decoded core.tenants i _ l))
+
+segment-set : (u : SegmentTable) (p : Slot) (x : Segment) → tables.withSegment (tables.encodedOf u) p x ≡ tables.encodedOf (core.withSegment u p x)
+unfolding tables.encodedOf
+segment-set u p x = refl
+
+-- a change that is made to a state whose flags are flags, and not to its value, hands back the same
+pub applied-back : (s : Table) (c : Change) → tables.Lengths s → tables.formedOf s ≡ true → c .slot .0 < core.slots
+    → tables.appliedTo s c ≡ tables.handedBack (applied (tables.decodedOf s) c)
+applied-back s c long h l =
+    rw (lt-leb core.slots (c .slot .0) l, or-false (isRefusal (c .answer .reply)))
+    (ap (λ t. tables.outcome t (tables.replyAnswer (c .answer .reply)) (tables.segmentBeside (c .answer .reply) (c .answer .label))) (go (isRefusal (c .answer .reply))))
+  where
+    back : tables.encodedOf (tables.decodedOf s) ≡ s
+    back = table-back s long h
+
+    go : (b : Bool) → cond b s (tables.withSegment s (c .slot) (c .segment)) ≡ tables.encodedOf (cond b (tables.decodedOf s) (core.withSegment (tables.decodedOf s) (c .slot) (c .segment)))
+    go true = sym back
+    go false = ap (λ t. tables.withSegment t (c .slot) (c .segment)) (sym back) ∙ segment-set (tables.decodedOf s) (c .slot) (c .segment)
 
 -- a call that is refused hands back the state that was passed, whether its flags are flags or not
 pub refused-call-keeps : (s : Table) → tables.Lengths s → (formed : Bool) → (formed ≡ true → tables.formedOf s ≡ true) → (step : SegmentTable → Step)

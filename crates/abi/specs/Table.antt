@@ -1,21 +1,24 @@
 -- The state as C has it, and what a call on it hands back. Assumes nothing.
-use mathlib.Core.Bool.{Bool, cond}
+use mathlib.Core.Bool.{Bool, cond, _||_}
 use mathlib.Core.List.{List, []}
 use mathlib.Core.Option.{none}
 use mathlib.Core.Path.{_≡_}
 use Prim.Native.Nat.{ℕ, _<_}
-use lib.ListN.{getD, length}
+use lib.Dec.{leb}
+use lib.ListN.{getD, length, set}
 use Rattle.label.specs.Answer as answers
 use Rattle.label.specs.Index.{every, tabulate}
 use Rattle.label.specs.Region.{regions}
 use Rattle.label.specs.declared.Label.{Label}
-use Rattle.segments.specs.Replies.{Grant, Step, done, opened, shown}
+use Rattle.segments.specs.Replies.{Grant, Step, done, isRefusal, opened, shown}
 use Rattle.segments.specs.Segments as core
+use Rattle.segments.specs.declared.Change.{Change}
 use Rattle.segments.specs.declared.Outcome as coreOutcome
 use Rattle.segments.specs.declared.Reply.{Reply}
 use Rattle.segments.specs.declared.Reply.the-variants.{Done, Opened, Shown, Refused}
 use Rattle.segments.specs.declared.Segment.{Segment}
 use Rattle.segments.specs.declared.SegmentTable.{SegmentTable}
+use Rattle.segments.specs.declared.Slot.{Slot}
 use Rattle.segments.specs.declared.Tenant as coreTenant
 use Rattle.abi.specs.Answer.{grant, numbered, refusal, refusalBy}
 use Rattle.abi.specs.Tuple
@@ -95,6 +98,16 @@ segmentBeside (Refused e) l = core.zeroSegment
 
 abbrev pub handedBack : coreOutcome.Outcome → Outcome
 handedBack o = outcome (encodedOf (o .table)) (replyAnswer (o .answer .reply)) (segmentBeside (o .answer .reply) (o .answer .label))
+
+-- the state with another segment in a slot
+abbrev pub withSegment : Table → Slot → Segment → Table
+withSegment s p x = tableOf (s .pool) (s .tenants) (set (s .segments) (p .0) x)
+
+-- what a call hands back that makes this change, if it is no refusal and there is such a slot
+abbrev pub appliedTo : Table → Change → Outcome
+appliedTo s c =
+    outcome (cond (isRefusal (c .answer .reply) || leb core.slots (c .slot .0)) s (withSegment s (c .slot) (c .segment))) (replyAnswer (c .answer .reply))
+    (segmentBeside (c .answer .reply) (c .answer .label))
 
 -- what every value of the code's type Table has (`abi::table::lengths` proves it)
 pub record Lengths (s : Table) : Type 0 where

@@ -5,18 +5,22 @@ use crate::tuple;
 use crate::tuple::Tuple;
 use label::Label;
 use label::errno::Errno;
+use segments::Change;
 use segments::Reply;
 use segments::SLOTS;
 use segments::Segment;
 use segments::SegmentTable;
+use segments::Slot;
 use segments::TENANTS;
 ghost use mathlib.Core.Path.{_≡_};
+ghost use mathlib.Core.Bool.{true};
 ghost use Prim.Native.Nat.{_<_};
 ghost use lib.ListN.{length};
 ghost use Rattle.label.specs.Region.{regions};
+ghost use Rattle.segments.specs.Replies.{applied};
 ghost use Rattle.segments.specs.Segments as core;
 ghost use Rattle.segments.specs.Segments.{zeroSegment};
-ghost use Rattle.abi.specs.Table.{Lengths, decodedOf, decodedTenant, encodedOf, encodedTenant, formedOf, handedBack, refusedWith, replyAnswer, segmentBeside, tenantAt};
+ghost use Rattle.abi.specs.Table.{Lengths, appliedTo, decodedOf, decodedTenant, encodedOf, encodedTenant, formedOf, handedBack, refusedWith, replyAnswer, segmentBeside, tenantAt, withSegment};
 
 #[repr(C)]
 pub struct Tenant {
@@ -159,6 +163,39 @@ pub fn hand_back(o: segments::Outcome) -> Outcome
     let table = o.table;
     Outcome {
         table: encode(table),
+        answer: reply(r),
+        shown: shown(r, a.label),
+    }
+}
+
+// The state with another segment in a slot.
+fn with_segment(s: Table, p: Slot, x: Segment) -> Table
+    requires { ⌜ p .0 < core.slots ⌝ }
+    ensures { λ r. ⌜ r ≡ withSegment s p x ⌝ }
+{
+    let mut next = s;
+    next.segments[p.0 as usize] = x;
+    next
+}
+
+// What a call hands back that changes the state so; no slot that is not there is changed. The change is made to the state as it was passed: of a
+// state that is formed nothing is encoded again.
+pub fn apply(table: Table, change: Change) -> Outcome
+    ensures { λ r. ⌜ r ≡ appliedTo table change ⌝ }
+    ensures { λ r. ⌜ ((formedOf table ≡ true) × (change .slot .0 < core.slots) → r ≡ handedBack (applied (decodedOf table) change)) ⌝ }
+{
+    lengths(table);
+    let a = change.answer;
+    let r = a.reply;
+    if segments::refuses(r) | (SLOTS as u64 <= change.slot.0) {
+        return Outcome {
+            table,
+            answer: reply(r),
+            shown: shown(r, a.label),
+        };
+    }
+    Outcome {
+        table: with_segment(table, change.slot, change.segment),
         answer: reply(r),
         shown: shown(r, a.label),
     }

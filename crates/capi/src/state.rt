@@ -8,6 +8,13 @@ use abi::tuple;
 use abi::tuple::Tuple;
 use label::Label;
 use label::errno::Errno;
+use segments::Action;
+use segments::Call;
+use segments::CloseCall;
+use segments::LookCall;
+use segments::OpenCall;
+use segments::PostCall;
+use segments::SizeCall;
 use segments::Slot;
 use segments::TenantId;
 use segments::calls;
@@ -65,7 +72,13 @@ pub extern "C" fn lurm_open(table: Table, tenant: u64, label: Label, pages: u64)
     ensures { λ r. ⌜ r ≡ callOf table (formedOf table) (λ s. stepOf s (openCall (tenantId tenant) label pages)) ⌝ }
 {
     if table::formed(table) {
-        return table::hand_back(calls::open(table::decode(table), TenantId(tenant), label, pages));
+        let action = Action::Open(OpenCall { pages });
+        let call = Call {
+            tenant: TenantId(tenant),
+            label,
+            action,
+        };
+        return table::apply(table, calls::decide(table::decode(table), call));
     }
     table::refuse(table)
 }
@@ -81,13 +94,16 @@ pub extern "C" fn lurm_size(
     ensures { λ r. ⌜ r ≡ callOf table (formedOf table) (λ s. stepOf s (sizeCall (tenantId tenant) label (slotOf slot) pages)) ⌝ }
 {
     if table::formed(table) {
-        return table::hand_back(calls::size(
-            table::decode(table),
-            TenantId(tenant),
-            label,
-            Slot(slot),
+        let action = Action::Size(SizeCall {
+            slot: Slot(slot),
             pages,
-        ));
+        });
+        let call = Call {
+            tenant: TenantId(tenant),
+            label,
+            action,
+        };
+        return table::apply(table, calls::decide(table::decode(table), call));
     }
     table::refuse(table)
 }
@@ -103,13 +119,16 @@ pub extern "C" fn lurm_post(
     ensures { λ r. ⌜ r ≡ callOf table (formedOf table) (λ s. stepOf s (postCall (tenantId tenant) label (slotOf slot) version)) ⌝ }
 {
     if table::formed(table) {
-        return table::hand_back(calls::post(
-            table::decode(table),
-            TenantId(tenant),
-            label,
-            Slot(slot),
+        let action = Action::Post(PostCall {
+            slot: Slot(slot),
             version,
-        ));
+        });
+        let call = Call {
+            tenant: TenantId(tenant),
+            label,
+            action,
+        };
+        return table::apply(table, calls::decide(table::decode(table), call));
     }
     table::refuse(table)
 }
@@ -119,12 +138,13 @@ pub extern "C" fn lurm_look(table: Table, tenant: u64, label: Label, slot: u64) 
     ensures { λ r. ⌜ r ≡ callOf table (formedOf table) (λ s. stepOf s (lookCall (tenantId tenant) label (slotOf slot))) ⌝ }
 {
     if table::formed(table) {
-        return table::hand_back(calls::look(
-            table::decode(table),
-            TenantId(tenant),
+        let action = Action::Look(LookCall { slot: Slot(slot) });
+        let call = Call {
+            tenant: TenantId(tenant),
             label,
-            Slot(slot),
-        ));
+            action,
+        };
+        return table::apply(table, calls::decide(table::decode(table), call));
     }
     table::refuse(table)
 }
@@ -134,12 +154,13 @@ pub extern "C" fn lurm_close(table: Table, tenant: u64, label: Label, slot: u64)
     ensures { λ r. ⌜ r ≡ callOf table (formedOf table) (λ s. stepOf s (closeCall (tenantId tenant) label (slotOf slot))) ⌝ }
 {
     if table::formed(table) {
-        return table::hand_back(calls::close(
-            table::decode(table),
-            TenantId(tenant),
+        let action = Action::Close(CloseCall { slot: Slot(slot) });
+        let call = Call {
+            tenant: TenantId(tenant),
             label,
-            Slot(slot),
-        ));
+            action,
+        };
+        return table::apply(table, calls::decide(table::decode(table), call));
     }
     table::refuse(table)
 }
