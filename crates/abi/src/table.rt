@@ -202,11 +202,11 @@ pub fn apply(table: Table, change: Change) -> Outcome
 }
 
 // The refusal of a state, or of an argument, that is not formed: the state as it was.
-pub fn refuse(table: Table) -> Outcome
-    ensures { λ r. ⌜ r ≡ refusedWith table ⌝ }
+pub fn refuse(s: Table) -> Outcome
+    ensures { λ r. ⌜ r ≡ refusedWith s ⌝ }
 {
     Outcome {
-        table,
+        table: s,
         answer: answer::refused(Errno::Invalid),
         shown: no_segment(),
     }
