@@ -13,9 +13,16 @@ pub fn contains_at(e: RegionRange, l: Label) -> bool
     e.present & crate::holds(e.range, l)
 }
 
-// Whether a label is in a tuple.
+// Whether a label is in a tuple. Each region has its own step: a tuple that is indexed by a variable is copied first.
 pub fn contains(t: Tuple, l: Label) -> bool
     ensures { λ r. ⌜ r ≡ containsOf t l ⌝ }
 {
-    contains_at(t.ranges[region::of_hierarchy(l.hierarchy)], l)
+    let r = region::of_hierarchy(l.hierarchy);
+    if r == region::VIRUS_PREVENTION {
+        return contains_at(t.ranges[region::VIRUS_PREVENTION], l);
+    }
+    if r == region::USER {
+        return contains_at(t.ranges[region::USER], l);
+    }
+    contains_at(t.ranges[region::ADMINISTRATIVE], l)
 }

@@ -133,12 +133,16 @@ fn ceilings_kept(s: SegmentTable) -> bool
     true
 }
 
-// Whether the state keeps document 01's rules. Every call tests this first and refuses an unsound state with 22.
+// Whether the state keeps document 01's rules. Every call tests this first and refuses an unsound state with 22. The slots, which take most of the
+// time, are tested first: the state is then copied once for them.
 pub fn sound(s: SegmentTable) -> bool
     ensures { λ r. ⌜ r ≡ rules.sound s ⌝ }
 {
-    if pages_valid(s.pool) & tenants_sound(s) {
-        return slots_sound(s) & slots::kept(slots::pool_left(s)) & ceilings_kept(s);
+    if slots_sound(s) {
+        return pages_valid(s.pool)
+            & tenants_sound(s)
+            & slots::kept(slots::pool_left(s))
+            & ceilings_kept(s);
     }
     false
 }

@@ -1,6 +1,5 @@
 use borrow.Author.Needs.{needs}
-use mathlib.Core.Bool.{Bool}
-use mathlib.Core.Path.{ap, _∙_}
+use mathlib.Core.Path.{_≡_, sym, ap, _∙_}
 use Prim.Native.Nat.{ℕ}
 use native.Mathlib.Omega.{arith}
 use Rattle.label.proofs.RegionLaws.{region-within}
@@ -8,17 +7,26 @@ use Rattle.range.specs.Tuple.{containsAt, containsOf, rangeAt}
 use Rattle.range.proofs.unchecked.contains.Statement.{statement}
 use Rattle.range.proofs.unchecked.contains.Tie as tie
 
-mul-contains-at : tie.Need-mul-contains-at
-mul-contains-at c = omega (arith, region-within (c .before .args .l .hierarchy) .known)
-
-element-copy-out-contains-at : tie.Need-element-copy-out-contains-at
-element-copy-out-contains-at c = omega (arith, region-within (c .before .args .l .hierarchy) .known)
+-- what is asked of the range at n, where n is the region
+asked : (c : tie.After-of-hierarchy) (n : ℕ) → c .of-hierarchy .result ≡ n → let a = c .before .args in containsAt (rangeAt (a .t1) n) (a .l) ≡ containsOf (a .t1) (a .l)
+unfolding containsOf
+asked c n e = let a = c .before .args in ap (λ (r : ℕ). containsAt (rangeAt (a .t1) r) (a .l)) (sym e ∙ c .of-hierarchy .ensures)
 
 returns : tie.Need-returns
-unfolding containsOf
-returns c =
-    let s = c .before .before in
-    c .contains-at .ensures ∙ ap (λ (r : ℕ). containsAt (rangeAt (s .before .args .t1) r) (s .before .args .l)) (s .of-hierarchy .ensures)
+returns c = let t = c .before .before in c .contains-at .ensures ∙ asked (t .before) 0 (t .if1 .taken)
+
+returns-2 : tie.Need-returns-2
+returns-2 c = let t = c .before .before in c .contains-at2 .ensures ∙ asked (t .before .before) 1 (t .if2 .taken)
+
+returns-3 : tie.Need-returns-3
+returns-3 c =
+    let e = c .before .before in
+    let h = e .before .before in
+    let p = e .before .if1 .left in
+    let q = e .if2 .left in
+    let w = rw (← h .of-hierarchy .ensures) at (region-within (h .before .args .l .hierarchy) .known) in
+    c .contains-at3 .ensures ∙ asked h 2 (omega arith)
 
 pub contains-spec : {M : Type 1} → statement M
-contains-spec = tie.close (tie.spec (search needs) mul-contains-at element-copy-out-contains-at (search needs) returns)
+contains-spec =
+    tie.close (tie.spec (search needs) (search needs) (search needs) returns (search needs) (search needs) returns-2 (search needs) (search needs) returns-3)

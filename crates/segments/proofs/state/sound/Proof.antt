@@ -1,6 +1,6 @@
 use borrow.Author.Needs.{needs}
-use mathlib.Core.Bool.{_&&_}
-use mathlib.Core.Path.{_≡_, sym, ap₂, _∙_}
+use mathlib.Core.Bool.{_&&_, and-false, and-true}
+use mathlib.Core.Path.{sym, _∙_}
 use Rattle.segments.specs.Parts.{tenantsSound}
 use Rattle.segments.specs.Segments.{pagesValid}
 use Rattle.segments.specs.Slots.{ceilingsOf}
@@ -9,24 +9,27 @@ use Rattle.segments.proofs.LimitLaws.{kept-exact}
 use Rattle.segments.proofs.state.sound.Statement.{statement}
 use Rattle.segments.proofs.state.sound.Tie as tie
 
--- the first test
-tested : (c : tie.After-tenants-sound) → let s = c .before .before .args .s in (pagesValid (s .pool) && tenantsSound s) ≡ (c .before .pages-valid .result && c .tenants-sound .result)
-tested c = ap₂ _&&_ (sym (c .before .pages-valid .ensures)) (sym (c .tenants-sound .ensures))
-
 returns : tie.Need-returns
 unfolding sound
 returns c =
     let k = c .before in
     let l = k .before in
     let x = l .before in
-    let t = x .before in
-    let s = t .before .before .before .args .s in
-    rw
-    (tested (t .before) ∙ t .if1 .taken, x .slots-sound .ensures, kept-exact (s .pool) (ceilingsOf s) (l .pool-left .ensures) (k .kept .ensures), c .ceilings-kept .ensures)
+    let v = x .before in
+    let t = v .before in
+    let s = t .before .before .args .s in
+    rw (
+      sym (t .before .slots-sound .ensures) ∙ t .if1 .taken,
+      and-true (pagesValid (s .pool) && tenantsSound s),
+      v .pages-valid .ensures,
+      x .tenants-sound .ensures,
+      kept-exact (s .pool) (ceilingsOf s) (l .pool-left .ensures) (k .kept .ensures),
+      c .ceilings-kept .ensures,
+    )
 
 returns-2 : tie.Need-returns-2
 unfolding sound
-returns-2 c = rw (tested (c .before) ∙ c .if1 .left)
+returns-2 c = let s = c .before .before .args .s in rw (sym (c .before .slots-sound .ensures) ∙ c .if1 .left, and-false (pagesValid (s .pool) && tenantsSound s))
 
 pub sound-spec : {M : Type 1} → statement M
 sound-spec =
