@@ -1,13 +1,10 @@
 -- What the monitor is asked, as C has it. Assumes nothing.
-use mathlib.Core.Bool.{Bool, cond, not, _&&_, _||_}
+use mathlib.Core.Bool.{Bool, not, _&&_, _||_}
 use Prim.Native.Nat.{ℕ}
-use lib.Dec.{eqb, leb}
+use lib.Dec.{leb}
+use Rattle.monitor.specs.Numbers.{classOf, kindOf}
 use Rattle.monitor.specs.declared.Credentials as coreCredentials
-use Rattle.monitor.specs.declared.FileKind.{FileKind}
-use Rattle.monitor.specs.declared.FileKind.the-variants.{Regular, Directory, Other}
 use Rattle.monitor.specs.declared.Object as coreObject
-use Rattle.monitor.specs.declared.ObjectClass.{ObjectClass}
-use Rattle.monitor.specs.declared.ObjectClass.the-variants.{File, Fifo, Process, MessageQueue, SharedMemory, Semaphore}
 use Rattle.monitor.specs.declared.Request as coreRequest
 use Rattle.abi.specs.Flag
 use Rattle.abi.specs.Tuple
@@ -36,17 +33,6 @@ objectFormed o =
     && Flag.formedOf (o .«has_label»)
     && Flag.formedOf (o .«has_tuple»)
     && (not (Flag.decodedOf (o .«has_tuple»)) || Tuple.formedOf (o .tuple))
-
--- the classes by their numbers, 0 to 5
-abbrev pub classOf : ℕ → ObjectClass
-classOf n =
-    cond (eqb n 0) File
-    (cond (eqb n 1) Fifo
-    (cond (eqb n 2) Process (cond (eqb n 3) MessageQueue (cond (eqb n 4) SharedMemory Semaphore))))
-
--- the kinds by their numbers, 0 to 2
-abbrev pub kindOf : ℕ → FileKind
-kindOf n = cond (eqb n 0) Regular (cond (eqb n 1) Directory Other)
 
 abbrev pub objectOf : Object → coreObject.Object
 objectOf o = record {

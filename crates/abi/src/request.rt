@@ -2,13 +2,12 @@
 use crate::tuple;
 use crate::tuple::Tuple;
 use label::Label;
-use monitor::FileKind;
-use monitor::ObjectClass;
 use monitor::Presence;
 use monitor::Privileges;
+use monitor::numbers;
 use range::Range;
 ghost use mathlib.Core.Path.{_≡_};
-ghost use Rattle.abi.specs.Request.{classOf, credentialsFormed, credentialsOf, kindOf, objectFormed, objectOf};
+ghost use Rattle.abi.specs.Request.{credentialsFormed, credentialsOf, objectFormed, objectOf};
 
 #[repr(C)]
 pub struct Credentials {
@@ -63,46 +62,13 @@ pub fn object_formed(o: Object) -> bool
         & ((o.has_tuple != 1) | tuple::formed(o.tuple))
 }
 
-fn class(n: u32) -> ObjectClass
-    ensures { λ r. ⌜ r ≡ classOf n ⌝ }
-{
-    if n == 0 {
-        return ObjectClass::File;
-    }
-    if n == 1 {
-        return ObjectClass::Fifo;
-    }
-    if n == 2 {
-        return ObjectClass::Process;
-    }
-    if n == 3 {
-        return ObjectClass::MessageQueue;
-    }
-    if n == 4 {
-        return ObjectClass::SharedMemory;
-    }
-    ObjectClass::Semaphore
-}
-
-fn kind(n: u32) -> FileKind
-    ensures { λ r. ⌜ r ≡ kindOf n ⌝ }
-{
-    if n == 0 {
-        return FileKind::Regular;
-    }
-    if n == 1 {
-        return FileKind::Directory;
-    }
-    FileKind::Other
-}
-
 pub fn decode_object(o: Object) -> monitor::Object
     ensures { λ r. ⌜ r ≡ objectOf o ⌝ }
 {
     let label = o.label;
     monitor::Object {
-        class: class(o.class),
-        kind: kind(o.kind),
+        class: numbers::class_of(o.class as u64),
+        kind: numbers::kind_of(o.kind as u64),
         present: Presence {
             label: o.has_label == 1,
             tuple: o.has_tuple == 1,

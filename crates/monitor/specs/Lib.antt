@@ -1,2 +1,3 @@
 pub mod Monitor
 pub mod Needs
+pub mod Numbers

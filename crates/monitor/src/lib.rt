@@ -1,6 +1,7 @@
 // The reference monitor: may a subject with these credentials do that to an object with these attributes. `check` tests all that it is
 // handed, and decides by document 01's three steps.
 mod intent;
+pub mod numbers;
 
 use label::Label;
 use label::answer::Test;

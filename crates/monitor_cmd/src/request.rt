@@ -3,12 +3,11 @@ use console::command::MAX_NUMBERS;
 use label::Label;
 use label::answer::granted;
 use monitor::Credentials;
-use monitor::FileKind;
 use monitor::Object;
-use monitor::ObjectClass;
 use monitor::Presence;
 use monitor::Privileges;
 use monitor::Request;
+use monitor::numbers;
 use range::Range;
 use range::tuple;
 use range::tuple::Tuple;
@@ -112,35 +111,6 @@ pub(crate) fn with_operand(d: Draft, due: usize, line: &[u8]) -> Draft {
     with_tuple(d, line)
 }
 
-fn class_of(n: u64) -> ObjectClass {
-    if n == 0 {
-        return ObjectClass::File;
-    }
-    if n == 1 {
-        return ObjectClass::Fifo;
-    }
-    if n == 2 {
-        return ObjectClass::Process;
-    }
-    if n == 3 {
-        return ObjectClass::MessageQueue;
-    }
-    if n == 4 {
-        return ObjectClass::SharedMemory;
-    }
-    ObjectClass::Semaphore
-}
-
-fn kind_of(n: u64) -> FileKind {
-    if n == 0 {
-        return FileKind::Regular;
-    }
-    if n == 1 {
-        return FileKind::Directory;
-    }
-    FileKind::Other
-}
-
 fn privileges_of(n: u64) -> Privileges {
     Privileges {
         read: n % 2 == 1,
@@ -164,8 +134,8 @@ pub(crate) fn of_draft(d: Draft) -> Request {
             privileges: privileges_of(numbers[0]),
         },
         object: Object {
-            class: class_of(numbers[1]),
-            kind: kind_of(numbers[2]),
+            class: numbers::class_of(numbers[1]),
+            kind: numbers::kind_of(numbers[2]),
             present,
             label,
             tuple,

@@ -1,6 +1,6 @@
 use borrow.Author.Tests.{ne-eqb}
-use Rattle.abi.proofs.request.kind.Statement.{statement}
-use Rattle.abi.proofs.request.kind.Tie as tie
+use Rattle.monitor.proofs.numbers.kind_of.Statement.{statement}
+use Rattle.monitor.proofs.numbers.kind_of.Tie as tie
 
 returns : tie.Need-returns
 returns c = rw (c .if1 .taken)
@@ -11,5 +11,5 @@ returns-2 c = rw (c .if2 .taken)
 returns-3 : tie.Need-returns-3
 returns-3 c = rw (ne-eqb _ 0 (c .before .if1 .left), ne-eqb _ 1 (c .if2 .left))
 
-pub kind-spec : {M : Type 1} → statement M
-kind-spec = tie.close (tie.spec returns returns-2 returns-3)
+pub kind-of-spec : {M : Type 1} → statement M
+kind-of-spec = tie.close (tie.spec returns returns-2 returns-3)
