@@ -103,7 +103,7 @@ label-bytes w l h zero = h
 label-bytes w l h (suc i) = bytes-tabulate (categoryByte (l .categories)) (8 * w) (category-byte-small (l .categories)) i
 
 -- byte k of word j
-word-byte : (ws : List ℕ) (j k : ℕ) → k < 8 → categoryByte ws (8 * j + k) ≡ wordAt ws j / 256 ^ k % 256
+pub word-byte : (ws : List ℕ) (j k : ℕ) → k < 8 → categoryByte ws (8 * j + k) ≡ wordAt ws j / 256 ^ k % 256
 word-byte ws j k h =
     let q : (8 * j + k) / 8 ≡ j = omega arith in
     let r : (8 * j + k) % 8 ≡ k = omega arith in

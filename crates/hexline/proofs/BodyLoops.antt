@@ -2,7 +2,7 @@
 use mathlib.Core.Bool.{cond}
 use mathlib.Core.List.{List, _∷_, [], _++_, append-assoc, append-nil}
 use mathlib.Core.Path.{_≡_, refl, sym, ap, _∙_}
-use Prim.Native.Nat.{ℕ, _+_, _*_, _≤_, _<_}
+use Prim.Native.Nat.{ℕ, zero, suc, _+_, _*_, _/_, _%_, _^_, _≤_, _<_}
 use native.Mathlib.Nat.{add-zero, lt-of-lt-of-le, pow-le-pow-right, zero-lt-suc}
 use native.Mathlib.Numerals.{add-one}
 use native.Mathlib.Omega.{arith}
@@ -10,33 +10,35 @@ use lib.Dec.{ltb}
 use lib.ListN.{length, set, take, length-append, length-set}
 use lib.Seq.{length-take-le, take-at, take-length, take-suc-set}
 use Rattle.label.specs.Index.{tabulate}
-use Rattle.label.specs.Words.{words as setWords}
-use Rattle.label.proofs.IndexLaws.{tabulate-at}
+use Rattle.label.specs.Words.{wordAt, words as setWords}
+use Rattle.label.proofs.IndexLaws.{tabulate-at, tabulate-is, tabulate-length}
 use Rattle.label.specs.declared.Label.{Label}
 use Rattle.frame.specs.Frame.{bodyFrom, bodyOf}
 use Rattle.frame.proofs.FrameLaws.{Bytes}
 use Rattle.hexline.specs.Body.{Appended, byteAt, categoryByte, labelBytes, labelSize, numberOf, wordFrom}
+use Rattle.hexline.proofs.BodyLaws.{word-byte}
 use Rattle.hexline.proofs.NumberLaws.{number-bound, number-moved}
+
+-- ---- lists by the index
+
+tabulate-same : (f g : ℕ → ℕ) (n : ℕ) → ((i : ℕ) → i < n → f i ≡ g i) → tabulate f n ≡ tabulate g n
+tabulate-same f g n h = tabulate-is g (tabulate f n) n 0 (tabulate-length f n) (λ i l. tabulate-at f n i 0 l ∙ h i l)
+
+tabulate-more : (f : ℕ → ℕ) (m n : ℕ) → tabulate f m ++ tabulate (λ k. f (m + k)) n ≡ tabulate f (m + n)
+unfolding tabulate
+tabulate-more f m zero = append-nil (tabulate f m) ∙ ap (tabulate f) (sym (add-zero m))
+tabulate-more f m (suc n) =
+    sym (append-assoc (tabulate f m) (tabulate (λ k. f (m + k)) n) (f (m + n) ∷ []))
+    ∙ ap (λ (l : List ℕ). l ++ (f (m + n) ∷ [])) (tabulate-more f m n)
+    ∙ ap (tabulate f) {x = suc (m + n)} {y = m + suc n} (omega arith)
 
 -- the bytes past the lowest of a word leave room for one more
 pub word-room : (bs : List ℕ) → Bytes bs → (i n : ℕ) → n ≤ 7 → numberOf 256 (byteAt bs) i n < 72057594037927936
 word-room bs small i n h = lt-of-lt-of-le (number-bound 256 (byteAt bs) small i n) (pow-le-pow-right (zero-lt-suc 255) h)
 
-pub fill-start : (f : ℕ → ℕ) (out : List ℕ) (k : ℕ) → take (k + 0) out ≡ take k out ++ tabulate f 0
-unfolding tabulate
-fill-start f out k = ap (λ (n : ℕ). take n out) (add-zero k) ∙ sym (append-nil (take k out))
-
 -- one more byte
 take-more : (xs out : List ℕ) (k v : ℕ) → k < length out → take k out ≡ xs → take (k + 1) (set out k v) ≡ xs ++ (v ∷ [])
 take-more xs out k v h e = rw (add-one k, take-suc-set out k v h, e)
-
--- one more element of f past the front of a buffer
-pub fill-more : (f : ℕ → ℕ) (xs out : List ℕ) (k i v : ℕ) → k + i < length out → v ≡ f i → take (k + i) out ≡ xs ++ tabulate f i
-    → take (k + (i + 1)) (set out (k + i) v) ≡ xs ++ tabulate f (i + 1)
-unfolding tabulate
-fill-more f xs out k i v h e inv =
-    let n : k + (i + 1) ≡ k + i + 1 = omega arith in
-    ap (λ (j : ℕ). take j (set out (k + i) v)) n ∙ take-more (xs ++ tabulate f i) out (k + i) v h inv ∙ rw (e, add-one i) (append-assoc xs (tabulate f i) (f i ∷ []))
 
 -- a buffer whose part from index i on was lent for the first n bytes of a text, and got them with zs behind
 pub copied : (xs text ys zs rest : List ℕ) (i n : ℕ) → i ≤ length xs → n ≤ length text → ys ≡ take (length (take n text)) (take n text) ++ zs
@@ -49,16 +51,6 @@ copied xs text ys zs rest i n h l e =
     ∙ ap (λ (t : List ℕ). take (i + n) (take i xs ++ t)) (append-assoc (take n text) zs rest)
     ∙ ap (take (i + n)) (sym (append-assoc (take i xs) (take n text) (zs ++ rest)))
     ∙ take-at (take i xs ++ take n text) (zs ++ rest) (i + n) (omega arith)
-
--- a label's bytes once the loop over its set is done
-pub label-done : (before out : List ℕ) (at w i : ℕ) (l : Label) → at < length before → i ≡ 8 * w
-    → take (at + 1 + i) out ≡ take (at + 1) (set before at (l .hierarchy)) ++ tabulate (categoryByte (l .categories)) i
-    → take (at + 1 + i) out ≡ take at before ++ labelBytes w l
-unfolding labelBytes
-label-done before out at w i l h e inv =
-    inv ∙ ap (λ (n : ℕ). take (at + 1) (set before at (l .hierarchy)) ++ tabulate (categoryByte (l .categories)) n) e
-    ∙ ap (λ (xs : List ℕ). xs ++ tabulate (categoryByte (l .categories)) (8 * w)) (ap (λ (n : ℕ). take n (set before at (l .hierarchy))) (add-one at) ∙ take-suc-set before at (l .hierarchy) h)
-    ∙ append-assoc (take at before) (l .hierarchy ∷ []) (tabulate (categoryByte (l .categories)) (8 * w))
 
 -- bytes that are put one after the other
 pub appended-both : {a b c xs ys : List ℕ} {i j k : ℕ} → Appended a i xs j b → Appended b j ys k c → Appended a i (xs ++ ys) k c
@@ -73,6 +65,48 @@ appended-none a i = record { next = sym (add-zero i); holds = sym (append-nil (t
 
 pub appended-byte : (a : List ℕ) (i b : ℕ) → i < length a → Appended a i (b ∷ []) (i + 1) (set a i b)
 appended-byte a i b h = record { next = refl; holds = take-more (take i a) a i b h refl; size = length-set a i b }
+
+-- a loop that puts f 0, f 1, .. from index i on
+module _ (f : ℕ → ℕ) (a : List ℕ) (i : ℕ) where
+  pub put-none : Appended a i (tabulate f 0) (i + 0) a
+  unfolding tabulate
+  put-none = record { next = refl; holds = ap (λ (n : ℕ). take n a) (add-zero i) ∙ sym (append-nil (take i a)); size = refl }
+
+  pub put-next : (out : List ℕ) (k v : ℕ) → i + k < length a → v ≡ f k → Appended a i (tabulate f k) (i + k) out
+      → Appended a i (tabulate f (k + 1)) (i + (k + 1)) (set out (i + k) v)
+  unfolding tabulate
+  put-next out k v h e p =
+      let n = p .size in
+      let q = appended-both p (appended-byte out (i + k) v (omega arith)) in
+      let bytes : (tabulate f k ++ (v ∷ [])) ≡ tabulate f (k + 1) = rw (e, add-one k) refl in
+      let l = tabulate-length f (k + 1) in
+      let m : i + (k + 1) ≡ i + k + 1 = omega arith in
+      record { next = omega arith; holds = ap (λ (j : ℕ). take j (set out (i + k) v)) m ∙ q .holds ∙ ap (λ (bs : List ℕ). take i a ++ bs) bytes; size = q .size }
+
+-- the bytes of a set's words up to j, and of word j
+set-more : (ws : List ℕ) (j : ℕ) → tabulate (categoryByte ws) (8 * j) ++ tabulate (λ k. wordAt ws j / 256 ^ k % 256) 8 ≡ tabulate (categoryByte ws) (8 * (j + 1))
+set-more ws j =
+    ap (λ (bs : List ℕ). tabulate (categoryByte ws) (8 * j) ++ bs) (tabulate-same _ _ 8 (λ k h. sym (word-byte ws j k h)))
+    ∙ tabulate-more (categoryByte ws) (8 * j) 8 ∙ ap (tabulate (categoryByte ws)) (omega arith)
+
+-- one more word of a set
+pub word-more : (ws a b c : List ℕ) (i j : ℕ) → Appended a i (tabulate (categoryByte ws) (8 * j)) (i + 8 * j) b
+    → Appended b (i + 8 * j) (tabulate (λ k. wordAt ws j / 256 ^ k % 256) 8) (i + 8 * j + 8) c
+    → Appended a i (tabulate (categoryByte ws) (8 * (j + 1))) (i + 8 * (j + 1)) c
+word-more ws a b c i j p q =
+    let r = appended-both p q in
+    let n = tabulate-length (categoryByte ws) (8 * (j + 1)) in
+    let e : i + 8 * (j + 1) ≡ i + 8 * j + 8 = omega arith in
+    record { next = omega arith; holds = ap (λ (m : ℕ). take m c) e ∙ r .holds ∙ ap (λ (bs : List ℕ). take i a ++ bs) (set-more ws j); size = r .size }
+
+-- a label's bytes: the hierarchy, then all words of the set
+pub label-put : (before out : List ℕ) (at w j : ℕ) (l : Label) → at < length before → j ≡ w
+    → Appended (set before at (l .hierarchy)) (at + 1) (tabulate (categoryByte (l .categories)) (8 * j)) (at + 1 + 8 * j) out
+    → Appended before at (labelBytes w l) (at + 1 + 8 * j) out
+unfolding labelBytes
+label-put before out at w j l h e p =
+    let q = appended-both (appended-byte before at (l .hierarchy) h) p in
+    rw (sym e) q
 
 -- ---- a label's bytes, copied out of a line's body
 

@@ -3,11 +3,12 @@ use label::Label;
 use label::words::WORDS;
 use range::Range;
 ghost use mathlib.Core.Path.{_≡_};
-ghost use Prim.Native.Nat.{_+_, _*_, _<_, _≤_, _^_};
+ghost use Prim.Native.Nat.{_+_, _*_, _/_, _%_, _<_, _≤_, _^_};
 ghost use lib.ListN.{length};
+ghost use Rattle.label.specs.Index.{tabulate};
 ghost use Rattle.label.specs.Words.{words as setWords};
 ghost use Rattle.frame.specs.Frame.{bodyOf};
-ghost use Rattle.hexline.specs.Body.{Appended, byteAt, categoryByte, labelAt, labelBytes, labelSize, numberOf, rangeAt, rangeBytes, rangeSize, wordFrom};
+ghost use Rattle.hexline.specs.Body.{Appended, byteAt, labelAt, labelBytes, labelSize, numberOf, rangeAt, rangeBytes, rangeSize, wordFrom};
 
 // How many words a set has in lines of kinds 01 to 04.
 pub(crate) const LINE_WORDS: usize = 4;
@@ -15,14 +16,17 @@ pub(crate) const LINE_WORDS: usize = 4;
 // How many bytes a label takes with all words of its set.
 const LABEL_BYTES: usize = 1 + 8 * WORDS;
 
-// Byte i of a set of categories.
-fn category_byte(categories: [u64; WORDS], i: usize) -> u8
-    requires { ⌜ i < 8 * setWords ⌝ }
-    ensures { λ r. ⌜ r ≡ categoryByte categories i ⌝ }
+// The eight bytes of a word at index at, the lowest first. With the word at hand, and not the set, they are stored at once.
+fn put_word(out: &mut [u8], at: usize, w: u64)
+    requires { ⌜ at + 8 ≤ length (now out) ⌝ }
+    ensures { λ _. ⌜ Appended (now (out .entry)) at (tabulate (λ k. w / 256 ^ k % 256) 8) (at + 8) (now (out .exit)) ⌝ }
 {
-    let w = categories[i / 8];
-    let shift = (i % 8) * 8;
-    ((w >> shift) % 256) as u8
+    let mut k = 0;
+    while k < 8 {
+        let shift = k * 8;
+        out[at + k] = ((w >> shift) % 256) as u8;
+        k += 1;
+    }
 }
 
 // A label's bytes at index at, and the index past them.
@@ -32,12 +36,12 @@ pub(crate) fn put_label(out: &mut [u8], at: usize, l: Label, words: usize) -> us
 {
     out[at] = l.hierarchy;
     let categories = l.categories;
-    let mut i = 0;
-    while i < 8 * words {
-        out[at + 1 + i] = category_byte(categories, i);
-        i += 1;
+    let mut j = 0;
+    while j < words {
+        put_word(out, at + 1 + 8 * j, categories[j]);
+        j += 1;
     }
-    at + 1 + i
+    at + 1 + 8 * j
 }
 
 // A range's bytes at index at, and the index past them.

@@ -1,63 +1,44 @@
 use borrow.Author.Needs.{needs}
-use mathlib.Core.List.{_++_}
-use mathlib.Core.Path.{_≡_, refl, _∙_}
+use mathlib.Core.Path.{_≡_}
 use Prim.Native.Nat.{_≤_, _+_, _*_, _-_}
 use native.Mathlib.Omega.{arith}
-use lib.ListN.{length, set, take, length-set}
+use lib.ListN.{length-set}
 use Rattle.label.specs.Index.{tabulate}
-use Rattle.hexline.specs.Body.{categoryByte}
-use Rattle.hexline.proofs.BodyLoops.{fill-more, fill-start, label-done}
-use Rattle.hexline.proofs.BodyLaws.{label-length}
+use Rattle.hexline.specs.Body.{Appended, categoryByte}
+use Rattle.hexline.proofs.BodyLoops.{label-put, put-none, word-more}
 use Rattle.hexline.proofs.body.put_label.Statement.{statement}
 use Rattle.hexline.proofs.body.put_label.Tie as tie
 
 abbrev Inv-loop : tie.InvT-loop
-Inv-loop out₀ at words categories i₀ out i =
-    (i ≤ 8 * words) × (take (at + 1 + i) out ≡ take (at + 1) out₀ ++ tabulate (categoryByte categories) i) × (length out ≡ length out₀)
+Inv-loop out₀ at words categories j₀ out j =
+    (j ≤ words) × Appended out₀ (at + 1) (tabulate (categoryByte categories) (8 * j)) (at + 1 + 8 * j) out
 
 abbrev μ-loop : tie.MeasureT-loop
-μ-loop out₀ at words categories i₀ out i = 8 * words - i
+μ-loop out₀ at words categories j₀ out j = words - j
 
 loop-holds : tie.Need-loop-holds Inv-loop μ-loop
-loop-holds c =
-    let a = c .before .before .args in
-    (search needs, fill-start (categoryByte (a .l .categories)) (set (a .out .now) (a .at) (a .l .hierarchy)) (a .at + 1), refl)
+loop-holds c = (search needs, put-none _ _ _)
 
-slice-write-out-2 : tie.Need-slice-write-out-2 Inv-loop μ-loop
-slice-write-out-2 c =
-    let h = c .before .before in
-    let n = simp length-set at (h .loop .inv .2) in
-    omega arith
+put-word-requires : tie.Need-put-word-requires Inv-loop μ-loop
+put-word-requires c κs = let n = simp length-set at (c .before .before .loop .inv .1 .size) in omega arith
 
 loop-again : tie.Need-loop-again Inv-loop μ-loop
 loop-again c =
-    let h = c .before .before in
-    let n = simp length-set at (h .loop .inv .2) in
-    let start = h .before .before .before in
-    let k = start .args .at + 1 in
-    let i = h .loop .i in
-    let v = c .category-byte .result in (
-      search needs,
-      fill-more (categoryByte (start .args .l .categories)) (take k (set (start .args .out .now) (start .args .at) (start .args .l .hierarchy))) (h .loop .out) k i v
-          (omega arith) (c .category-byte .ensures) (h .loop .inv .1),
-      length-set (h .loop .out) (k + i) v ∙ h .loop .inv .2,
-    )
+    let p = c .before .before in
+    let h = p .before .before .before in
+    let a = h .before .before .before .args in
+    (search needs, word-more (a .l .categories) _ _ _ (a .at + 1) (h .loop .j) (h .loop .inv .1) (p .put-word .ensures))
 
 same-length : tie.Need-same-length Inv-loop μ-loop
-same-length c = simp length-set at (c .before .loop .inv .2)
+same-length c = simp length-set at (c .before .loop .inv .1 .size)
 
 returns : tie.Need-returns Inv-loop μ-loop
 returns c =
     let h = c .before in
-    let start = h .before .before .before in
-    let at = start .args .at in
-    let l = start .args .l in
-    let w = start .args .words in
-    let e : h .loop .i ≡ 8 * w = omega arith in
-    let n = label-length w l in
-    record { next = omega arith; holds = label-done (start .args .out .now) (h .loop .out) at w (h .loop .i) l (omega arith) e (h .loop .inv .1); size = simp length-set at (h .loop .inv .2) }
+    let a = h .before .before .before .args in
+    label-put (a .out .now) (h .loop .out) (a .at) (a .words) (h .loop .j) (a .l) (omega arith) (omega arith) (h .loop .inv .1)
 
 pub put-label-spec : {M : Type 1} → statement M
 put-label-spec =
-    tie.close (tie.spec Inv-loop μ-loop (search needs) loop-holds (search needs) (search needs) (search needs) (search needs)
-    slice-write-out-2 (search needs) (search needs) loop-again (search needs) (search needs) same-length returns)
+    tie.close (tie.spec Inv-loop μ-loop (search needs) loop-holds (search needs) (search needs) (search needs) (search needs) (search needs)
+    put-word-requires (search needs) (search needs) loop-again (search needs) (search needs) (search needs) same-length returns)
