@@ -28,23 +28,31 @@ high-digit c l h =
     let f : leb c 57 ≡ false = lt-leb c 57 (omega arith) in
     (e, rw (e, f))
 
+between : (a b c : ℕ) → (leb a c && leb c b) ≡ true → (a ≤ c) × (c ≤ b)
+between a b c e = (leb-true a c (first-true (leb a c) (leb c b) e), leb-true c b (second-true (leb a c) (leb c b) e))
+
 digit-cases : (c : ℕ) → isDigit c ≡ true → ((48 ≤ c) × (c ≤ 57)) ⊎ ((97 ≤ c) × (c ≤ 102))
 unfolding isDigit
-digit-cases c e =
-    ⊎-elim
-    (λ h. inl (leb-true 48 c (first-true (leb 48 c) (leb c 57) h), leb-true c 57 (second-true (leb 48 c) (leb c 57) h)))
-    (λ h. inr (leb-true 97 c (first-true (leb 97 c) (leb c 102) h), leb-true c 102 (second-true (leb 97 c) (leb c 102) h)))
-    (either (leb 48 c && leb c 57) (leb 97 c && leb c 102) e)
+digit-cases c e = ⊎-elim (λ h. inl (between 48 57 c h)) (λ h. inr (between 97 102 c h)) (either (leb 48 c && leb c 57) (leb 97 c && leb c 102) e)
 
-pub no-digit : (c : ℕ) → isDigit c ≡ false → valueOf c ≡ 0
+no-digit : (c : ℕ) → isDigit c ≡ false → valueOf c ≡ 0
 unfolding valueOf
 no-digit c e = rw e
 
-pub low-value : (c : ℕ) → isDigit c ≡ true → c ≤ 57 → (48 ≤ c) × (valueOf c ≡ c - 48)
-low-value c e h = ⊎-elim (λ s. (s .0, low-digit c (s .0) h .1)) (λ s. absurd (omega arith)) (digit-cases c e)
+-- the value by the test that a byte passes
+pub decimal-value : (c : ℕ) → (leb 48 c && leb c 57) ≡ true → (48 ≤ c) × (c ≤ 57) × (valueOf c ≡ c - 48)
+decimal-value c e = let b = between 48 57 c e in (b .0, b .1, low-digit c (b .0) (b .1) .1)
 
-pub high-value : (c : ℕ) → isDigit c ≡ true → 57 < c → (97 ≤ c) × (c ≤ 102) × (valueOf c ≡ c - 87)
-high-value c e h = ⊎-elim (λ s. absurd (omega arith)) (λ s. (s .0, s .1, high-digit c (s .0) (s .1) .1)) (digit-cases c e)
+pub letter-value : (c : ℕ) → (leb 97 c && leb c 102) ≡ true → (97 ≤ c) × (c ≤ 102) × (valueOf c ≡ c - 87)
+letter-value c e = let b = between 97 102 c e in (b .0, b .1, high-digit c (b .0) (b .1) .1)
+
+pub other-value : (c : ℕ) → (leb 48 c && leb c 57) ≡ false → (leb 97 c && leb c 102) ≡ false → valueOf c ≡ 0
+unfolding isDigit
+other-value c e f = no-digit c (rw (e, f) refl)
+
+-- the value of a digit by arithmetic alone
+pub value-by : (c : ℕ) → isDigit c ≡ true → valueOf c ≡ c % 16 + 9 * (c / 64)
+value-by c e = ⊎-elim (λ h. low-digit c (h .0) (h .1) .1 ∙ omega arith) (λ h. high-digit c (h .0) (h .1) .1 ∙ omega arith) (digit-cases c e)
 
 pub value-small : (c : ℕ) → valueOf c < 16
 value-small c = pick (isDigit c) refl

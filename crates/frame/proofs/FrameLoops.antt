@@ -1,43 +1,78 @@
 -- What the functions of `frame` need at each turn of a loop and where they end: facts about the definitions that go by the index.
 -- Assumes nothing.
-use mathlib.Core.Bool.{true, false, _&&_}
+use mathlib.Core.Bool.{Bool, true, false, _&&_, and-assoc, and-false, and-true}
 use mathlib.Core.List.{List, [], _∷_, _++_, append-assoc}
-use mathlib.Core.Path.{_≡_, sym, ap, _∙_}
-use Prim.Native.Nat.{ℕ, suc, _+_, _*_, _-_, _/_, _%_, _≤_, _<_}
+use mathlib.Core.Path.{_≡_, refl, sym, ap, _∙_}
+use Prim.Native.Nat.{ℕ, zero, suc, _+_, _*_, _-_, _/_, _%_, _≤_, _<_}
 use native.Mathlib.Numerals.{add-one}
 use native.Mathlib.Omega.{arith}
 use lib.Dec.{eqb, leb}
-use lib.ListN.{drop, drop-of-length-le, getD, length, set, take, length-append, length-take, List·getD-eq-default}
-use lib.Seq.{drop-cons, getD-take, length-take-le, take-all, take-suc}
+use lib.ListN.{getD, length, set, take, length-append, length-take, List·getD-eq-default}
+use lib.Seq.{getD-take, length-take-le, take-all, take-suc}
 use Rattle.label.specs.Buffer.{overlay}
+use Rattle.label.specs.Index.{every}
+use Rattle.label.proofs.BoolLaws.{three-true}
 use Rattle.label.proofs.BufferLaws.{overlay-length, overlay-step}
 use Rattle.frame.specs.Frame.{bodyOf, bytesOf, checkOf, digitOf, digitsOf, frameOf, framedOf, isDigit, spelledOf, sumOf}
 use Rattle.frame.proofs.FrameLaws.{bytes-length, digits-append, digits-length, sum-take}
 
--- ---- whether a line is spelled in digits, from index i on
+-- ---- whether a line is spelled in digits
 
-pub spelled-next : (line : List ℕ) (i : ℕ) → i + 1 < length line
-    → spelledOf (drop i line) ≡ (isDigit (getD line i 0) && isDigit (getD line (i + 1) 0) && spelledOf (drop (i + 2) line))
-unfolding spelledOf
-spelled-next line i h =
-    let two : i + 2 ≡ suc (i + 1) = omega arith in
-    ap spelledOf
-    (drop-cons line i 0 (omega arith)
-    ∙ ap (λ (l : List ℕ). getD line i 0 ∷ l) (ap (λ (n : ℕ). drop n line) (sym (add-one i)) ∙ drop-cons line (i + 1) 0 h ∙ ap (λ (n : ℕ). getD line (i + 1) 0 ∷ drop n line) (sym two)))
+pub every-more : (f : ℕ → Bool) (i : ℕ) → every f (i + 1) ≡ (every f i && f i)
+unfolding every
+every-more f i = rw (add-one i) refl
 
-pub spelled-last : (line : List ℕ) (i : ℕ) → i + 1 ≡ length line → spelledOf (drop i line) ≡ eqb (getD line i 0) 10
-unfolding spelledOf
-spelled-last line i h =
-    ap spelledOf (drop-cons line i 0 (omega arith) ∙ ap (λ (l : List ℕ). getD line i 0 ∷ l) (drop-of-length-le line {i = suc i} (omega arith)))
+every-first : (f : ℕ → Bool) (n : ℕ) → every f (suc n) ≡ (f 0 && every (λ i. f (suc i)) n)
+unfolding every
+every-first f zero = sym (and-true (f 0))
+every-first f (suc n) = ap (λ (p : Bool). p && f (suc n)) (every-first f n) ∙ and-assoc (f 0) (every (λ i. f (suc i)) n) (f (suc n))
 
-pub spelled-none : (line : List ℕ) (i : ℕ) → length line ≤ i → spelledOf (drop i line) ≡ false
+pub spelled-even : (line : List ℕ) → length line % 2 ≡ 0 → spelledOf line ≡ false
 unfolding spelledOf
-spelled-none line i h = ap spelledOf (drop-of-length-le line h)
+spelled-even [] h = refl
+spelled-even (c ∷ []) h = absurd (omega arith)
+spelled-even (a ∷ b ∷ rest) h = ap (λ (p : Bool). isDigit a && isDigit b && p) (spelled-even rest (omega arith)) ∙ and-false (isDigit a && isDigit b)
+
+-- whether byte i of a line is a digit
+abbrev pub digitAt : List ℕ → ℕ → Bool
+digitAt line i = isDigit (getD line i 0)
+
+pub spelled-odd : (line : List ℕ) (n : ℕ) → length line ≡ n + 1 → n % 2 ≡ 0 → (every (digitAt line) n && eqb (getD line n 0) 10) ≡ spelledOf line
+unfolding spelledOf every
+spelled-odd [] n h e = absurd (omega arith)
+spelled-odd (c ∷ []) zero h e = refl
+spelled-odd (c ∷ []) (suc n) h e = absurd (omega arith)
+spelled-odd (a ∷ b ∷ rest) zero h e = absurd (omega arith)
+spelled-odd (a ∷ b ∷ rest) (suc zero) h e = absurd (omega arith)
+spelled-odd (a ∷ b ∷ rest) (suc (suc n)) h e =
+    let f = digitAt (a ∷ b ∷ rest) in
+    let last = eqb (getD rest n 0) 10 in
+    ap (λ (p : Bool). p && last) (every-first f (suc n) ∙ ap (λ (p : Bool). isDigit a && p) (every-first (λ i. f (suc i)) n)
+    ∙ sym (and-assoc (isDigit a) (isDigit b) (every (digitAt rest) n)))
+    ∙ and-assoc (isDigit a && isDigit b) (every (digitAt rest) n) last
+    ∙ ap (λ (p : Bool). isDigit a && isDigit b && p) (spelled-odd rest n (omega arith) (omega arith))
+
+-- a line that is spelled has two digits for each byte
+pub spelled-at : (line : List ℕ) (i : ℕ) → spelledOf line ≡ true → i < length line / 2 → (digitAt line (2 * i) ≡ true) × (digitAt line (2 * i + 1) ≡ true)
+unfolding spelledOf
+spelled-at [] i e h = absurd (omega arith)
+spelled-at (c ∷ []) i e h = absurd (omega arith)
+spelled-at (a ∷ b ∷ rest) zero e h = let t = three-true (isDigit a) (isDigit b) (spelledOf rest) e in (t .0, t .1)
+spelled-at (a ∷ b ∷ rest) (suc i) e h =
+    let t = three-true (isDigit a) (isDigit b) (spelledOf rest) e in
+    let r = spelled-at rest i (t .2) (omega arith) in
+    let m : 2 * suc i ≡ suc (suc (2 * i)) = omega arith in
+    let n : 2 * suc i + 1 ≡ suc (suc (2 * i + 1)) = omega arith in
+    (ap (digitAt (a ∷ b ∷ rest)) m ∙ r .0, ap (digitAt (a ∷ b ∷ rest)) n ∙ r .1)
 
 -- ---- sums modulo 256
 
-pub sum-next : (bs : List ℕ) (i s : ℕ) → i < length bs → s ≡ sumOf (take i bs) % 256 → (s + getD bs i 0) % 256 ≡ sumOf (take (i + 1) bs) % 256
+pub sum-next : (bs : List ℕ) (i s : ℕ) → i < length bs → s % 256 ≡ sumOf (take i bs) % 256 → (s + getD bs i 0) % 256 ≡ sumOf (take (i + 1) bs) % 256
 sum-next bs i s h e = rw add-one (let t = sum-take bs i h in omega arith)
+
+-- a sum that wraps at 2 ^ 16
+pub wrapped : (n : ℕ) → n % 65536 % 256 ≡ n % 256
+wrapped n = omega arith
 
 pub sum-done : (bs : List ℕ) (i s : ℕ) → length bs ≤ i → s ≡ sumOf (take i bs) % 256 → s ≡ sumOf bs % 256
 sum-done bs i s h e = e ∙ ap (λ (l : List ℕ). sumOf l % 256) (take-all i bs h)

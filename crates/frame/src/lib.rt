@@ -2,10 +2,13 @@
 // 256, and LF.
 use label::answer::Written;
 use label::errno::Errno;
+use std::num;
+ghost use mathlib.Core.Bool.{true};
 ghost use mathlib.Core.Path.{_≡_};
 ghost use Prim.Native.Nat.{_+_, _*_, _-_, _<_, _≤_, _/_, _%_};
 ghost use lib.ListN.{getD, length, set};
 ghost use Rattle.label.specs.Buffer.{WrittenTo, overlay};
+ghost use Rattle.label.specs.Index.{every};
 ghost use Rattle.frame.specs.Frame.{bodyFrom, bodyOf, bytesOf, digitOf, digitsOf, frameAnswerOf, framedOf, isDigit, spelledOf, sumOf, valueOf};
 
 // A longer body is not written.
@@ -31,10 +34,18 @@ fn digit_value(c: u8) -> u8
     ensures { λ r. ⌜ r ≡ valueOf c ⌝ }
     ensures { λ r. ⌜ r < 16 ⌝ }
 {
-    if !is_digit(c) {
-        return 0;
+    if (48 <= c) & (c <= 57) {
+        return c - 48;
     }
-    if c <= 57 { c - 48 } else { c - 87 }
+    if (97 <= c) & (c <= 102) { c - 87 } else { 0 }
+}
+
+// The two digits of byte i as one number, the first one lowest: a loop that reads them so takes several bytes at once.
+fn pair(line: &[u8], i: usize) -> u16
+    requires { ⌜ i < length (now line) / 2 ⌝ }
+    ensures { λ r. ⌜ (r % 256 ≡ getD (now (line .entry)) (2 * i) 0) × (r / 256 ≡ getD (now (line .entry)) (2 * i + 1) 0) ⌝ }
+{
+    line[2 * i] as u16 + line[2 * i + 1] as u16 * 256
 }
 
 // Byte i of a line, the last one, which makes the sum, among them.
@@ -42,7 +53,8 @@ fn byte_at(line: &[u8], i: usize) -> u8
     requires { ⌜ i < length (now line) / 2 ⌝ }
     ensures { λ r. ⌜ r ≡ getD (bytesOf (now (line .entry))) i 0 ⌝ }
 {
-    digit_value(line[2 * i]) * 16 + digit_value(line[2 * i + 1])
+    let p = pair(line, i);
+    digit_value((p % 256) as u8) * 16 + digit_value((p / 256) as u8)
 }
 
 // Byte i of a line's body, and 0 past its end.
@@ -122,33 +134,53 @@ pub fn copy(line: &[u8], at: usize, out: &mut [u8])
     }
 }
 
-// Whether a line is pairs of digits, then LF and nothing after it. A fault does not end the loop, which takes fewer instructions without a way out.
-fn spelled(line: &[u8]) -> bool
-    ensures { λ r. ⌜ r ≡ spelledOf (now (line .entry)) ⌝ }
+// Whether the first n bytes of a line are digits. A fault does not end the loop, which tests several at once without a way out.
+fn all_digits(line: &[u8], n: usize) -> bool
+    requires { ⌜ n ≤ length (now line) ⌝ }
+    ensures { λ r. ⌜ r ≡ every (λ i. isDigit (getD (now (line .entry)) i 0)) n ⌝ }
 {
     let mut good = true;
     let mut i = 0;
-    while i + 1 < line.len() {
-        good = good & (is_digit(line[i]) & is_digit(line[i + 1]));
-        i += 2;
-    }
-    if i < line.len() {
-        return good & (line[i] == LINE_FEED);
-    }
-    false
-}
-
-// The sum of a line's bytes, modulo 256.
-fn sum(line: &[u8]) -> u8
-    ensures { λ r. ⌜ r ≡ sumOf (bytesOf (now (line .entry))) % 256 ⌝ }
-{
-    let mut s: u64 = 0;
-    let mut i = 0;
-    while i < line.len() / 2 {
-        s = (s + byte_at(line, i) as u64) % 256;
+    while i < n {
+        good = good & is_digit(line[i]);
         i += 1;
     }
-    (s % 256) as u8
+    good
+}
+
+// Whether a line is pairs of digits, then LF and nothing after it.
+fn spelled(line: &[u8]) -> bool
+    ensures { λ r. ⌜ r ≡ spelledOf (now (line .entry)) ⌝ }
+{
+    let n = line.len();
+    if n % 2 == 0 {
+        return false;
+    }
+    all_digits(line, n - 1) & (line[n - 1] == LINE_FEED)
+}
+
+// The byte of two digits, by arithmetic that is right for digits alone.
+fn pair_value(p: u16) -> u16
+    requires { ⌜ (isDigit (p % 256) ≡ true) × (isDigit (p / 256) ≡ true) ⌝ }
+    ensures { λ r. ⌜ r ≡ valueOf (p % 256) * 16 + valueOf (p / 256) ⌝ }
+{
+    let h = p % 256;
+    let l = p / 256;
+    (h % 16 * 16 + l % 16) + 9 * (h / 64 * 16 + l / 64)
+}
+
+// The sum of the bytes of a line that is spelled, modulo 256.
+fn sum(line: &[u8]) -> u16
+    requires { ⌜ spelledOf (now line) ≡ true ⌝ }
+    ensures { λ r. ⌜ r ≡ sumOf (bytesOf (now (line .entry))) % 256 ⌝ }
+{
+    let mut s: u16 = 0;
+    let mut i = 0;
+    while i < line.len() / 2 {
+        s = num::wrapping_add_u16(s, pair_value(pair(line, i)));
+        i += 1;
+    }
+    s % 256
 }
 
 // Whether a line is the frame of some body.

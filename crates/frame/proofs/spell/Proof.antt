@@ -44,7 +44,7 @@ loop-again c =
     let i = h .loop .i in (
       search needs,
       p .put .ensures ∙ ap (λ (l : List ℕ). set (set l (2 * i) (digitOf (getD body i 0 / 16))) (2 * i + 1) (digitOf (getD body i 0 % 16))) (h .loop .inv .1) ∙ digits-next body out i (omega arith) (h .before .before .before .pre),
-      sum-next body i (h .loop .s) (omega arith) (h .loop .inv .2),
+      sum-next body i (h .loop .s) (omega arith) (let e = h .loop .inv .2 in omega arith),
     )
 
 same-length : tie.Need-same-length Inv-loop μ-loop
