@@ -2,6 +2,7 @@
 -- Assumes nothing.
 use mathlib.Core.Bool.{Bool, true, false, _&&_, and-assoc, and-false, and-true}
 use mathlib.Core.List.{List, [], _∷_, _++_, append-assoc}
+use mathlib.Core.Logic.{⊎-elim}
 use mathlib.Core.Path.{_≡_, refl, sym, ap, _∙_}
 use Prim.Native.Nat.{ℕ, zero, suc, _+_, _*_, _-_, _/_, _%_, _≤_, _<_}
 use native.Mathlib.Numerals.{add-one}
@@ -11,8 +12,9 @@ use lib.ListN.{getD, length, set, take, length-append, length-take, List·getD-e
 use lib.Seq.{getD-take, length-take-le, take-all, take-suc}
 use Rattle.label.specs.Buffer.{overlay}
 use Rattle.label.specs.Index.{every}
-use Rattle.label.proofs.BoolLaws.{three-true}
+use Rattle.label.proofs.BoolLaws.{exactly-both, three-true}
 use Rattle.label.proofs.BufferLaws.{overlay-length, overlay-step}
+use Rattle.label.proofs.IndexLaws.{every-all, every-at, every-same, le-or-lt}
 use Rattle.frame.specs.Frame.{bodyOf, bytesOf, checkOf, digitOf, digitsOf, frameOf, framedOf, isDigit, spelledOf, sumOf}
 use Rattle.frame.proofs.FrameLaws.{bytes-length, digits-append, digits-length, sum-take}
 
@@ -26,6 +28,18 @@ every-first : (f : ℕ → Bool) (n : ℕ) → every f (suc n) ≡ (f 0 && every
 unfolding every
 every-first f zero = sym (and-true (f 0))
 every-first f (suc n) = ap (λ (p : Bool). p && f (suc n)) (every-first f n) ∙ and-assoc (f 0) (every (λ i. f (suc i)) n) (f (suc n))
+
+pub every-from-0 : (f : ℕ → Bool) (n : ℕ) → every (λ i. f (0 + i)) n ≡ every f n
+every-from-0 f n = every-same (λ i. f (0 + i)) f n (λ i l. ap f (omega arith))
+
+-- what holds at the first m numbers and at the last k, which reach so far down, holds at all n
+pub every-cover : (f : ℕ → Bool) (m k n : ℕ) → m ≤ n → k ≤ n → n ≤ m + k → (every f m && every (λ i. f (n - k + i)) k) ≡ every f n
+every-cover f m k n hm hk h = sym (exactly-both (every f n) (every f m) (every (λ i. f (n - k + i)) k)
+    (λ e. every-all f m (λ i l. every-at f n i e (omega arith)))
+    (λ e. every-all (λ i. f (n - k + i)) k (λ i l. every-at f n (n - k + i) e (omega arith)))
+    (λ d e. every-all f n (λ i l. ⊎-elim
+    (λ u. ap f (omega arith) ∙ every-at (λ j. f (n - k + j)) k (i - (n - k)) e (omega arith))
+    (λ u. every-at f m i d u) (le-or-lt m i))))
 
 pub spelled-even : (line : List ℕ) → length line % 2 ≡ 0 → spelledOf line ≡ false
 unfolding spelledOf

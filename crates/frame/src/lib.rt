@@ -134,18 +134,29 @@ pub fn copy(line: &[u8], at: usize, out: &mut [u8])
     }
 }
 
-// Whether the first n bytes of a line are digits. A fault does not end the loop, which tests several at once without a way out.
-fn all_digits(line: &[u8], n: usize) -> bool
-    requires { ⌜ n ≤ length (now line) ⌝ }
-    ensures { λ r. ⌜ r ≡ every (λ i. isDigit (getD (now (line .entry)) i 0)) n ⌝ }
+// Whether n bytes of a line from index at on are digits. A fault does not end the loop, which tests several at once without a way out.
+fn digits_from(line: &[u8], at: usize, n: usize) -> bool
+    requires { ⌜ at + n ≤ length (now line) ⌝ }
+    ensures { λ r. ⌜ r ≡ every (λ i. isDigit (getD (now (line .entry)) (at + i) 0)) n ⌝ }
 {
     let mut good = true;
     let mut i = 0;
     while i < n {
-        good = good & is_digit(line[i]);
+        good = good & is_digit(line[at + i]);
         i += 1;
     }
     good
+}
+
+// Whether the first n bytes of a line are digits. The last eight are tested together, so that few are tested alone; some are tested twice.
+fn all_digits(line: &[u8], n: usize) -> bool
+    requires { ⌜ n ≤ length (now line) ⌝ }
+    ensures { λ r. ⌜ r ≡ every (λ i. isDigit (getD (now (line .entry)) i 0)) n ⌝ }
+{
+    if n < 8 {
+        return digits_from(line, 0, n);
+    }
+    digits_from(line, 0, n / 8 * 8) & digits_from(line, n - 8, 8)
 }
 
 // Whether a line is pairs of digits, then LF and nothing after it.
