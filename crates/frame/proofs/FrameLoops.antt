@@ -1,22 +1,23 @@
 -- What the functions of `frame` need at each turn of a loop and where they end: facts about the definitions that go by the index.
 -- Assumes nothing.
 use mathlib.Core.Bool.{Bool, true, false, _&&_, and-assoc, and-false, and-true}
-use mathlib.Core.List.{List, [], _∷_, _++_, append-assoc}
+use mathlib.Core.List.{List, [], _∷_, _++_, append-assoc, append-nil}
 use mathlib.Core.Logic.{⊎-elim}
-use mathlib.Core.Path.{_≡_, refl, sym, ap, _∙_}
+use mathlib.Core.Path.{_≡_, refl, sym, ap, ap₂, _∙_}
 use Prim.Native.Nat.{ℕ, zero, suc, _+_, _*_, _-_, _/_, _%_, _≤_, _<_}
+use native.Mathlib.Nat.{add-zero, mod-eq-of-lt}
 use native.Mathlib.Numerals.{add-one}
 use native.Mathlib.Omega.{arith}
 use lib.Dec.{eqb, leb}
 use lib.ListN.{getD, length, set, take, length-append, length-take, List·getD-eq-default}
-use lib.Seq.{getD-take, length-take-le, take-all, take-suc}
+use lib.Seq.{getD-take, length-take-le, take-all, take-suc, take-suc-set}
 use Rattle.label.specs.Buffer.{overlay}
-use Rattle.label.specs.Index.{every}
+use Rattle.label.specs.Index.{every, tabulate}
 use Rattle.label.proofs.BoolLaws.{exactly-both, three-true}
 use Rattle.label.proofs.BufferLaws.{overlay-length, overlay-step}
-use Rattle.label.proofs.IndexLaws.{every-all, every-at, every-same, le-or-lt}
-use Rattle.frame.specs.Frame.{bodyOf, bytesOf, checkOf, digitOf, digitsOf, frameOf, framedOf, isDigit, spelledOf, sumOf}
-use Rattle.frame.proofs.FrameLaws.{bytes-length, digits-append, digits-length, sum-take}
+use Rattle.label.proofs.IndexLaws.{every-all, every-at, every-same, le-or-lt, tabulate-at, tabulate-is, tabulate-length}
+use Rattle.frame.specs.Frame.{bodyFrom, bodyOf, bytesOf, checkOf, digitOf, digitsOf, frameOf, framedOf, isDigit, spelledOf, sumOf, valueOf}
+use Rattle.frame.proofs.FrameLaws.{body-length, bytes-at, bytes-length, digits-append, digits-length, sum-take, value-small}
 
 -- ---- whether a line is spelled in digits
 
@@ -103,6 +104,70 @@ body-past line i h =
     let n = bytes-length line in
     let t = length-take (length (bytesOf line) - 1) (bytesOf line) in
     List·getD-eq-default (bodyOf line) 0 (omega arith)
+
+-- ---- bytes copied in blocks
+
+pub tabulate-same : (f g : ℕ → ℕ) (n : ℕ) → ((i : ℕ) → i < n → f i ≡ g i) → tabulate f n ≡ tabulate g n
+tabulate-same f g n h = tabulate-is g (tabulate f n) n 0 (tabulate-length f n) (λ i l. tabulate-at f n i 0 l ∙ h i l)
+
+pub tabulate-more : (f : ℕ → ℕ) (m n : ℕ) → tabulate f m ++ tabulate (λ k. f (m + k)) n ≡ tabulate f (m + n)
+unfolding tabulate
+tabulate-more f m zero = append-nil (tabulate f m) ∙ ap (tabulate f) (sym (add-zero m))
+tabulate-more f m (suc n) =
+    sym (append-assoc (tabulate f m) (tabulate (λ k. f (m + k)) n) (f (m + n) ∷ []))
+    ∙ ap (λ (l : List ℕ). l ++ (f (m + n) ∷ [])) (tabulate-more f m n)
+    ∙ ap (tabulate f) {x = suc (m + n)} {y = m + suc n} (omega arith)
+
+-- a loop that stores f 0, f 1, .. from index i on
+module _ (f : ℕ → ℕ) (before : List ℕ) (i : ℕ) where
+  pub store-none : take (i + 0) before ≡ take i before ++ tabulate f 0
+  unfolding tabulate
+  store-none = ap (λ (n : ℕ). take n before) (add-zero i) ∙ sym (append-nil (take i before))
+
+  pub store-next : (out : List ℕ) (k v : ℕ) → i + k < length out → v ≡ f k → take (i + k) out ≡ take i before ++ tabulate f k
+      → take (i + (k + 1)) (set out (i + k) v) ≡ take i before ++ tabulate f (k + 1)
+  unfolding tabulate
+  store-next out k v h e inv =
+      let n : i + (k + 1) ≡ suc (i + k) = omega arith in
+      ap (λ (j : ℕ). take j (set out (i + k) v)) n ∙ take-suc-set out (i + k) v h
+      ∙ ap (λ (l : List ℕ). l ++ (v ∷ [])) inv ∙ rw (e, add-one k) (append-assoc (take i before) (tabulate f k) (f k ∷ []))
+
+pub body-more : (line : List ℕ) (at i n : ℕ) → bodyFrom line at i ++ bodyFrom line (at + i) n ≡ bodyFrom line at (i + n)
+unfolding bodyFrom
+body-more line at i n =
+    let f : ℕ → ℕ = λ k. getD (bodyOf line) (at + k) 0 in
+    ap (λ (l : List ℕ). tabulate f i ++ l) (tabulate-same _ _ n (λ k h. ap (λ (j : ℕ). getD (bodyOf line) j 0) (omega arith))) ∙ tabulate-more f i n
+
+pub low-digit-of : (n m : ℕ) → n % 256 ≡ m → n % 16 ≡ m % 16
+low-digit-of n m e = omega arith
+
+-- byte k of a block, of the numbers of its digits
+abbrev pub blockByte : List ℕ → ℕ → ℕ
+blockByte vs k = getD vs (2 * k) 0 % 16 * 16 + getD vs (2 * k + 1) 0 % 16
+
+-- the numbers of a block's digits
+abbrev pub blockValues : List ℕ → ℕ → List ℕ
+blockValues line a = tabulate (λ k. valueOf (getD line (2 * a + k) 0)) 32
+
+block-value : (line : List ℕ) (a k j : ℕ) → k < 32 → 2 * a + k ≡ j → getD (blockValues line a) k 0 % 16 ≡ valueOf (getD line j 0)
+block-value line a k j h e =
+    ap (λ (n : ℕ). n % 16) (tabulate-at (λ i. valueOf (getD line (2 * a + i) 0)) 32 k 0 h ∙ ap (λ (i : ℕ). valueOf (getD line i 0)) e)
+    ∙ mod-eq-of-lt (value-small (getD line j 0))
+
+-- a block's bytes, of these numbers
+pub block-is : (line : List ℕ) (a : ℕ) → a + 16 ≤ length (bodyOf line)
+    → tabulate (blockByte (blockValues line a)) 16 ≡ bodyFrom line a 16
+unfolding bodyFrom
+block-is line a h = tabulate-same _ _ 16 byte
+  where
+    byte : (k : ℕ) → k < 16 → blockByte (blockValues line a) k ≡ getD (bodyOf line) (a + k) 0
+    byte k l =
+        let n = body-length line in
+        ap₂ (λ (x y : ℕ). x * 16 + y) (block-value line a (2 * k) (2 * (a + k)) (omega arith) (omega arith))
+        (block-value line a (2 * k + 1) (2 * (a + k) + 1) (omega arith) (omega arith))
+        ∙ sym (body-at line (a + k) (omega arith) ∙ bytes-at line (a + k) (omega arith))
+
+-- ---- whether a line is a frame
 
 pub framed-of : (line : List ℕ) (s : ℕ) → spelledOf line ≡ true → s ≡ sumOf (bytesOf line) % 256 → (leb 1 (length line / 2) && eqb s 0) ≡ framedOf line
 unfolding framedOf

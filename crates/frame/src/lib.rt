@@ -4,17 +4,21 @@ use label::answer::Written;
 use label::errno::Errno;
 use std::num;
 ghost use mathlib.Core.Bool.{true};
+ghost use mathlib.Core.List.{_++_};
 ghost use mathlib.Core.Path.{_≡_};
 ghost use Prim.Native.Nat.{_+_, _*_, _-_, _<_, _≤_, _/_, _%_};
-ghost use lib.ListN.{getD, length, set};
+ghost use lib.ListN.{getD, length, set, take};
 ghost use Rattle.label.specs.Buffer.{WrittenTo, overlay};
-ghost use Rattle.label.specs.Index.{every};
+ghost use Rattle.label.specs.Index.{every, tabulate};
 ghost use Rattle.frame.specs.Frame.{bodyFrom, bodyOf, bytesOf, digitOf, digitsOf, frameAnswerOf, framedOf, isDigit, spelledOf, sumOf, valueOf};
 
 // A longer body is not written.
 pub const MAX_BODY: usize = 65536;
 
 const LINE_FEED: u8 = 10;
+
+// How many bytes are copied together.
+const BLOCK: usize = 16;
 
 fn digit(n: u8) -> u8
     requires { ⌜ n < 16 ⌝ }
@@ -87,16 +91,77 @@ fn left_from(line: &[u8], at: usize) -> usize
     if at <= body { body - at } else { 0 }
 }
 
+// The numbers of the digits of a line from index from on.
+fn digit_values(line: &[u8], from: usize, values: &mut [u8])
+    requires { ⌜ from + length (now values) ≤ length (now line) ⌝ }
+    ensures { λ _. ⌜ now (values .exit) ≡ tabulate (λ k. valueOf (getD (now (line .entry)) (from + k) 0)) (length (now (values .entry))) ⌝ }
+{
+    let mut k = 0;
+    while k < values.len() {
+        values[k] = digit_value(line[from + k]);
+        k += 1;
+    }
+}
+
+// The bytes of a block at index i of out, each by the numbers of its two digits.
+fn put_block(values: &[u8], out: &mut [u8], i: usize)
+    requires { ⌜ (32 ≤ length (now values)) × (i + 16 ≤ length (now out)) ⌝ }
+    ensures { λ _. ⌜ take (i + 16) (now (out .exit)) ≡ take i (now (out .entry)) ++ tabulate (λ k. getD (now (values .entry)) (2 * k) 0 % 16 * 16 + getD (now (values .entry)) (2 * k + 1) 0 % 16) 16 ⌝ }
+    ensures { λ _. ⌜ length (now (out .exit)) ≡ length (now (out .entry)) ⌝ }
+{
+    let mut k = 0;
+    while k < BLOCK {
+        let p = pair(values, k);
+        out[i + k] = (p % 16 * 16 + p / 256 % 16) as u8;
+        k += 1;
+    }
+}
+
+// A block of a line's body from index at + i on, at index i of out. The numbers of all its digits are made first, which takes fewer instructions.
+fn copy_block(line: &[u8], at: usize, out: &mut [u8], i: usize)
+    requires { ⌜ (i + 16 ≤ length (now out)) × (at + i + 16 ≤ length (bodyOf (now line))) ⌝ }
+    ensures { λ _. ⌜ take (i + 16) (now (out .exit)) ≡ take i (now (out .entry)) ++ bodyFrom (now (line .entry)) (at + i) 16 ⌝ }
+    ensures { λ _. ⌜ length (now (out .exit)) ≡ length (now (out .entry)) ⌝ }
+{
+    let mut values = [0u8; 2 * BLOCK];
+    digit_values(line, 2 * (at + i), &mut values);
+    put_block(&values, out, i);
+}
+
+// Fills the front of out with blocks of a line's body from index at on, where all bytes are there; the index past them.
+fn copy_blocks(line: &[u8], at: usize, out: &mut [u8]) -> usize
+    requires { ⌜ length (now out) ≤ length (bodyOf (now line)) - at ⌝ }
+    ensures { λ r. ⌜ (r ≤ length (now (out .entry))) × (take r (now (out .exit)) ≡ bodyFrom (now (line .entry)) at r) ⌝ }
+    ensures { λ _. ⌜ length (now (out .exit)) ≡ length (now (out .entry)) ⌝ }
+{
+    let mut i = 0;
+    while i + BLOCK <= out.len() {
+        copy_block(line, at, out, i);
+        i += BLOCK;
+    }
+    i
+}
+
+// Fills out from index from on, where the bytes before it are there already.
+fn copy_rest(line: &[u8], at: usize, out: &mut [u8], from: usize)
+    requires { ⌜ length (now out) ≤ length (bodyOf (now line)) - at ⌝ }
+    requires { ⌜ (from ≤ length (now out)) × (take from (now out) ≡ bodyFrom (now line) at from) ⌝ }
+    ensures { λ _. ⌜ now (out .exit) ≡ bodyFrom (now (line .entry)) at (length (now (out .entry))) ⌝ }
+{
+    let mut i = from;
+    while i < out.len() {
+        out[i] = byte_at(line, at + i);
+        i += 1;
+    }
+}
+
 // Fills out with bytes of a line's body from index at on, where all of them are there.
 fn copy_inside(line: &[u8], at: usize, out: &mut [u8])
     requires { ⌜ length (now out) ≤ length (bodyOf (now line)) - at ⌝ }
     ensures { λ _. ⌜ now (out .exit) ≡ bodyFrom (now (line .entry)) at (length (now (out .entry))) ⌝ }
 {
-    let mut i = 0;
-    while i < out.len() {
-        out[i] = byte_at(line, at + i);
-        i += 1;
-    }
+    let i = copy_blocks(line, at, out);
+    copy_rest(line, at, out, i);
 }
 
 // Byte i of those from index at on, where there are so many of them left, and 0 past these.

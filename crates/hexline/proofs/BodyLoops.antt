@@ -2,7 +2,7 @@
 use mathlib.Core.Bool.{cond}
 use mathlib.Core.List.{List, _∷_, [], _++_, append-assoc, append-nil}
 use mathlib.Core.Path.{_≡_, refl, sym, ap, _∙_}
-use Prim.Native.Nat.{ℕ, zero, suc, _+_, _*_, _/_, _%_, _^_, _≤_, _<_}
+use Prim.Native.Nat.{ℕ, _+_, _*_, _/_, _%_, _^_, _≤_, _<_}
 use native.Mathlib.Nat.{add-zero, lt-of-lt-of-le, pow-le-pow-right, zero-lt-suc}
 use native.Mathlib.Numerals.{add-one}
 use native.Mathlib.Omega.{arith}
@@ -11,26 +11,14 @@ use lib.ListN.{length, set, take, length-append, length-set}
 use lib.Seq.{length-take-le, take-at, take-length, take-suc-set}
 use Rattle.label.specs.Index.{tabulate}
 use Rattle.label.specs.Words.{wordAt, words as setWords}
-use Rattle.label.proofs.IndexLaws.{tabulate-at, tabulate-is, tabulate-length}
+use Rattle.label.proofs.IndexLaws.{tabulate-at, tabulate-length}
 use Rattle.label.specs.declared.Label.{Label}
 use Rattle.frame.specs.Frame.{bodyFrom, bodyOf}
 use Rattle.frame.proofs.FrameLaws.{Bytes}
+use Rattle.frame.proofs.FrameLoops.{store-next, store-none, tabulate-more, tabulate-same}
 use Rattle.hexline.specs.Body.{Appended, byteAt, categoryByte, labelBytes, labelSize, numberOf, wordFrom}
 use Rattle.hexline.proofs.BodyLaws.{word-byte}
 use Rattle.hexline.proofs.NumberLaws.{number-bound, number-moved}
-
--- ---- lists by the index
-
-tabulate-same : (f g : ℕ → ℕ) (n : ℕ) → ((i : ℕ) → i < n → f i ≡ g i) → tabulate f n ≡ tabulate g n
-tabulate-same f g n h = tabulate-is g (tabulate f n) n 0 (tabulate-length f n) (λ i l. tabulate-at f n i 0 l ∙ h i l)
-
-tabulate-more : (f : ℕ → ℕ) (m n : ℕ) → tabulate f m ++ tabulate (λ k. f (m + k)) n ≡ tabulate f (m + n)
-unfolding tabulate
-tabulate-more f m zero = append-nil (tabulate f m) ∙ ap (tabulate f) (sym (add-zero m))
-tabulate-more f m (suc n) =
-    sym (append-assoc (tabulate f m) (tabulate (λ k. f (m + k)) n) (f (m + n) ∷ []))
-    ∙ ap (λ (l : List ℕ). l ++ (f (m + n) ∷ [])) (tabulate-more f m n)
-    ∙ ap (tabulate f) {x = suc (m + n)} {y = m + suc n} (omega arith)
 
 -- the bytes past the lowest of a word leave room for one more
 pub word-room : (bs : List ℕ) → Bytes bs → (i n : ℕ) → n ≤ 7 → numberOf 256 (byteAt bs) i n < 72057594037927936
@@ -69,19 +57,14 @@ appended-byte a i b h = record { next = refl; holds = take-more (take i a) a i b
 -- a loop that puts f 0, f 1, .. from index i on
 module _ (f : ℕ → ℕ) (a : List ℕ) (i : ℕ) where
   pub put-none : Appended a i (tabulate f 0) (i + 0) a
-  unfolding tabulate
-  put-none = record { next = refl; holds = ap (λ (n : ℕ). take n a) (add-zero i) ∙ sym (append-nil (take i a)); size = refl }
+  put-none = record { next = let n = tabulate-length f 0 in omega arith; holds = store-none f a i; size = refl }
 
   pub put-next : (out : List ℕ) (k v : ℕ) → i + k < length a → v ≡ f k → Appended a i (tabulate f k) (i + k) out
       → Appended a i (tabulate f (k + 1)) (i + (k + 1)) (set out (i + k) v)
-  unfolding tabulate
   put-next out k v h e p =
       let n = p .size in
-      let q = appended-both p (appended-byte out (i + k) v (omega arith)) in
-      let bytes : (tabulate f k ++ (v ∷ [])) ≡ tabulate f (k + 1) = rw (e, add-one k) refl in
       let l = tabulate-length f (k + 1) in
-      let m : i + (k + 1) ≡ i + k + 1 = omega arith in
-      record { next = omega arith; holds = ap (λ (j : ℕ). take j (set out (i + k) v)) m ∙ q .holds ∙ ap (λ (bs : List ℕ). take i a ++ bs) bytes; size = q .size }
+      record { next = omega arith; holds = store-next f a i out k v (omega arith) e (p .holds); size = length-set out (i + k) v ∙ n }
 
 -- the bytes of a set's words up to j, and of word j
 set-more : (ws : List ℕ) (j : ℕ) → tabulate (categoryByte ws) (8 * j) ++ tabulate (λ k. wordAt ws j / 256 ^ k % 256) 8 ≡ tabulate (categoryByte ws) (8 * (j + 1))
