@@ -62,13 +62,17 @@ value-small c = pick (isDigit c) refl
         ⊎-elim (λ h. let v = low-digit c (h .0) (h .1) .1 in omega arith) (λ h. let v = high-digit c (h .0) (h .1) .1 in omega arith) (digit-cases c e)
     pick false e = let v = no-digit c e in omega arith
 
-pub spell-low : (n : ℕ) → n < 10 → digitOf n ≡ 48 + n
+spell-low : (n : ℕ) → n < 10 → digitOf n ≡ 48 + n
 unfolding digitOf
 spell-low n h = rw (lt-ltb n 10 h)
 
-pub spell-high : (n : ℕ) → 10 ≤ n → digitOf n ≡ 87 + n
+spell-high : (n : ℕ) → 10 ≤ n → digitOf n ≡ 87 + n
 unfolding digitOf
 spell-high n h = rw (le-ltb n 10 h)
+
+-- a digit by arithmetic alone
+pub digit-by : (n : ℕ) → n < 16 → 48 + n + 39 * (n / 10) ≡ digitOf n
+digit-by n h = ⊎-elim (λ l. omega arith ∙ sym (spell-high n l)) (λ l. omega arith ∙ sym (spell-low n l)) (le-or-lt 10 n)
 
 -- c is the digit of n exactly if it is a digit, with the number n: the one law of digits, both ways
 pub digit-exact : (n c : ℕ) → n < 16 → (digitOf n ≡ c) ↔ ((isDigit c ≡ true) × (valueOf c ≡ n))

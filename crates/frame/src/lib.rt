@@ -20,11 +20,12 @@ const LINE_FEED: u8 = 10;
 // How many bytes are copied together.
 const BLOCK: usize = 16;
 
+// Letters stand 39 past where the decimal digits would go on. This takes fewer instructions than a choice.
 fn digit(n: u8) -> u8
     requires { ⌜ n < 16 ⌝ }
     ensures { λ r. ⌜ r ≡ digitOf n ⌝ }
 {
-    if n < 10 { 48 + n } else { 87 + n }
+    48 + n + 39 * (n / 10)
 }
 
 fn is_digit(c: u8) -> bool
@@ -213,7 +214,7 @@ fn digits_from(line: &[u8], at: usize, n: usize) -> bool
     good
 }
 
-// Whether the first n bytes of a line are digits. The last eight are tested together, so that few are tested alone; some are tested twice.
+// Whether the first n bytes of a line are digits. The last eight are tested together, some for the second time, so that none is tested alone.
 fn all_digits(line: &[u8], n: usize) -> bool
     requires { ⌜ n ≤ length (now line) ⌝ }
     ensures { λ r. ⌜ r ≡ every (λ i. isDigit (getD (now (line .entry)) i 0)) n ⌝ }
