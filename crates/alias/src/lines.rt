@@ -2,13 +2,10 @@
 use crate::LineStarts;
 use crate::MAX_LINES;
 use crate::MAX_STARTS;
-use label::answer::granted;
 use octets::LF;
 ghost use mathlib.Core.Path.{_≡_};
 ghost use Prim.Native.Nat.{_<_};
 ghost use lib.ListN.{length};
-ghost use Rattle.label.specs.Answer.{isGranted};
-ghost use Rattle.hexline.specs.Line.{readEntryOf};
 ghost use Rattle.alias.specs.Walk.{Walks, faultyOf, lineEnd};
 
 // The lines of a table before the first that is bad by itself, and whether there is one.
@@ -30,20 +27,11 @@ fn line_end(table: &[u8], at: usize) -> usize
     table.len()
 }
 
-// Whether a line is an accepted line of kind 04.
-fn accepted(line: &[u8]) -> bool
-    ensures { λ r. ⌜ r ≡ isGranted (readEntryOf (now (line .entry))) ⌝ }
-{
-    let r = hexline::read_entry(line);
-    let outcome = r.outcome;
-    granted(outcome)
-}
-
 // Whether a line is bad by itself as line k: the 513th, or no accepted line of kind 04.
 fn faulty(k: usize, line: &[u8]) -> bool
     ensures { λ r. ⌜ r ≡ faultyOf k (now (line .entry)) ⌝ }
 {
-    (MAX_LINES <= k) | !accepted(line)
+    (MAX_LINES <= k) | !hexline::accepts_entry(line)
 }
 
 // Walks the lines up to the first that is bad by itself. Where the table is cut off, that is at the latest the one after the last.

@@ -72,13 +72,13 @@ pub fn zero() -> Entry
     }
 }
 
-fn is_letter(c: u8) -> bool
+pub(crate) fn is_letter(c: u8) -> bool
     ensures { λ r. ⌜ r ≡ isLetter c ⌝ }
 {
     ((65 <= c) & (c <= 90)) | ((97 <= c) & (c <= 122))
 }
 
-fn is_name_byte(c: u8) -> bool
+pub(crate) fn is_name_byte(c: u8) -> bool
     ensures { λ r. ⌜ r ≡ isNameByte c ⌝ }
 {
     is_letter(c) | ((48 <= c) & (c <= 57)) | (c == 95) | (c == 45) | (c == 46)
@@ -228,7 +228,7 @@ pub(crate) struct Layout {
 }
 
 // How many bytes a value of a class has. The second clause of this and the next three follows, and is stated for callers.
-fn value_size(class: u8, words: usize) -> usize
+pub(crate) fn value_size(class: u8, words: usize) -> usize
     requires { ⌜ words ≤ setWords ⌝ }
     ensures { λ r. ⌜ r ≡ valueSize words class ⌝ }
     ensures { λ r. ⌜ r ≤ labelSize words ⌝ }

@@ -5,7 +5,7 @@ use Rattle.alias.proofs.lines.faulty.Tie as tie
 
 returns : tie.Need-returns
 unfolding faultyOf
-returns c = rw (c .accepted .ensures)
+returns c = rw (c .accepts-entry .ensures)
 
 pub faulty-spec : {M : Type 1} → statement M
 faulty-spec = tie.close (tie.spec (search needs) returns)

@@ -1,0 +1,153 @@
+-- The laws of what a body of an alias entry is judged by: it is the form of the entry that stands in it, and that this is valid. Assumes nothing.
+use mathlib.Core.Bool.{Bool, true, false, cond, _&&_, _||_, and-false, and-true}
+use mathlib.Core.List.{List, _++_}
+use mathlib.Core.Logic.{⊎-elim}
+use mathlib.Core.Path.{_≡_, refl, sym, ap, ap₂, _∙_}
+use Prim.Native.Nat.{ℕ, zero, suc, _+_, _≤_, _<_}
+use native.Mathlib.Nat.{add-zero}
+use native.Mathlib.Numerals.{add-one}
+use native.Mathlib.Omega.{arith}
+use lib.Dec.{eqb, leb, ltb}
+use lib.ListN.{drop, getD, length, take, length-drop}
+use lib.Seq.{getD-drop, getD-take, length-take-le, take-all, take-at}
+use borrow.Author.Tests.{eq-eqb, le-leb, le-ltb, lt-ltb}
+use Rattle.label.specs.Answer.{isGranted, require, granted}
+use Rattle.label.specs.Index.{every, tabulate}
+use Rattle.label.specs.Label
+use Rattle.label.proofs.BoolLaws.{not-so, same-truth}
+use Rattle.label.proofs.IndexLaws.{every-all, every-at, le-or-lt, tabulate-at, tabulate-is, tabulate-length}
+use Rattle.label.proofs.LabelLaws.{equal-exact}
+use Rattle.frame.specs.Frame.{bodyFrom, bodyOf, framedOf}
+use Rattle.hexline.specs.Accept.{textOk, valueByteOk}
+use Rattle.hexline.specs.Body.{byteAt, labelAt, labelSize, lineWords}
+use Rattle.hexline.specs.Entry.{entryFrom, isLetter, isNameByte, labelFrom, layoutOf, maxAbbreviation, maxName, nameByteAt, nameByteOk, nameOf, past, textByte, textFrom, validOf, valueFrom, valueOk, valueSize}
+use Rattle.hexline.specs.Line.{contentsOf, entryForm, entryIn, readEntryOf}
+use Rattle.hexline.specs.declared.entry.Entry.{Entry}
+use Rattle.hexline.proofs.EntryLaws.{text-byte}
+use Rattle.hexline.proofs.LineLaws.{entry-form-parts}
+
+pub every-more : (f : ℕ → Bool) (i : ℕ) → every f (i + 1) ≡ (every f i && f i)
+unfolding every
+every-more f i = rw add-one
+
+-- ---- the value
+
+pub value-judged : (w : ℕ) (bs : List ℕ) (class i : ℕ) → byteAt bs i < 256 → 1 ≤ class → class ≤ 3
+    → valueOk (valueFrom class (byteAt bs i)) (labelFrom w bs class i) ≡ valueByteOk class (byteAt bs i)
+unfolding valueOk valueFrom labelFrom labelAt Label.validOf
+value-judged w bs zero i small low high = absurd (omega arith)
+value-judged w bs (suc zero) i small low high =
+    rw (equal-exact Label.zeroLabel Label.zeroLabel refl .1 refl) (and-true (leb (byteAt bs i) 199))
+value-judged w bs (suc (suc zero)) i small low high = rw (lt-ltb (byteAt bs i) 256 small) (equal-exact Label.zeroLabel Label.zeroLabel refl .1 refl)
+value-judged w bs (suc (suc (suc zero))) i small low high = refl
+value-judged w bs (suc (suc (suc (suc class)))) i small low high = absurd (omega arith)
+
+-- ---- a text
+
+pub text-judged : (most : ℕ) (bs : List ℕ) (i n : ℕ) → n ≤ most → i + n ≤ length bs → nameOf (textFrom most bs i n) n ≡ textOk (take n (drop i bs))
+unfolding nameOf nameByteOk textFrom textByte textOk
+text-judged most bs i n h room =
+    ap₂ _&&_ begins (same-truth (every (nameByteAt xs n) (length xs)) (every (λ k. isNameByte (byteAt t k)) (length t)) to from)
+  where
+    f : ℕ → ℕ
+    f = textByte bs i n
+
+    xs : List ℕ
+    xs = tabulate f most
+
+    t : List ℕ
+    t = take n (drop i bs)
+
+    size : length xs ≡ most
+    size = tabulate-length f most
+
+    long : length t ≡ n
+    long = let d = length-drop i bs in length-take-le n (drop i bs) (omega arith)
+
+    same : (k : ℕ) → k < n → byteAt xs k ≡ byteAt t k
+    same k l = tabulate-at f most k 0 (omega arith) ∙ text-byte bs i n k l ∙ sym (getD-take n (drop i bs) k 0 l ∙ getD-drop i bs k 0)
+
+    first : (m : ℕ) → (0 < m → byteAt xs 0 ≡ byteAt t 0) → (eqb m 0 || isLetter (byteAt xs 0)) ≡ (eqb m 0 || isLetter (byteAt t 0))
+    first zero e = refl
+    first (suc m) e = rw (e (omega arith))
+
+    begins : (leb n (length xs) && (eqb n 0 || isLetter (byteAt xs 0))) ≡ (eqb (length t) 0 || isLetter (byteAt t 0))
+    begins = rw (le-leb n (length xs) (omega (arith, size)), long) (first n (λ l. same 0 l))
+
+    to : every (nameByteAt xs n) (length xs) ≡ true → every (λ k. isNameByte (byteAt t k)) (length t) ≡ true
+    to e =
+        every-all (λ k. isNameByte (byteAt t k)) (length t)
+        (λ k l. let b : k < n = omega (arith, long) in
+        ap isNameByte (sym (same k b)) ∙ (rw (lt-ltb k n b) at (every-at (nameByteAt xs n) (length xs) k e (omega (arith, size)))))
+
+    from : every (λ k. isNameByte (byteAt t k)) (length t) ≡ true → every (nameByteAt xs n) (length xs) ≡ true
+    from e =
+        every-all (nameByteAt xs n) (length xs)
+        (λ k l. ⊎-elim
+        (λ b. rw (le-ltb k n b) (eq-eqb (byteAt xs k) 0 (tabulate-at f most k 0 (omega (arith, size)) ∙ (rw (le-ltb k n b)))))
+        (λ b. rw (lt-ltb k n b) (ap isNameByte (same k b) ∙ every-at (λ k. isNameByte (byteAt t k)) (length t) k e (omega (arith, long)))) (le-or-lt n k))
+
+-- ---- a body of the form of an alias entry's
+
+abbreviation-at : (w : ℕ) (bs : List ℕ) (i : ℕ) → layoutOf w bs i .abbreviation .at ≡ past (layoutOf w bs i .name) + 1
+unfolding layoutOf
+abbreviation-at w bs i = refl
+
+name-at : (w : ℕ) (bs : List ℕ) (i : ℕ) → layoutOf w bs i .name .at ≤ i + 2 + labelSize w
+unfolding layoutOf valueSize
+name-at w bs i = go (eqb (byteAt bs i) 3)
+  where
+    go : (p : Bool) → i + 1 + cond p (labelSize w) 1 + 1 ≤ i + 2 + labelSize w
+    go true = omega arith
+    go false = omega arith
+
+pub form-short : (bs : List ℕ) → entryForm 4 lineWords bs ≡ true → length bs ≤ 83
+form-short bs e =
+    let f = entry-form-parts 4 lineWords bs e in
+    omega (arith, f .name, f .abbreviation, f .size, abbreviation-at lineWords bs 1, name-at lineWords bs 1)
+
+-- what is tested of such a body
+abbrev pub judged : List ℕ → Bool
+judged bs =
+    valueByteOk (layoutOf lineWords bs 1 .class) (byteAt bs 2) && leb 1 (layoutOf lineWords bs 1 .name .length)
+    && textOk (take (layoutOf lineWords bs 1 .name .length) (drop (layoutOf lineWords bs 1 .name .at) bs))
+    && textOk (drop (layoutOf lineWords bs 1 .abbreviation .at) bs)
+
+pub body-judged : (bs : List ℕ) → byteAt bs 2 < 256 → entryForm 4 lineWords bs ≡ true → validOf (entryIn lineWords bs) ≡ judged bs
+unfolding validOf entryFrom
+body-judged bs small e =
+    let f = entry-form-parts 4 lineWords bs e in
+    let p = layoutOf lineWords bs 1 in
+    let n = p .name in
+    let a = p .abbreviation in
+    let at = abbreviation-at lineWords bs 1 in
+    let d = length-drop (a .at) bs in
+    ap₂ _&&_ (ap₂ _&&_ (ap (λ (v : Bool). v && leb 1 (n .length)) (value-judged lineWords bs (p .class) 2 small (f .low) (f .high)))
+    (text-judged maxName bs (n .at) (n .length) (f .name) (omega (arith, f .size))))
+    (text-judged maxAbbreviation bs (a .at) (a .length) (f .abbreviation) (omega (arith, f .size))
+    ∙ ap textOk (take-all (a .length) (drop (a .at) bs) (omega (arith, f .size))))
+
+-- ---- a line
+
+pub accepted-as : (line : List ℕ) → isGranted (readEntryOf line) ≡ (framedOf line && (entryForm 4 lineWords (bodyOf line) && validOf (entryIn lineWords (bodyOf line))))
+unfolding contentsOf
+accepted-as line = go (framedOf line) (entryForm 4 lineWords (bodyOf line) && validOf (entryIn lineWords (bodyOf line))) (entryIn lineWords (bodyOf line))
+  where
+    go : (f v : Bool) (x : Entry) → isGranted (require f 22 (require v 22 (granted x))) ≡ (f && v)
+    go true true x = refl
+    go true false x = refl
+    go false v x = refl
+
+pub too-long : (line : List ℕ) → 83 < length (bodyOf line) → false ≡ isGranted (readEntryOf line)
+too-long line h =
+    let f = not-so (entryForm 4 lineWords (bodyOf line)) (λ e. absurd (omega (arith, form-short (bodyOf line) e))) in
+    sym (accepted-as line ∙ rw f (and-false (framedOf line)))
+
+-- the bytes of its body at the front of a buffer
+pub decoded : (line out copied rest : List ℕ) (n : ℕ) → n ≡ length (bodyOf line) → n ≤ length out → copied ≡ bodyFrom line 0 (length (take n out))
+    → take n (copied ++ rest) ≡ bodyOf line
+unfolding bodyFrom
+decoded line out copied rest n e h c =
+    let whole : tabulate (λ k. byteAt (bodyOf line) (0 + k)) (length (bodyOf line)) ≡ bodyOf line = sym
+    (tabulate-is (λ k. byteAt (bodyOf line) (0 + k)) (bodyOf line) (length (bodyOf line)) 0 refl (λ i l. ap (byteAt (bodyOf line)) (omega arith))) in
+    ap (λ (t : List ℕ). take n (t ++ rest)) (c ∙ ap (bodyFrom line 0) (length-take-le n out h ∙ e) ∙ whole) ∙ take-at (bodyOf line) rest n (sym e)
