@@ -1,60 +1,64 @@
 -- The laws of the keys of names: names that are the same have the same key. Assumes nothing.
-use mathlib.Core.Bool.{Bool, true, false, not, _&&_, _||_, true≢false}
-use mathlib.Core.List.{List, _∷_}
+use mathlib.Core.Bool.{Bool, true, false, cond, not, _&&_, _||_, true≢false}
+use mathlib.Core.List.{List, _∷_, _++_}
 use mathlib.Core.Logic.{⊎-elim}
-use mathlib.Core.Path.{_≡_, refl, sym, ap, _∙_}
-use Prim.Native.Nat.{ℕ, _+_, _≤_, _<_}
+use mathlib.Core.Option.{none}
+use mathlib.Core.Path.{_≡_, refl, sym, ap, subst, _∙_}
+use Prim.Native.Nat.{ℕ, _+_, _%_, _≤_, _<_}
+use native.Mathlib.Nat.{add-zero, eq-or-lt-of-le, zero-add}
 use native.Mathlib.Numerals.{add-one}
 use native.Mathlib.Omega.{arith}
 use lib.Dec.{eqb, leb}
-use lib.ListN.{drop, getD, length, take, drop-of-length-le}
-use lib.Seq.{drop-cons, getD-take}
-use borrow.Author.Tests.{eq-eqb, le-leb, leb-false, lt-leb}
-use Rattle.label.specs.Index.{any, every, tabulate}
-use Rattle.label.proofs.BoolLaws.{either, first-true, neither, not-so, or-first, or-second, second-true}
+use lib.ListN.{drop, getD, length, set, take, drop-of-length-le, length-set}
+use lib.Seq.{drop-cons, getD-set-other, getD-set-same, getD-take, length-take-le, take-at}
+use borrow.Author.Tests.{eq-eqb, eqb-true, le-leb, leb-false, lt-leb}
+use Rattle.label.specs.Index.{any, every, firstFrom, tabulate}
+use Rattle.label.proofs.BoolLaws.{both, either, first-true, neither, not-so, or-first, or-second, second-true}
 use Rattle.label.proofs.IndexLaws.{Filled, every-all, tabulate-at}
-use Rattle.label.proofs.SearchLaws.{none-of}
+use Rattle.label.proofs.SearchLaws.{none-of, pass, same-or-not}
 use Rattle.octets.specs.Bytes.{sameBytes}
 use Rattle.octets.proofs.ByteLaws.{same-is}
-use Rattle.frame.specs.Frame.{bodyOf}
-use Rattle.hexline.specs.Body.{byteAt}
+use Rattle.frame.specs.Frame.{bodyFrom, bodyOf}
 use Rattle.hexline.specs.Entry.{abbreviationBytes, nameBytes, spanBytes}
 use Rattle.hexline.specs.Line.{abbreviationIn, nameIn, standingIn}
 use Rattle.hexline.specs.declared.entry.Entry.{Entry}
 use Rattle.hexline.specs.declared.entry.Span.{Span}
-use Rattle.hexline.proofs.StandingLaws.{abbreviation-stands, name-stands, span-at, span-length}
-use Rattle.alias.specs.Keys.{Keys, halfOf, keyFrom, keyOf, keyed, meet, meetAt, metBefore, nameKey, nextKey, otherBytes, otherKey}
+use Rattle.hexline.proofs.StandingLaws.{abbreviation-stands, name-stands, span-length}
+use Rattle.alias.specs.Keys.{IsMarked, Keys, Marked, NoneMet, NoneWithin, halfOf, keyFrom, keyOf, keyed, marks, meet, meetAt, metBefore, nameKey, nextKey, otherBytes, otherKey, repeatsWithin}
 use Rattle.alias.specs.Lines.{entryAt, maxLines}
 use Rattle.alias.specs.Lookup.{calledOf}
-use Rattle.alias.specs.Table.{sharesOf}
+use Rattle.alias.specs.Table.{firstRepeat, repeatsAt, sharesOf}
 use Rattle.alias.proofs.LookupLaws.{sharesAt}
 
--- ---- the key of the bytes at a span, from the front
+-- ---- the key of bytes, from the front
 
 -- the first i bytes have that key
-pub record KeySoFar (bs : List ℕ) (s : Span) (key i : ℕ) : Type 0 where
-  pub within : i ≤ s .length
-  pub rest : keyOf (spanBytes bs s) ≡ halfOf (keyFrom key (drop i (spanBytes bs s)))
+pub record KeySoFar (xs : List ℕ) (key i : ℕ) : Type 0 where
+  pub within : i ≤ length xs
+  pub rest : keyOf xs ≡ halfOf (keyFrom key (drop i xs))
 
-module _ (bs : List ℕ) (s : Span) where
-  pub key-start : KeySoFar bs s (s .length) 0
+module _ (xs : List ℕ) where
+  pub key-start : KeySoFar xs (length xs) 0
   unfolding keyOf
-  key-start = record { within = omega arith; rest = ap (λ (n : ℕ). halfOf (keyFrom n (spanBytes bs s))) (span-length bs s) }
+  key-start = record { within = omega arith; rest = refl }
 
-  pub key-next : {key i x : ℕ} → KeySoFar bs s key i → i < s .length → x ≡ byteAt bs (s .at + i) → KeySoFar bs s (nextKey key x) (i + 1)
+  pub key-next : {key i x : ℕ} → KeySoFar xs key i → i < length xs → x ≡ getD xs i 0 → KeySoFar xs (nextKey key x) (i + 1)
   unfolding keyFrom
   key-next {key} {i} {x} h l e =
-      let m = span-length bs s in
-      let b : getD (spanBytes bs s) i 0 ≡ x = span-at bs s i l ∙ sym e in
-      let r : drop i (spanBytes bs s) ≡ x ∷ drop (i + 1) (spanBytes bs s) = rw (drop-cons (spanBytes bs s) i 0 (omega arith), b, add-one) in
-      record { within = omega arith; rest = h .rest ∙ ap (λ (xs : List ℕ). halfOf (keyFrom key xs)) r }
+      let r : drop i xs ≡ x ∷ drop (i + 1) xs = rw (drop-cons xs i 0 l, e, add-one) in
+      record { within = omega arith; rest = h .rest ∙ ap (λ (ys : List ℕ). halfOf (keyFrom key ys)) r }
 
-  pub key-end : {key i : ℕ} → KeySoFar bs s key i → s .length ≤ i → halfOf key ≡ keyOf (spanBytes bs s)
+  pub key-end : {key i : ℕ} → KeySoFar xs key i → length xs ≤ i → halfOf key ≡ keyOf xs
   unfolding keyFrom
-  key-end {key} {i} h l =
-      let m = span-length bs s in
-      let n : length (spanBytes bs s) ≤ i = omega arith in
-      sym (h .rest ∙ ap (λ (xs : List ℕ). halfOf (keyFrom key xs)) (drop-of-length-le (spanBytes bs s) n))
+  key-end {key} {i} h l = sym (h .rest ∙ ap (λ (ys : List ℕ). halfOf (keyFrom key ys)) (drop-of-length-le xs l))
+
+-- the bytes at a span, copied to the front of a buffer
+pub span-copied : (line out copied rest : List ℕ) (s : Span) → s .length ≤ length out → copied ≡ bodyFrom line (s .at) (length (take (s .length) out))
+    → take (s .length) (copied ++ rest) ≡ spanBytes (bodyOf line) s
+unfolding bodyFrom spanBytes
+span-copied line out copied rest s h e =
+    ap (λ (t : List ℕ). take (s .length) (t ++ rest)) (e ∙ ap (bodyFrom line (s .at)) (length-take-le (s .length) out h))
+    ∙ take-at (spanBytes (bodyOf line) s) rest (s .length) (span-length (bodyOf line) s)
 
 -- ---- an entry's other name
 
@@ -66,13 +70,20 @@ not-abbreviated : (e : Entry) → leb 1 (length (abbreviationBytes e)) ≡ false
 unfolding otherBytes
 not-abbreviated e h = rw h
 
--- in a line, by the span of the abbreviation
+-- in a line, by the span of the name,
+pub name-size : (line : List ℕ) {a : Span} → a ≡ nameIn line → a .length ≡ length (nameBytes (standingIn line))
+name-size line {a} e = ap (λ (s : Span). s .length) e ∙ sym (ap length (name-stands line) ∙ span-length (bodyOf line) (nameIn line))
+
+-- and of the abbreviation
 module _ (line : List ℕ) {a : Span} (e : a ≡ abbreviationIn line) where
   stands : abbreviationBytes (standingIn line) ≡ spanBytes (bodyOf line) a
   stands = rw e (abbreviation-stands line)
 
   long : length (abbreviationBytes (standingIn line)) ≡ a .length
   long = ap length stands ∙ span-length (bodyOf line) a
+
+  pub abbreviation-size : a .length ≡ length (abbreviationBytes (standingIn line))
+  abbreviation-size = sym long
 
   pub other-is-abbreviation : 1 ≤ a .length → spanBytes (bodyOf line) a ≡ otherBytes (standingIn line)
   other-is-abbreviation h =
@@ -106,6 +117,20 @@ shared-keys e f h =
     ⊎-elim (λ u. or-first _ (called-keys e (nameBytes f) u))
     (λ u. or-second (eqb (keyOf (nameBytes e)) (keyOf (nameBytes f)) || eqb (keyOf (otherBytes e)) (keyOf (nameBytes f))) (called-keys e (otherBytes f) (rw (abbreviated f (first-true p q u)) (second-true p q u))))
     (either (calledOf e (nameBytes f)) (p && q) h)
+
+-- an entry that has its name as its abbreviation too, by their lengths and its keys
+pub within-keys : (e : Entry) {m n x y : ℕ} → m ≡ length (nameBytes e) → n ≡ length (abbreviationBytes e) → x ≡ keyOf (nameBytes e) → y ≡ keyOf (otherBytes e)
+    → (eqb m n && eqb x y) ≡ false → repeatsWithin e ≡ false
+unfolding otherBytes
+within-keys e {m} {n} {x} {y} p q f g h = not-so (repeatsWithin e) (λ s. true≢false (sym (opens (same-is (nameBytes e) (abbreviationBytes e) s)) ∙ h))
+  where
+    other : nameBytes e ≡ abbreviationBytes e → (b : Bool) → cond b (abbreviationBytes e) (nameBytes e) ≡ nameBytes e
+    other s true = sym s
+    other s false = refl
+
+    opens : nameBytes e ≡ abbreviationBytes e → (eqb m n && eqb x y) ≡ true
+    opens s =
+        both (eq-eqb m n (p ∙ ap length s ∙ sym q)) (eq-eqb x y (f ∙ ap keyOf (sym (other s (leb 1 (length (abbreviationBytes e))))) ∙ sym g))
 
 -- ---- a loop that asks whether f holds at some number
 
@@ -162,3 +187,79 @@ module _ {es : List Entry} (n : ℕ) {names others : List ℕ} (h : Keys es (key
       let d = neither (leb maxLines k) _ e in
       let f = leb-false maxLines k (d .0) in
       any-none (sharesAt es k) k (λ j m. not-so (sharesAt es k j) (λ s. true≢false (sym (meeting j m f s) ∙ none-of (meetAt names others k) k j (d .1) m)))
+
+-- ---- marks
+
+-- a mark stays set
+mark-kept : (marked : List ℕ) (i j : ℕ) → getD marked j 0 ≡ 1 → j < length marked → getD (set marked i 1) j 0 ≡ 1
+mark-kept marked i j e l =
+    ⊎-elim (λ u. ap (λ (n : ℕ). getD (set marked n 1) j 0) (sym u) ∙ getD-set-same marked j 1 0 l) (λ u. getD-set-other marked i j 1 0 u ∙ e) (same-or-not j i)
+
+pub marked-none : (names others marked : List ℕ) → length marked ≡ marks → Marked names others 0 marked
+marked-none names others marked e = record { size = e; name = λ j l. absurd (omega arith); other = λ j l. absurd (omega arith) }
+
+module _ {names others marked : List ℕ} {k : ℕ} (h : Marked names others k marked) where
+  marked-both : Marked names others (k + 1) (set (set marked (getD names k 0 % marks) 1) (getD others k 0 % marks) 1)
+  marked-both =
+      record {
+        size = length-set (set marked a 1) b 1 ∙ length-set marked a 1 ∙ h .size;
+        name = λ j l. ⊎-elim (λ u. rw u (twice (getD names k 0) fresh-a)) (λ u. kept (getD names j 0) (h .name j u)) (eq-or-lt-of-le (omega arith));
+        other = λ j l. ⊎-elim (λ u. rw u fresh-b) (λ u. kept (getD others j 0) (h .other j u)) (eq-or-lt-of-le (omega arith));
+      }
+    where
+      a : ℕ
+      a = getD names k 0 % marks
+
+      b : ℕ
+      b = getD others k 0 % marks
+
+      twice : (key : ℕ) → IsMarked (set marked a 1) key → IsMarked (set (set marked a 1) b 1) key
+      twice key m = mark-kept (set marked a 1) b (key % marks) m (omega (arith, length-set marked a 1, h .size))
+
+      kept : (key : ℕ) → IsMarked marked key → IsMarked (set (set marked a 1) b 1) key
+      kept key m = twice key (mark-kept marked a (key % marks) m (omega (arith, h .size)))
+
+      fresh-a : getD (set marked a 1) a 0 ≡ 1
+      fresh-a = getD-set-same marked a 1 0 (omega (arith, h .size))
+
+      fresh-b : getD (set (set marked a 1) b 1) b 0 ≡ 1
+      fresh-b = getD-set-same (set marked a 1) b 1 0 (omega (arith, length-set marked a 1, h .size))
+
+  pub marked-next : {a b : ℕ} → a ≡ getD names k 0 % marks → b ≡ getD others k 0 % marks → Marked names others (k + 1) (set (set marked a 1) b 1)
+  marked-next e f = rw (e, f) marked-both
+
+  -- a key that has no mark is none of the earlier ones
+  apart : (key c : ℕ) → IsMarked marked key → getD marked (c % marks) 0 ≡ 0 → eqb key c ≡ false
+  apart key c m z = not-so (eqb key c) (λ e. let n : getD marked (c % marks) 0 ≡ 1 = rw (eqb-true key c e) at m in absurd (omega arith))
+
+  pub not-marked : k < maxLines → getD marked (getD names k 0 % marks) 0 ≡ 0 → getD marked (getD others k 0 % marks) 0 ≡ 0 → metBefore names others k ≡ false
+  unfolding metBefore
+  not-marked l c d =
+      rw (lt-leb maxLines k l)
+      (any-none (meetAt names others k) k
+      (λ j m. rw (apart _ _ (h .name j m) c, apart _ _ (h .other j m) c, apart _ _ (h .name j m) d, apart _ _ (h .other j m) d)))
+
+-- such a loop over n entries has marked the keys of the first k, and none of these was met before
+pub record Marking (names others : List ℕ) (n : ℕ) (marked : List ℕ) (k : ℕ) : Type 0 where
+  pub upto : k ≤ n
+  pub keys : Marked names others k marked
+  pub clear : NoneMet names others k
+
+-- one more number at which something is so
+pub below-next : {P : ℕ → Type 0} {k : ℕ} → ((j : ℕ) → j < k → P j) → P k → (j : ℕ) → j < k + 1 → P j
+below-next {P} {k} h p j l = ⊎-elim (λ u. subst P (sym u) p) (λ u. h j u) (eq-or-lt-of-le (omega arith))
+
+-- ---- where the keys leave nothing open, no entry repeats a name
+
+met-small : (names others : List ℕ) (k : ℕ) → metBefore names others k ≡ false → k < maxLines
+unfolding metBefore
+met-small names others k e = leb-false maxLines k (neither (leb maxLines k) _ e .0)
+
+pub none-met : (es : List Entry) (n : ℕ) {names others : List ℕ} → length es ≡ n → Keys es (keyed n) names others → NoneWithin es (keyed n) → NoneMet names others n
+    → none ≡ firstRepeat es
+unfolding firstRepeat repeatsAt firstFrom
+none-met es n {names} {others} e h w m =
+    sym (ap (firstFrom (repeatsAt es) 0) e ∙ ap (firstFrom (repeatsAt es) 0) (sym (add-zero n)) ∙ pass (repeatsAt es) 0 n 0 (λ j l. ap (repeatsAt es) (zero-add j) ∙ clear j l))
+  where
+    clear : (k : ℕ) → k < n → repeatsAt es k ≡ false
+    clear k l = let f = met-small names others k (m k l) in rw (w k (omega arith)) (not-met n h k l (m k l))

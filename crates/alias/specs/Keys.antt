@@ -1,11 +1,12 @@
 -- Keys of names, which tell most names apart without reading them: for functions that are not public. Assumes nothing.
-use mathlib.Core.Bool.{Bool, cond, _||_}
+use mathlib.Core.Bool.{Bool, false, cond, _||_}
 use mathlib.Core.List.{List, [], _∷_}
 use mathlib.Core.Path.{_≡_}
-use Prim.Native.Nat.{ℕ, _+_, _*_, _/_, _%_, min}
+use Prim.Native.Nat.{ℕ, _+_, _*_, _/_, _%_, _<_, min}
 use lib.Dec.{eqb, leb}
 use lib.ListN.{getD, length, take}
 use Rattle.label.specs.Index.{any, tabulate}
+use Rattle.octets.specs.Bytes.{sameBytes}
 use Rattle.hexline.specs.Entry.{abbreviationBytes, nameBytes}
 use Rattle.hexline.specs.declared.entry.Entry.{Entry}
 use Rattle.alias.specs.Lines.{entryAt, maxLines}
@@ -45,6 +46,14 @@ pub record Keys (es : List Entry) (n : ℕ) (names others : List ℕ) : Type 0 w
   pub name : take n names ≡ tabulate (nameKey es) n
   pub other : take n others ≡ tabulate (otherKey es) n
 
+-- whether an entry has its name as its abbreviation too
+abbrev pub repeatsWithin : Entry → Bool
+repeatsWithin e = sameBytes (nameBytes e) (abbreviationBytes e)
+
+-- none of the first n entries has
+abbrev pub NoneWithin : List Entry → ℕ → Type 0
+NoneWithin es n = (k : ℕ) → k < n → repeatsWithin (entryAt es k) ≡ false
+
 -- whether one of a and b is one of c and d
 abbrev pub meet : ℕ → ℕ → ℕ → ℕ → Bool
 meet a b c d = (eqb a c || eqb b c) || (eqb a d || eqb b d)
@@ -55,3 +64,21 @@ meetAt names others k j = meet (getD names j 0) (getD others j 0) (getD names k 
 -- whether entry k, by its keys, may have a name in common with an earlier entry: one that has no keys may
 unfoldable pub metBefore : List ℕ → List ℕ → ℕ → Bool
 metBefore names others k = leb maxLines k || any (meetAt names others k) k
+
+abbrev pub NoneMet : List ℕ → List ℕ → ℕ → Type 0
+NoneMet names others n = (k : ℕ) → k < n → metBefore names others k ≡ false
+
+-- ---- marks of the keys that were met
+
+abbrev pub marks : ℕ
+marks = 4096
+
+-- the mark of a key is set
+abbrev pub IsMarked : List ℕ → ℕ → Type 0
+IsMarked marked key = getD marked (key % marks) 0 ≡ 1
+
+-- the marks of the keys of the first k entries are set
+pub record Marked (names others : List ℕ) (k : ℕ) (marked : List ℕ) : Type 0 where
+  pub size : length marked ≡ marks
+  pub name : (j : ℕ) → j < k → IsMarked marked (getD names j 0)
+  pub other : (j : ℕ) → j < k → IsMarked marked (getD others j 0)

@@ -3,6 +3,7 @@
 mod keys;
 mod lines;
 pub mod lookup;
+mod marks;
 mod names;
 mod repeats;
 

@@ -54,9 +54,9 @@ fn alike(a: &[u8], s: Span, b: &[u8], t: Span) -> bool
 pub(crate) fn called(line: &[u8], text: &[u8]) -> bool
     ensures { λ r. ⌜ r ≡ calledOf (standingIn (now (line .entry))) (now (text .entry)) ⌝ }
 {
-    let abbreviation = parts::abbreviation(line);
-    spells(line, parts::name(line), text)
-        | ((1 <= abbreviation.length) & spells(line, abbreviation, text))
+    let t = parts::texts(line);
+    let abbreviation = t.abbreviation;
+    spells(line, t.name, text) | ((1 <= abbreviation.length) & spells(line, abbreviation, text))
 }
 
 // Whether the bytes of a line b at a span are a name of the entry in a line a.

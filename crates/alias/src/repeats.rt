@@ -5,6 +5,7 @@ use crate::keys::fill;
 use crate::keys::met_before;
 use crate::lookup::count;
 use crate::lookup::line;
+use crate::marks::some_met;
 use crate::names::repeats_itself;
 use crate::names::shares;
 ghost use mathlib.Core.Path.{_≡_};
@@ -65,14 +66,17 @@ fn repeats(
     repeats_itself(line(table, starts, k)) | shared(table, starts, names, others, k)
 }
 
-// The first entry that repeats a name.
+// The first entry that repeats a name. The entries are gone through only where by the keys there may be one.
 pub(crate) fn first(table: &[u8], starts: &[usize]) -> Found
     ensures { λ r. ⌜ foundOf r ≡ firstRepeat (entriesBy (now (table .entry)) (now (starts .entry))) ⌝ }
 {
     let mut names = [0u32; MAX_LINES];
     let mut others = [0u32; MAX_LINES];
-    fill(table, starts, &mut names, &mut others);
+    let unclear = fill(table, starts, &mut names, &mut others);
     let n = count(starts);
+    if !(unclear | some_met(&names, &others, n)) {
+        return Found::Nothing;
+    }
     let mut k = 0;
     while k < n {
         if repeats(table, starts, &names, &others, k) {

@@ -10,9 +10,15 @@ use crate::entry::layout_at;
 use crate::entry::value_from;
 use label::Label;
 ghost use mathlib.Core.Path.{_≡_};
-ghost use Prim.Native.Nat.{_+_, _<_};
-ghost use Rattle.hexline.specs.Entry.{atMost};
+ghost use Prim.Native.Nat.{_+_, _<_, _≤_};
+ghost use Rattle.hexline.specs.Entry.{atMost, maxAbbreviation, maxName};
 ghost use Rattle.hexline.specs.Line.{abbreviationIn, nameIn, standingIn};
+
+// Where the texts of an entry stand in its line's body.
+pub struct TextSpans {
+    pub name: Span,
+    pub abbreviation: Span,
+}
 
 // A span of so many bytes at most.
 fn at_most(most: usize, s: Span) -> Span
@@ -52,4 +58,16 @@ pub fn abbreviation(line: &[u8]) -> Span
 {
     let p = layout_at(line, 1, LINE_WORDS);
     at_most(MAX_ABBREVIATION, p.abbreviation)
+}
+
+// Both at once.
+pub fn texts(line: &[u8]) -> TextSpans
+    ensures { λ r. ⌜ (r .name ≡ nameIn (now (line .entry))) × (r .abbreviation ≡ abbreviationIn (now (line .entry))) ⌝ }
+    ensures { λ r. ⌜ (r .name .at + r .name .length < 1024) × (r .name .length ≤ maxName) × (r .abbreviation .at + r .abbreviation .length < 1024) × (r .abbreviation .length ≤ maxAbbreviation) ⌝ }
+{
+    let p = layout_at(line, 1, LINE_WORDS);
+    TextSpans {
+        name: at_most(MAX_NAME, p.name),
+        abbreviation: at_most(MAX_ABBREVIATION, p.abbreviation),
+    }
 }

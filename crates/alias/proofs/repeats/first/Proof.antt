@@ -1,46 +1,63 @@
 use borrow.Author.Needs.{needs}
+use mathlib.Core.Bool.{_||_}
 use mathlib.Core.Path.{_≡_, sym, _∙_}
 use Prim.Native.Nat.{_-_}
 use native.Mathlib.Omega.{arith}
+use lib.ListN.{length}
+use borrow.Author.Tests.{not-true}
 use Rattle.label.specs.Index.{firstFrom}
+use Rattle.label.proofs.BoolLaws.{neither}
 use Rattle.label.proofs.SearchLaws.{search-end, search-hit, search-pass}
 use Rattle.alias.specs.Lines.{entriesBy}
 use Rattle.alias.specs.Table.{firstRepeat, repeatsAt}
-use Rattle.alias.proofs.LookupLaws.{search-start}
+use Rattle.alias.proofs.KeyLaws.{none-met}
+use Rattle.alias.proofs.LookupLaws.{entries-length, search-start}
 use Rattle.alias.proofs.repeats.first.Statement.{statement}
 use Rattle.alias.proofs.repeats.first.Tie as tie
 
 abbrev Inv-loop : tie.InvT-loop
-Inv-loop table starts names others n k₀ k = firstRepeat (entriesBy table starts) ≡ firstFrom (repeatsAt (entriesBy table starts)) k (n - k)
+Inv-loop table starts names others unclear n k₀ k = firstRepeat (entriesBy table starts) ≡ firstFrom (repeatsAt (entriesBy table starts)) k (n - k)
 
 abbrev μ-loop : tie.MeasureT-loop
-μ-loop table starts names others n k₀ k = n - k
+μ-loop table starts names others unclear n k₀ k = n - k
 
 fill-requires : tie.Need-fill-requires Inv-loop μ-loop
 fill-requires c κs = (search needs, search needs)
 
+returns : tie.Need-returns Inv-loop μ-loop
+returns c =
+    let m = c .before in
+    let n = m .before .before .before in
+    let f = n .before in
+    let a = f .before .before .before .before .before .args in
+    let d = neither (f .fill .result) (m .some-met .result) (not-true (f .fill .result || m .some-met .result) (c .if1 .taken)) in
+    none-met (entriesBy (a .table .now) (a .starts .now)) (length (a .starts .now) - 1) (entries-length (a .table .now) (a .starts .now)) (f .fill .ensures .0) (f .fill .ensures .1 (d .0))
+    (rw (n .count .ensures) at (m .some-met .ensures (d .1)))
+
 loop-holds : tie.Need-loop-holds Inv-loop μ-loop
 unfolding firstRepeat
 loop-holds c =
-    let a = c .before .before .before .before .before .before .args in
-    search-start (a .table .now) (a .starts .now) _ (c .count .ensures)
+    let n = c .before .before .before .before in
+    let a = n .before .before .before .before .before .before .args in
+    search-start (a .table .now) (a .starts .now) _ (n .count .ensures)
 
 repeats-requires : tie.Need-repeats-requires Inv-loop μ-loop
-repeats-requires c κs = (search needs, c .before .before .before .before .before .fill .ensures)
+repeats-requires c κs = (search needs, c .before .before .before .before .before .before .before .before .before .fill .ensures .0)
 
-returns : tie.Need-returns Inv-loop μ-loop
-returns c =
+returns-2 : tie.Need-returns-2 Inv-loop μ-loop
+returns-2 c =
     let h = c .before .before .before .before .before in
-    sym (h .loop .inv ∙ search-hit _ (h .loop .k) _ (omega arith) (sym (c .before .repeats .ensures) ∙ c .if1 .taken))
+    sym (h .loop .inv ∙ search-hit _ (h .loop .k) _ (omega arith) (sym (c .before .repeats .ensures) ∙ c .if2 .taken))
 
 loop-again : tie.Need-loop-again Inv-loop μ-loop
 loop-again c =
     let h = c .before .before .before .before .before in
-    h .loop .inv ∙ search-pass _ (h .loop .k) _ (omega arith) (sym (c .before .repeats .ensures) ∙ c .if1 .left)
+    h .loop .inv ∙ search-pass _ (h .loop .k) _ (omega arith) (sym (c .before .repeats .ensures) ∙ c .if2 .left)
 
-returns-2 : tie.Need-returns-2 Inv-loop μ-loop
-returns-2 c = let h = c .before in sym (h .loop .inv ∙ search-end _ (h .loop .k) _ (omega arith))
+returns-3 : tie.Need-returns-3 Inv-loop μ-loop
+returns-3 c = let h = c .before in sym (h .loop .inv ∙ search-end _ (h .loop .k) _ (omega arith))
 
 pub first-spec : {M : Type 1} → statement M
 first-spec =
-    tie.close (tie.spec Inv-loop μ-loop fill-requires (search needs) loop-holds repeats-requires returns (search needs) (search needs) loop-again returns-2)
+    tie.close (tie.spec Inv-loop μ-loop fill-requires (search needs) (search needs) returns loop-holds repeats-requires returns-2 (search needs) (search needs)
+    loop-again returns-3)
