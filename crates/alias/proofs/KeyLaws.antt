@@ -3,7 +3,7 @@ use mathlib.Core.Bool.{Bool, true, false, cond, not, _&&_, _||_, true≢false}
 use mathlib.Core.List.{List, _∷_, _++_}
 use mathlib.Core.Logic.{⊎-elim}
 use mathlib.Core.Option.{none}
-use mathlib.Core.Path.{_≡_, refl, sym, ap, subst, _∙_}
+use mathlib.Core.Path.{_≡_, refl, sym, ap, _∙_}
 use Prim.Native.Nat.{ℕ, _+_, _%_, _≤_, _<_}
 use native.Mathlib.Nat.{add-zero, eq-or-lt-of-le, zero-add}
 use native.Mathlib.Numerals.{add-one}
@@ -244,10 +244,6 @@ pub record Marking (names others : List ℕ) (n : ℕ) (marked : List ℕ) (k : 
   pub upto : k ≤ n
   pub keys : Marked names others k marked
   pub clear : NoneMet names others k
-
--- one more number at which something is so
-pub below-next : {P : ℕ → Type 0} {k : ℕ} → ((j : ℕ) → j < k → P j) → P k → (j : ℕ) → j < k + 1 → P j
-below-next {P} {k} h p j l = ⊎-elim (λ u. subst P (sym u) p) (λ u. h j u) (eq-or-lt-of-le (omega arith))
 
 -- ---- where the keys leave nothing open, no entry repeats a name
 

@@ -2,22 +2,35 @@
 use mathlib.Core.Bool.{Bool, true, false, cond}
 use mathlib.Core.List.{List, [], _∷_, flatten}
 use mathlib.Core.Logic.{⊎-elim}
-use mathlib.Core.Path.{_≡_, refl, sym, ap, _∙_}
+use mathlib.Core.Path.{_≡_, refl, sym, ap, ap₂, _∙_}
 use Prim.Native.Nat.{ℕ, zero, suc, _+_, _-_, _≤_, _<_, min}
 use native.Mathlib.Nat.{add-zero}
 use native.Mathlib.Numerals.{add-one}
 use native.Mathlib.Omega.{arith}
 use lib.Dec.{eqb}
-use lib.ListN.{drop, getD, length, replicate, set, take, drop-of-length-le, length-drop, length-set, length-take}
+use lib.ListN.{drop, getD, length, replicate, set, take, drop-of-length-le, length-drop, length-set, length-take, take-append-drop}
 use lib.Seq.{drop-drop, getD-drop, getD-set-other, getD-set-same, getD-take, length-take-le, take-length}
 use borrow.Author.Tests.{le-leb, lt-leb}
 use Rattle.label.proofs.IndexLaws.{le-or-lt, tabulate-at, tabulate-is, tabulate-length, tabulate-one}
 use Rattle.label.proofs.SearchLaws.{same-or-not}
 use Rattle.octets.specs.Bytes.{indexOf, lf}
+use Rattle.octets.proofs.ByteLaws.{index-append}
 use Rattle.alias.specs.Lines.{bytesBefore, indexedOf, lineAt, linesBy, linesOf, maxLines, partAt, startFirst, startOf}
 use Rattle.alias.specs.Walk.{firstLength, lineEnd}
 
 -- ---- the first line, and the rest
+
+-- where n bytes from index i on have no LF, the first one is later
+pub lf-later : (xs : List ℕ) (i n : ℕ) {m : ℕ} → m ≡ n → i + n ≤ length xs → indexOf lf (take m (drop i xs)) ≡ length (take m (drop i xs)) → indexOf lf xs ≡ i + indexOf lf (drop i xs)
+    → indexOf lf xs ≡ i + n + indexOf lf (drop (i + n) xs)
+lf-later xs i n r h chunk e =
+    let d = drop i xs in
+    let l = length-drop i xs in
+    let none : indexOf lf (take n d) ≡ length (take n d) = rw r at chunk in
+    let m : length (take n d) ≡ n = length-take-le n d (omega arith) in
+    let s : indexOf lf d ≡ n + indexOf lf (drop (i + n) xs) =
+    ap (indexOf lf) (sym (take-append-drop n d)) ∙ index-append lf (take n d) (drop n d) none ∙ ap₂ _+_ m (ap (indexOf lf) (drop-drop n i xs)) in
+    omega arith
 
 first-length-none : firstLength [] ≡ 0
 unfolding firstLength indexOf

@@ -9,7 +9,7 @@ use native.Mathlib.Omega.{arith}
 use denote.Enum.Declared.{tagOf}
 use lib.Dec.{leb}
 use lib.ListN.{drop, getD, length, length-map, List·getD-eq-default}
-use Rattle.label.specs.Index.{firstFrom}
+use Rattle.label.specs.Index.{firstFrom, lastBelow}
 use Rattle.label.specs.declared.Label.{Label}
 use Rattle.label.proofs.IndexLaws.{tabulate-at, tabulate-length}
 use Rattle.label.proofs.SearchLaws.{search-hit, search-pass}
@@ -125,6 +125,12 @@ module _ (bytes starts : List ℕ) where
   -- a search of the entries begins with all of them
   pub search-start : (f : ℕ → Bool) {n : ℕ} → n ≡ length starts - 1 → firstFrom f 0 (length (entriesBy bytes starts)) ≡ firstFrom f 0 (n - 0)
   search-start f {n} e = rw (entries-length, ← e, sub-zero)
+
+-- a search from the back at entry k: it ends there, or goes on
+pub last-step : (f : ℕ → Bool) (k : ℕ) (b : Bool) → f k ≡ b → lastBelow f (suc k) ≡ cond b (some k) (lastBelow f k)
+unfolding lastBelow
+last-step f k true e = rw e
+last-step f k false e = rw e
 
 -- ---- the tests of the searches
 

@@ -4,8 +4,10 @@ use crate::MAX_LINES;
 use crate::MAX_STARTS;
 use octets::LF;
 ghost use mathlib.Core.Path.{_≡_};
-ghost use Prim.Native.Nat.{_<_};
-ghost use lib.ListN.{length};
+ghost use mathlib.Core.Bool.{false};
+ghost use Prim.Native.Nat.{_+_, _<_, _≤_};
+ghost use lib.ListN.{drop, length};
+ghost use Rattle.octets.specs.Bytes.{indexOf, lf};
 ghost use Rattle.alias.specs.Walk.{Walks, faultyOf, lineEnd};
 
 // The lines of a table before the first that is bad by itself, and whether there is one.
@@ -14,13 +16,44 @@ pub(crate) struct Walked {
     pub stopped: bool,
 }
 
+// How many bytes are tested together.
+const CHUNK: usize = 16;
+
+// Whether there is an LF among some bytes. The loop has no early exit, so that it can take all of them at a time.
+fn has_lf(bytes: &[u8]) -> bool
+    ensures { λ r. ⌜ (r ≡ false → indexOf lf (now (bytes .entry)) ≡ length (now (bytes .entry))) ⌝ }
+{
+    let mut met = false;
+    let mut i = 0;
+    while i < bytes.len() {
+        met = met | (bytes[i] == LF);
+        i += 1;
+    }
+    met
+}
+
+// An index before which there is no LF, and from which on there are fewer than CHUNK bytes, or one among the next CHUNK.
+fn skip_chunks(bytes: &[u8]) -> usize
+    ensures { λ r. ⌜ (r ≤ length (now (bytes .entry))) × (indexOf lf (now (bytes .entry)) ≡ r + indexOf lf (drop r (now (bytes .entry)))) ⌝ }
+{
+    let mut i = 0;
+    while i + CHUNK <= bytes.len() {
+        if has_lf(&bytes[i..i + CHUNK]) {
+            return i;
+        }
+        i += CHUNK;
+    }
+    i
+}
+
 // Past the LF of the line that begins at an index, or the end of the table where it does not end.
 fn line_end(table: &[u8], at: usize) -> usize
     requires { ⌜ at < length (now table) ⌝ }
     ensures { λ r. ⌜ r ≡ lineEnd (now (table .entry)) at ⌝ }
 {
     let rest = octets::rest(table, at);
-    let n = octets::index_of(LF, rest);
+    let i = skip_chunks(rest);
+    let n = i + octets::index_of(LF, octets::rest(rest, i));
     if n < rest.len() {
         return at + n + 1;
     }

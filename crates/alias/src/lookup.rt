@@ -89,19 +89,13 @@ pub fn last(table: &[u8], starts: &[usize], v: Value, l: Label) -> Found
     ensures { λ r. ⌜ foundOf r ≡ lastOf (entriesBy (now (table .entry)) (now (starts .entry))) v l ⌝ }
 {
     let n = count(starts);
-    let mut found = Found::Nothing;
-    let mut from = 0;
-    while from < n {
-        let r = next(table, starts, v, l, from);
-        match r {
-            Found::At(k) => {
-                found = r;
-                from = k + 1;
-            }
-            Found::Nothing => {
-                from = n;
-            }
+    let mut i = 0;
+    while i < n {
+        let k = n - 1 - i;
+        if stands_for(line(table, starts, k), v, l) {
+            return Found::At(k);
         }
+        i += 1;
     }
-    found
+    Found::Nothing
 }

@@ -3,12 +3,13 @@ use mathlib.Core.Bool.{false}
 use mathlib.Core.Path.{_≡_, refl, sym, _∙_}
 use Prim.Native.Nat.{_-_}
 use native.Mathlib.Omega.{arith}
+use borrow.Author.Count.{below-more}
 use Rattle.hexline.specs.Entry.{nameBytes}
 use Rattle.label.proofs.BoolLaws.{neither}
 use Rattle.label.proofs.IndexLaws.{fill-next, fill-none}
 use Rattle.alias.specs.Keys.{NoneWithin, keyOf, otherBytes, repeatsWithin}
 use Rattle.alias.specs.Lines.{entriesBy}
-use Rattle.alias.proofs.KeyLaws.{Filling, below-next, fill-done}
+use Rattle.alias.proofs.KeyLaws.{Filling, fill-done}
 use Rattle.alias.proofs.LookupLaws.{entry-test}
 use Rattle.alias.proofs.keys.fill.Statement.{statement}
 use Rattle.alias.proofs.keys.fill.Tie as tie
@@ -52,7 +53,7 @@ loop-again c =
         other = fill-next (v .other) (omega arith) (sym (entry-test (a .table .now) (a .starts .now) (λ e. keyOf (otherBytes e)) k (omega arith) (l .line .ensures) (keys .1)));
       },
       λ e. let d = neither (h .loop .unclear) (s .line-keys .result .unclear) e in
-          below-next (h .loop .inv .1 (d .0)) (entry-test (a .table .now) (a .starts .now) repeatsWithin k (omega arith) (l .line .ensures) refl ∙ s .line-keys .ensures .1 (d .1)),
+          below-more _ _ (h .loop .inv .1 (d .0)) (entry-test (a .table .now) (a .starts .now) repeatsWithin k (omega arith) (l .line .ensures) refl ∙ s .line-keys .ensures .1 (d .1)),
     )
 
 returns : tie.Need-returns Inv-loop μ-loop

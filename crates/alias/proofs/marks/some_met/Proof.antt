@@ -3,7 +3,8 @@ use mathlib.Core.Bool.{true≢false}
 use mathlib.Core.Path.{sym, _∙_}
 use Prim.Native.Nat.{_-_}
 use native.Mathlib.Omega.{arith}
-use Rattle.alias.proofs.KeyLaws.{Marking, below-next, marked-next, marked-none}
+use borrow.Author.Count.{below-more}
+use Rattle.alias.proofs.KeyLaws.{Marking, marked-next, marked-none}
 use Rattle.alias.proofs.marks.some_met.Statement.{statement}
 use Rattle.alias.proofs.marks.some_met.Tie as tie
 
@@ -35,7 +36,7 @@ loop-again c =
     record {
       upto = omega arith;
       keys = marked-next (v .keys) (a .mark-of .ensures) (c .mark-of2 .ensures);
-      clear = below-next (v .clear) (sym (e .before .met .ensures) ∙ e .if2 .left);
+      clear = below-more _ _ (v .clear) (sym (e .before .met .ensures) ∙ e .if2 .left);
     }
 
 returns-3 : tie.Need-returns-3 Inv-loop μ-loop
