@@ -1,6 +1,6 @@
 -- The laws of the keys of names: names that are the same have the same key. Assumes nothing.
 use mathlib.Core.Bool.{Bool, true, false, cond, not, _&&_, _||_, true≢false}
-use mathlib.Core.List.{List, _∷_, _++_}
+use mathlib.Core.List.{List, _∷_}
 use mathlib.Core.Logic.{⊎-elim}
 use mathlib.Core.Option.{none}
 use mathlib.Core.Path.{_≡_, refl, sym, ap, _∙_}
@@ -10,21 +10,18 @@ use native.Mathlib.Numerals.{add-one}
 use native.Mathlib.Omega.{arith}
 use lib.Dec.{eqb, leb}
 use lib.ListN.{drop, getD, length, set, take, drop-of-length-le, length-set}
-use lib.Seq.{drop-cons, getD-set-other, getD-set-same, getD-take, length-take-le, take-at}
+use lib.Seq.{drop-cons, getD-set-other, getD-set-same, getD-take}
+use borrow.Author.Count.{below-more}
 use borrow.Author.Tests.{eq-eqb, eqb-true, le-leb, leb-false, lt-leb}
 use Rattle.label.specs.Index.{any, every, firstFrom, tabulate}
 use Rattle.label.proofs.BoolLaws.{both, either, first-true, neither, not-so, or-first, or-second, second-true}
-use Rattle.label.proofs.IndexLaws.{Filled, every-all, tabulate-at}
+use Rattle.label.proofs.IndexLaws.{Filled, every-all, fill-next, fill-none, tabulate-at, tabulate-is, tabulate-length}
 use Rattle.label.proofs.SearchLaws.{none-of, pass, same-or-not}
 use Rattle.octets.specs.Bytes.{sameBytes}
 use Rattle.octets.proofs.ByteLaws.{same-is}
-use Rattle.frame.specs.Frame.{bodyFrom, bodyOf}
-use Rattle.hexline.specs.Entry.{abbreviationBytes, nameBytes, spanBytes}
-use Rattle.hexline.specs.Line.{abbreviationIn, nameIn, standingIn}
+use Rattle.hexline.specs.Entry.{abbreviationBytes, nameBytes}
 use Rattle.hexline.specs.declared.entry.Entry.{Entry}
-use Rattle.hexline.specs.declared.entry.Span.{Span}
-use Rattle.hexline.proofs.StandingLaws.{abbreviation-stands, name-stands, span-length}
-use Rattle.alias.specs.Keys.{IsMarked, Keys, Marked, NoneMet, NoneWithin, halfOf, keyFrom, keyOf, keyed, marks, meet, meetAt, metBefore, nameKey, nextKey, otherBytes, otherKey, repeatsWithin}
+use Rattle.alias.specs.Keys.{IsMarked, Keys, KeysKept, KeysOf, Marked, NoneMet, NoneWithin, halfOf, keyFrom, keyOf, keyed, marks, meet, meetAt, metBefore, nameKey, nextKey, otherBytes, otherKey, repeatsWithin}
 use Rattle.alias.specs.Lines.{entryAt, maxLines}
 use Rattle.alias.specs.Lookup.{calledOf}
 use Rattle.alias.specs.Table.{firstRepeat, repeatsAt, sharesOf}
@@ -52,48 +49,11 @@ module _ (xs : List ℕ) where
   unfolding keyFrom
   key-end {key} {i} h l = sym (h .rest ∙ ap (λ (ys : List ℕ). halfOf (keyFrom key ys)) (drop-of-length-le xs l))
 
--- the bytes at a span, copied to the front of a buffer
-pub span-copied : (line out copied rest : List ℕ) (s : Span) → s .length ≤ length out → copied ≡ bodyFrom line (s .at) (length (take (s .length) out))
-    → take (s .length) (copied ++ rest) ≡ spanBytes (bodyOf line) s
-unfolding bodyFrom spanBytes
-span-copied line out copied rest s h e =
-    ap (λ (t : List ℕ). take (s .length) (t ++ rest)) (e ∙ ap (bodyFrom line (s .at)) (length-take-le (s .length) out h))
-    ∙ take-at (spanBytes (bodyOf line) s) rest (s .length) (span-length (bodyOf line) s)
-
 -- ---- an entry's other name
 
 abbreviated : (e : Entry) → leb 1 (length (abbreviationBytes e)) ≡ true → otherBytes e ≡ abbreviationBytes e
 unfolding otherBytes
 abbreviated e h = rw h
-
-not-abbreviated : (e : Entry) → leb 1 (length (abbreviationBytes e)) ≡ false → otherBytes e ≡ nameBytes e
-unfolding otherBytes
-not-abbreviated e h = rw h
-
--- in a line, by the span of the name,
-pub name-size : (line : List ℕ) {a : Span} → a ≡ nameIn line → a .length ≡ length (nameBytes (standingIn line))
-name-size line {a} e = ap (λ (s : Span). s .length) e ∙ sym (ap length (name-stands line) ∙ span-length (bodyOf line) (nameIn line))
-
--- and of the abbreviation
-module _ (line : List ℕ) {a : Span} (e : a ≡ abbreviationIn line) where
-  stands : abbreviationBytes (standingIn line) ≡ spanBytes (bodyOf line) a
-  stands = rw e (abbreviation-stands line)
-
-  long : length (abbreviationBytes (standingIn line)) ≡ a .length
-  long = ap length stands ∙ span-length (bodyOf line) a
-
-  pub abbreviation-size : a .length ≡ length (abbreviationBytes (standingIn line))
-  abbreviation-size = sym long
-
-  pub other-is-abbreviation : 1 ≤ a .length → spanBytes (bodyOf line) a ≡ otherBytes (standingIn line)
-  other-is-abbreviation h =
-      let l : 1 ≤ length (abbreviationBytes (standingIn line)) = omega (arith, long) in
-      sym (abbreviated (standingIn line) (le-leb 1 _ l) ∙ stands)
-
-  pub other-is-name : a .length < 1 → nameBytes (standingIn line) ≡ otherBytes (standingIn line)
-  other-is-name h =
-      let l : length (abbreviationBytes (standingIn line)) < 1 = omega (arith, long) in
-      sym (not-abbreviated (standingIn line) (lt-leb 1 _ l))
 
 -- ---- entries that have a name in common have a key in common
 
@@ -118,19 +78,34 @@ shared-keys e f h =
     (λ u. or-second (eqb (keyOf (nameBytes e)) (keyOf (nameBytes f)) || eqb (keyOf (otherBytes e)) (keyOf (nameBytes f))) (called-keys e (otherBytes f) (rw (abbreviated f (first-true p q u)) (second-true p q u))))
     (either (calledOf e (nameBytes f)) (p && q) h)
 
--- an entry that has its name as its abbreviation too, by their lengths and its keys
-pub within-keys : (e : Entry) {m n x y : ℕ} → m ≡ length (nameBytes e) → n ≡ length (abbreviationBytes e) → x ≡ keyOf (nameBytes e) → y ≡ keyOf (otherBytes e)
-    → (eqb m n && eqb x y) ≡ false → repeatsWithin e ≡ false
-unfolding otherBytes
-within-keys e {m} {n} {x} {y} p q f g h = not-so (repeatsWithin e) (λ s. true≢false (sym (opens (same-is (nameBytes e) (abbreviationBytes e) s)) ∙ h))
-  where
-    other : nameBytes e ≡ abbreviationBytes e → (b : Bool) → cond b (abbreviationBytes e) (nameBytes e) ≡ nameBytes e
-    other s true = sym s
-    other s false = refl
+-- ---- the keys of an entry by its texts
 
-    opens : nameBytes e ≡ abbreviationBytes e → (eqb m n && eqb x y) ≡ true
-    opens s =
-        both (eq-eqb m n (p ∙ ap length s ∙ sym q)) (eq-eqb x y (f ∙ ap keyOf (sym (other s (leb 1 (length (abbreviationBytes e))))) ∙ sym g))
+module _ (e : Entry) {n a : List ℕ} (p : n ≡ nameBytes e) (q : a ≡ abbreviationBytes e) where
+  other-by : (b : Bool) → keyOf (cond b (abbreviationBytes e) (nameBytes e)) ≡ cond b (keyOf a) (keyOf n)
+  other-by true = ap keyOf (sym q)
+  other-by false = ap keyOf (sym p)
+
+  pub keys-of : {name other : ℕ} {unclear : Bool} → name ≡ keyOf n → other ≡ cond (leb 1 (length a)) (keyOf a) name → unclear ≡ (eqb (length n) (length a) && eqb name other)
+      → KeysOf e name other unclear
+  unfolding otherBytes
+  keys-of {name} {other} {unclear} f g h =
+      record {
+        name-is = f ∙ ap keyOf p;
+        other-is = other-is;
+        within = λ u. not-so (repeatsWithin e) (λ s. true≢false (sym (opens (same-is (nameBytes e) (abbreviationBytes e) s)) ∙ sym h ∙ u));
+      }
+    where
+      other-is : other ≡ keyOf (otherBytes e)
+      other-is = g ∙ ap (λ (k : ℕ). cond (leb 1 (length a)) (keyOf a) k) f ∙ sym (other-by (leb 1 (length a))) ∙ ap (λ (xs : List ℕ). keyOf (cond (leb 1 (length xs)) (abbreviationBytes e) (nameBytes e))) q
+
+      same : nameBytes e ≡ abbreviationBytes e → (b : Bool) → cond b (abbreviationBytes e) (nameBytes e) ≡ nameBytes e
+      same s true = sym s
+      same s false = refl
+
+      opens : nameBytes e ≡ abbreviationBytes e → (eqb (length n) (length a) && eqb name other) ≡ true
+      opens s =
+          both (eq-eqb (length n) (length a) (ap length (p ∙ s ∙ sym q)))
+          (eq-eqb name other (f ∙ ap keyOf (p ∙ sym (same s (leb 1 (length (abbreviationBytes e))))) ∙ sym other-is))
 
 -- ---- a loop that asks whether f holds at some number
 
@@ -153,17 +128,41 @@ module _ (f : ℕ → Bool) where
 
 -- ---- the lists of keys
 
--- a loop that fills them has those of the first k of n entries
-pub record Filling (es : List Entry) (n : ℕ) (names others : List ℕ) (k : ℕ) : Type 0 where
-  pub upto : k ≤ n
+-- a loop that keeps the keys of entries has those of the first k
+pub record Keeping (es : List Entry) (names others : List ℕ) (unclear : Bool) (k : ℕ) : Type 0 where
   pub name : Filled (nameKey es) maxLines names k
   pub other : Filled (otherKey es) maxLines others k
+  pub within : unclear ≡ false → NoneWithin es k
 
-pub fill-done : {es : List Entry} {n : ℕ} {names others : List ℕ} {k : ℕ} → Filling es n names others k → n ≤ k → Keys es n names others
-fill-done {es} {n} {names} {others} {k} h l =
-    let u = h .upto in
-    let e : k ≡ n = omega arith in
-    record { name = rw e at (h .name .front); other = rw e at (h .other .front) }
+pub keep-start : (es : List Entry) (names others : List ℕ) → length names ≡ maxLines → length others ≡ maxLines → Keeping es names others false 0
+keep-start es names others e f = record { name = fill-none e; other = fill-none f; within = λ u k l. absurd (omega arith) }
+
+pub keep-next : {es : List Entry} {names others : List ℕ} {unclear : Bool} {k x y : ℕ} {v : Bool} → Keeping es names others unclear k → k < maxLines
+    → KeysOf (entryAt es k) x y v → Keeping es (set names k x) (set others k y) (unclear || v) (k + 1)
+keep-next {unclear = unclear} {v = v} h l e =
+    record {
+      name = fill-next (h .name) l (e .name-is);
+      other = fill-next (h .other) l (e .other-is);
+      within = λ u. let d = neither unclear v u in below-more _ _ (h .within (d .0)) (e .within (d .1));
+    }
+
+pub keep-end : {es : List Entry} {names others : List ℕ} {unclear : Bool} {k : ℕ} → Keeping es names others unclear k → KeysKept es k names others unclear
+keep-end h = record { keys = record { name = h .name .front; other = h .other .front }; within = h .within }
+
+-- they are those of other entries that are the same up to there
+keys-same : (f g : ℕ → ℕ) (n : ℕ) → ((k : ℕ) → k < n → f k ≡ g k) → tabulate f n ≡ tabulate g n
+keys-same f g n h = tabulate-is g (tabulate f n) n 0 (tabulate-length f n) (λ k l. tabulate-at f n k 0 l ∙ h k l)
+
+pub kept-same : (es fs : List Entry) (n : ℕ) {names others : List ℕ} {unclear : Bool} → ((k : ℕ) → k < n → entryAt es k ≡ entryAt fs k) → KeysKept es n names others unclear
+    → KeysKept fs n names others unclear
+kept-same es fs n h x =
+    record {
+      keys = record {
+        name = x .keys .name ∙ keys-same (nameKey es) (nameKey fs) n (λ k l. ap (λ (e : Entry). keyOf (nameBytes e)) (h k l));
+        other = x .keys .other ∙ keys-same (otherKey es) (otherKey fs) n (λ k l. ap (λ (e : Entry). keyOf (otherBytes e)) (h k l));
+      };
+      within = λ u k l. ap repeatsWithin (sym (h k l)) ∙ x .within u k l;
+    }
 
 -- a key in a list of keys
 key-at : (f : ℕ → ℕ) (n k : ℕ) (xs : List ℕ) → take n xs ≡ tabulate f n → k < n → getD xs k 0 ≡ f k
@@ -251,11 +250,11 @@ met-small : (names others : List ℕ) (k : ℕ) → metBefore names others k ≡
 unfolding metBefore
 met-small names others k e = leb-false maxLines k (neither (leb maxLines k) _ e .0)
 
-pub none-met : (es : List Entry) (n : ℕ) {names others : List ℕ} → length es ≡ n → Keys es (keyed n) names others → NoneWithin es (keyed n) → NoneMet names others n
+pub none-met : (es : List Entry) (n : ℕ) {names others : List ℕ} {unclear : Bool} → length es ≡ n → KeysKept es (keyed n) names others unclear → unclear ≡ false → NoneMet names others n
     → none ≡ firstRepeat es
 unfolding firstRepeat repeatsAt firstFrom
-none-met es n {names} {others} e h w m =
+none-met es n {names} {others} e h u m =
     sym (ap (firstFrom (repeatsAt es) 0) e ∙ ap (firstFrom (repeatsAt es) 0) (sym (add-zero n)) ∙ pass (repeatsAt es) 0 n 0 (λ j l. ap (repeatsAt es) (zero-add j) ∙ clear j l))
   where
     clear : (k : ℕ) → k < n → repeatsAt es k ≡ false
-    clear k l = let f = met-small names others k (m k l) in rw (w k (omega arith)) (not-met n h k l (m k l))
+    clear k l = let f = met-small names others k (m k l) in rw (h .within u k (omega arith)) (not-met n (h .keys) k l (m k l))

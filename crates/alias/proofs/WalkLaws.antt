@@ -7,7 +7,7 @@ use Prim.Native.Nat.{ℕ, _+_, _-_, _≤_, _<_}
 use native.Mathlib.Nat.{zero-add}
 use native.Mathlib.Omega.{arith}
 use lib.ListN.{drop, length, replicate, set, take, length-take, take-append-drop, List·getD-append}
-use lib.Seq.{length-take-le, take-all}
+use lib.Seq.{getD-take, length-take-le, take-all}
 use borrow.Author.Count.{below-more}
 use Rattle.label.specs.Answer.{granted, refused}
 use Rattle.label.specs.Index.{firstFrom}
@@ -16,12 +16,14 @@ use Rattle.octets.specs.Bytes.{sameBytes}
 use Rattle.hexline.specs.Entry.{abbreviationBytes, nameBytes, zeroEntry}
 use Rattle.hexline.specs.Line.{standingIn}
 use Rattle.hexline.specs.declared.entry.Entry.{Entry}
+use Rattle.alias.specs.Keys.{KeysKept, keyed}
 use Rattle.alias.specs.Lines.{bytesBefore, entriesBy, entriesOf, entryAt, indexedOf, linesBy, linesOf, maxLines}
 use Rattle.alias.specs.Table.{badAt, checkOf, firstRepeat, judgedOf, repeatsAt, sharesOf}
-use Rattle.alias.specs.Walk.{Walks, faultyAt, faultyOf}
+use Rattle.alias.specs.Walk.{Walks, faultyAt, faultyOf, linesFrom}
 use Rattle.alias.specs.declared.LineStarts.{LineStarts}
-use Rattle.alias.specs.declared.lines.Walked.{Walked}
 use Rattle.alias.proofs.LinesLaws.{LineHere, first-lines-by-starts, lines-end, starts-next, starts-none}
+use Rattle.alias.proofs.KeyLaws.{kept-same}
+use Rattle.alias.proofs.LookupLaws.{entry-of, lines-length}
 use Rattle.alias.proofs.TableLaws.{entries-length, faulty-bad, faulty-few, good-few, judged-cut-off, judged-faulty, judged-longer, judged-whole}
 
 -- ---- the walk: at is where line count begins, and none of the lines before it is bad by itself
@@ -60,12 +62,12 @@ module _ {bytes starts : List ℕ} {count at : ℕ} (s : Walking bytes starts co
         }
 
     pub walk-stops : (more : Bool) → faultyOf count (take (next - at) (drop at bytes)) ≡ true
-        → Walks more bytes (record { lines = record { count = count; starts = starts }; stopped = true })
+        → Walks more bytes (linesFrom count starts) true
     walk-stops more e =
         let b = h .below in
         let j = judged-longer more bytes in
         record {
-          lines = lines-held;
+          lines-are = lines-held;
           good = still-good more;
           first = λ t. (omega arith, judged-faulty more bytes count b ∙ told true e);
           all = λ t. absurd (true≢false t);
@@ -74,19 +76,19 @@ module _ {bytes starts : List ℕ} {count at : ℕ} (s : Walking bytes starts co
   ended : length bytes ≤ at → count ≡ length (linesOf bytes)
   ended l = let c = s .counted in let e = lines-end bytes count at (s .begins) l in omega arith
 
-  pub walk-ends : (more : Bool) → length bytes ≤ at → Walks more bytes (record { lines = record { count = count; starts = starts }; stopped = more })
+  pub walk-ends : (more : Bool) → length bytes ≤ at → Walks more bytes (linesFrom count starts) more
   walk-ends true l =
       let e = ended l in
       let j = judged-cut-off bytes in
       record {
-        lines = lines-held;
+        lines-are = lines-held;
         good = still-good true;
         first = λ t. (omega arith, ap (faultyAt (judgedOf true bytes)) e ∙ j .1);
         all = λ t. absurd (true≢false t);
       }
   walk-ends false l =
       record {
-        lines = lines-held;
+        lines-are = lines-held;
         good = still-good false;
         first = λ t. absurd (true≢false (sym t));
         all = λ t. ended l ∙ sym (ap length (judged-whole bytes));
@@ -117,37 +119,51 @@ judged-repeats more bytes n k h =
 abbrev pub startsTo : LineStarts → List ℕ
 startsTo l = take (l .count + 1) (l .starts)
 
-module _ {more : Bool} {bytes : List ℕ} {w : Walked} (x : Walks more bytes w) where
-  count-is : w .lines .count ≡ length (take (w .lines .count) (linesOf bytes))
-  count-is = ap (λ (y : LineStarts). y .count) (x .lines)
+module _ {more : Bool} {bytes : List ℕ} {lines : LineStarts} {stopped : Bool} (x : Walks more bytes lines stopped) where
+  count-is : lines .count ≡ length (take (lines .count) (linesOf bytes))
+  count-is = ap (λ (y : LineStarts). y .count) (x .lines-are)
 
-  within : w .lines .count ≤ length (linesOf bytes)
-  within = let c = count-is in let t = length-take (w .lines .count) (linesOf bytes) in omega arith
+  within : lines .count ≤ length (linesOf bytes)
+  within = let c = count-is in let t = length-take (lines .count) (linesOf bytes) in omega arith
 
-  walk-few : w .lines .count ≤ maxLines
-  walk-few = good-few (judgedOf more bytes) (w .lines .count) (x .good)
+  walk-few : lines .count ≤ maxLines
+  walk-few = good-few (judgedOf more bytes) (lines .count) (x .good)
 
-  lines-back : linesBy bytes (startsTo (w .lines)) ≡ take (w .lines .count) (linesOf bytes)
+  lines-back : linesBy bytes (startsTo lines) ≡ take (lines .count) (linesOf bytes)
   lines-back =
-      let n = w .lines .count in
+      let n = lines .count in
       let c = count-is in
       let f = walk-few in
-      ap (λ (xs : List ℕ). linesBy bytes (take (n + 1) xs)) (ap (λ (y : LineStarts). y .starts) (x .lines))
+      ap (λ (xs : List ℕ). linesBy bytes (take (n + 1) xs)) (ap (λ (y : LineStarts). y .starts) (x .lines-are))
       ∙ ap (λ (m : ℕ). linesBy bytes (take (m + 1) (indexedOf (take n (linesOf bytes)) .starts))) c
       ∙ first-lines-by-starts bytes n (omega arith)
 
-  repeats : firstFrom (repeatsAt (entriesOf (judgedOf more bytes))) 0 (w .lines .count) ≡ firstRepeat (entriesBy bytes (startsTo (w .lines)))
+  -- the keys that are kept of the lines of the table are those of the lines of the walk
+  pub walk-keys : {names others : List ℕ} {unclear : Bool} → KeysKept (entriesOf (linesOf bytes)) (lines .count) names others unclear
+      → KeysKept (entriesBy bytes (startsTo lines)) (keyed (length (startsTo lines) - 1)) names others unclear
+  walk-keys k =
+      let n = lines .count in
+      let ls = linesOf bytes in
+      let c = count-is in
+      let w = within in
+      let l = lines-length bytes (startsTo lines) in
+      let m : keyed (length (startsTo lines) - 1) ≡ n = omega (arith, walk-few, l, ap length lines-back) in
+      rw (m, lines-back)
+      (kept-same (entriesOf ls) (entriesOf (take n ls)) n
+      (λ j h. entry-of ls j (omega arith) ∙ ap standingIn (sym (getD-take n ls j [] h)) ∙ sym (entry-of (take n ls) j (omega arith))) k)
+
+  repeats : firstFrom (repeatsAt (entriesOf (judgedOf more bytes))) 0 (lines .count) ≡ firstRepeat (entriesBy bytes (startsTo lines))
   unfolding firstRepeat
   repeats =
       let c = count-is in
-      rw (lines-back, entries-length, ← c) (first-same _ _ 0 (w .lines .count) (λ j a b. judged-repeats more bytes (w .lines .count) j (omega arith)))
+      rw (lines-back, entries-length, ← c) (first-same _ _ 0 (lines .count) (λ j a b. judged-repeats more bytes (lines .count) j (omega arith)))
 
   first-bad : firstFrom (badAt (judgedOf more bytes)) 0 (length (judgedOf more bytes))
-      ≡ orElse (firstRepeat (entriesBy bytes (startsTo (w .lines)))) (firstFrom (badAt (judgedOf more bytes)) (w .lines .count) (length (judgedOf more bytes) - w .lines .count))
+      ≡ orElse (firstRepeat (entriesBy bytes (startsTo lines))) (firstFrom (badAt (judgedOf more bytes)) (lines .count) (length (judgedOf more bytes) - lines .count))
   unfolding badAt faultyOf
   first-bad =
       let ls = judgedOf more bytes in
-      let n = w .lines .count in
+      let n = lines .count in
       let i = within in
       let j = judged-longer more bytes in
       let r : length ls ≡ n + (length ls - n) = omega arith in
@@ -155,21 +171,21 @@ module _ {more : Bool} {bytes : List ℕ} {w : Walked} (x : Walks more bytes w) 
       ∙ first-either (faultyAt ls) (repeatsAt (entriesOf ls)) 0 n (length ls - n) (λ j a b. x .good j (omega arith))
       ∙ rw (zero-add, repeats)
 
-  pub check-repeat : {k : ℕ} → some k ≡ firstRepeat (entriesBy bytes (startsTo (w .lines))) → checkOf more bytes ≡ refused 22 (some k)
+  pub check-repeat : {k : ℕ} → some k ≡ firstRepeat (entriesBy bytes (startsTo lines)) → checkOf more bytes ≡ refused 22 (some k)
   unfolding checkOf
   check-repeat {k} e = rw (first-bad, ← e)
 
-  pub check-stopped : w .stopped ≡ true → none ≡ firstRepeat (entriesBy bytes (startsTo (w .lines))) → checkOf more bytes ≡ refused 22 (some (w .lines .count))
+  pub check-stopped : stopped ≡ true → none ≡ firstRepeat (entriesBy bytes (startsTo lines)) → checkOf more bytes ≡ refused 22 (some (lines .count))
   unfolding checkOf
   check-stopped t e =
       let ls = judgedOf more bytes in
       let f = x .first t in
-      rw (first-bad, ← e, search-hit (badAt ls) (w .lines .count) (length ls) (f .0) (faulty-bad ls (w .lines .count) (f .1)))
+      rw (first-bad, ← e, search-hit (badAt ls) (lines .count) (length ls) (f .0) (faulty-bad ls (lines .count) (f .1)))
 
-  pub check-granted : w .stopped ≡ false → none ≡ firstRepeat (entriesBy bytes (startsTo (w .lines))) → checkOf more bytes ≡ granted (w .lines)
+  pub check-granted : stopped ≡ false → none ≡ firstRepeat (entriesBy bytes (startsTo lines)) → checkOf more bytes ≡ granted lines
   unfolding checkOf
   check-granted t e =
       let a = x .all t in
       let j = judged-longer more bytes in
-      rw (first-bad, ← e, search-end (badAt (judgedOf more bytes)) (w .lines .count) (length (judgedOf more bytes)) (omega arith))
-      (ap granted (ap indexedOf (sym (take-all (w .lines .count) (linesOf bytes) (omega arith))) ∙ sym (x .lines)))
+      rw (first-bad, ← e, search-end (badAt (judgedOf more bytes)) (lines .count) (length (judgedOf more bytes)) (omega arith))
+      (ap granted (ap indexedOf (sym (take-all (lines .count) (linesOf bytes) (omega arith))) ∙ sym (x .lines-are)))

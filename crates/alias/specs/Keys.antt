@@ -54,6 +54,17 @@ repeatsWithin e = sameBytes (nameBytes e) (abbreviationBytes e)
 abbrev pub NoneWithin : List Entry → ℕ → Type 0
 NoneWithin es n = (k : ℕ) → k < n → repeatsWithin (entryAt es k) ≡ false
 
+-- the keys of an entry's names, and whether its name may be its abbreviation too
+pub record KeysOf (e : Entry) (name other : ℕ) (unclear : Bool) : Type 0 where
+  pub name-is : name ≡ keyOf (nameBytes e)
+  pub other-is : other ≡ keyOf (otherBytes e)
+  pub within : unclear ≡ false → repeatsWithin e ≡ false
+
+-- the same of the first n entries
+pub record KeysKept (es : List Entry) (n : ℕ) (names others : List ℕ) (unclear : Bool) : Type 0 where
+  pub keys : Keys es n names others
+  pub within : unclear ≡ false → NoneWithin es n
+
 -- whether one of a and b is one of c and d
 abbrev pub meet : ℕ → ℕ → ℕ → ℕ → Bool
 meet a b c d = (eqb a c || eqb b c) || (eqb a d || eqb b d)

@@ -10,7 +10,7 @@ use Rattle.octets.specs.Bytes.{indexOf, lf}
 use Rattle.hexline.specs.Line.{readEntryOf}
 use Rattle.alias.specs.Lines.{indexedOf, lineAt, linesOf, maxLines}
 use Rattle.alias.specs.Table.{judgedOf}
-use Rattle.alias.specs.declared.lines.Walked.{Walked}
+use Rattle.alias.specs.declared.LineStarts.{LineStarts}
 
 -- how many bytes the first line has: up to its LF and with it, or all where there is no LF
 unfoldable pub firstLength : List ℕ → ℕ
@@ -27,9 +27,12 @@ faultyOf k line = leb maxLines k || not (isGranted (readEntryOf line))
 abbrev pub faultyAt : List (List ℕ) → ℕ → Bool
 faultyAt ls k = faultyOf k (lineAt ls k)
 
--- w has the lines before the first that is bad by itself, and says whether there is one
-pub record Walks (more : Bool) (bytes : List ℕ) (w : Walked) : Type 0 where
-  pub lines : w .lines ≡ indexedOf (take (w .lines .count) (linesOf bytes))
-  pub good : (k : ℕ) → k < w .lines .count → faultyAt (judgedOf more bytes) k ≡ false
-  pub first : w .stopped ≡ true → (w .lines .count < length (judgedOf more bytes)) × (faultyAt (judgedOf more bytes) (w .lines .count) ≡ true)
-  pub all : w .stopped ≡ false → w .lines .count ≡ length (judgedOf more bytes)
+abbrev pub linesFrom : ℕ → List ℕ → LineStarts
+linesFrom count starts = record { count = count; starts = starts }
+
+-- these are the lines before the first that is bad by itself, and whether there is one
+pub record Walks (more : Bool) (bytes : List ℕ) (lines : LineStarts) (stopped : Bool) : Type 0 where
+  pub lines-are : lines ≡ indexedOf (take (lines .count) (linesOf bytes))
+  pub good : (k : ℕ) → k < lines .count → faultyAt (judgedOf more bytes) k ≡ false
+  pub first : stopped ≡ true → (lines .count < length (judgedOf more bytes)) × (faultyAt (judgedOf more bytes) (lines .count) ≡ true)
+  pub all : stopped ≡ false → lines .count ≡ length (judgedOf more bytes)

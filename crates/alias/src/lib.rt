@@ -58,11 +58,13 @@ fn bad(line: usize) -> TableAnswer
 pub fn check(table: &[u8], more: bool) -> TableAnswer
     ensures { λ r. ⌜ Answered (r .outcome) (r .lines) noLines (checkOf more (now (table .entry))) ⌝ }
 {
-    let w = walk(table, more);
-    let lines = w.lines;
-    let count = lines.count;
-    let starts = lines.starts;
-    let repeat = repeats::first(table, lookup::starts_to(&starts, count));
+    let mut starts = [0usize; MAX_STARTS];
+    let mut names = [0u32; MAX_LINES];
+    let mut others = [0u32; MAX_LINES];
+    let w = walk(table, more, &mut starts, &mut names, &mut others);
+    let count = w.count;
+    let lines = lookup::starts_to(&starts, count);
+    let repeat = repeats::first(table, lines, &names, &others, w.unclear);
     match repeat {
         Found::At(k) => bad(k),
         Found::Nothing => {
@@ -71,7 +73,7 @@ pub fn check(table: &[u8], more: bool) -> TableAnswer
             }
             TableAnswer {
                 outcome: Outcome::Granted,
-                lines,
+                lines: LineStarts { count, starts },
             }
         }
     }

@@ -1,19 +1,23 @@
 // The lines of a table: where they begin, and which of them are bad by themselves.
-use crate::LineStarts;
 use crate::MAX_LINES;
 use crate::MAX_STARTS;
+use crate::keys::line_keys;
 use octets::LF;
 ghost use mathlib.Core.Path.{_≡_};
 ghost use mathlib.Core.Bool.{false};
 ghost use Prim.Native.Nat.{_+_, _<_, _≤_};
-ghost use lib.ListN.{drop, length};
+ghost use lib.ListN.{drop, length, replicate};
 ghost use Rattle.octets.specs.Bytes.{indexOf, lf};
-ghost use Rattle.alias.specs.Walk.{Walks, faultyOf, lineEnd};
+ghost use Rattle.alias.specs.Keys.{KeysKept};
+ghost use Rattle.alias.specs.Lines.{entriesOf, linesOf, maxLines};
+ghost use Rattle.alias.specs.Walk.{Walks, lineEnd, linesFrom};
 
-// The lines of a table before the first that is bad by itself, and whether there is one.
+// How many lines there are before the first that is bad by itself, whether there is one, and whether an entry among those before it may have its
+// name as its abbreviation too.
 pub(crate) struct Walked {
-    pub lines: LineStarts,
+    pub count: usize,
     pub stopped: bool,
+    pub unclear: bool,
 }
 
 // How many bytes are tested together.
@@ -60,36 +64,42 @@ fn line_end(table: &[u8], at: usize) -> usize
     table.len()
 }
 
-// Whether a line is bad by itself as line k: the 513th, or no accepted line of kind 04.
-fn faulty(k: usize, line: &[u8]) -> bool
-    ensures { λ r. ⌜ r ≡ faultyOf k (now (line .entry)) ⌝ }
+// Walks the lines up to the first that is bad by itself. Where the table is cut off, that is at the latest the one after the last. The keys of the
+// entries before it are kept.
+pub(crate) fn walk(
+    table: &[u8],
+    more: bool,
+    starts: &mut [usize; MAX_STARTS],
+    names: &mut [u32; MAX_LINES],
+    others: &mut [u32; MAX_LINES],
+) -> Walked
+    requires { ⌜ (now starts ≡ replicate (maxLines + 1) 0) × (length (now names) ≡ maxLines) × (length (now others) ≡ maxLines) ⌝ }
+    ensures { λ r. ⌜ Walks more (now (table .entry)) (linesFrom (r .count) (now (starts .exit))) (r .stopped) ⌝ }
+    ensures { λ r. ⌜ KeysKept (entriesOf (linesOf (now (table .entry)))) (r .count) (now (names .exit)) (now (others .exit)) (r .unclear) ⌝ }
 {
-    (MAX_LINES <= k) | !hexline::accepts_entry(line)
-}
-
-// Walks the lines up to the first that is bad by itself. Where the table is cut off, that is at the latest the one after the last.
-pub(crate) fn walk(table: &[u8], more: bool) -> Walked
-    ensures { λ r. ⌜ Walks more (now (table .entry)) r ⌝ }
-{
-    let mut starts = [0usize; MAX_STARTS];
+    let mut unclear = false;
     let mut count = 0;
     let mut at = 0;
     while at < table.len() {
         let next = line_end(table, at);
-        if faulty(count, &table[at..next]) {
-            let lines = LineStarts { count, starts };
+        let keys = line_keys(&table[at..next]);
+        if (MAX_LINES <= count) | !keys.accepted {
             return Walked {
-                lines,
+                count,
                 stopped: true,
+                unclear,
             };
         }
+        names[count] = keys.name;
+        others[count] = keys.other;
+        unclear = unclear | keys.unclear;
         count += 1;
         starts[count] = next;
         at = next;
     }
-    let lines = LineStarts { count, starts };
     Walked {
-        lines,
+        count,
         stopped: more,
+        unclear,
     }
 }

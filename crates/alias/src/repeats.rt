@@ -1,7 +1,6 @@
 // Names that are repeated in a table.
 use crate::Found;
 use crate::MAX_LINES;
-use crate::keys::fill;
 use crate::keys::met_before;
 use crate::lookup::count;
 use crate::lookup::line;
@@ -12,7 +11,7 @@ ghost use mathlib.Core.Path.{_≡_};
 ghost use Prim.Native.Nat.{_-_, _<_};
 ghost use lib.ListN.{length};
 ghost use Rattle.label.specs.Index.{any};
-ghost use Rattle.alias.specs.Keys.{Keys, keyed};
+ghost use Rattle.alias.specs.Keys.{Keys, KeysKept, keyed};
 ghost use Rattle.alias.specs.Lines.{entriesBy, entryAt};
 ghost use Rattle.alias.specs.Lookup.{foundOf};
 ghost use Rattle.alias.specs.Table.{firstRepeat, repeatsAt, sharesOf};
@@ -67,19 +66,23 @@ fn repeats(
 }
 
 // The first entry that repeats a name. The entries are gone through only where by the keys there may be one.
-pub(crate) fn first(table: &[u8], starts: &[usize]) -> Found
+pub(crate) fn first(
+    table: &[u8],
+    starts: &[usize],
+    names: &[u32; MAX_LINES],
+    others: &[u32; MAX_LINES],
+    unclear: bool,
+) -> Found
+    requires { ⌜ KeysKept (entriesBy (now table) (now starts)) (keyed (length (now starts) - 1)) (now names) (now others) unclear ⌝ }
     ensures { λ r. ⌜ foundOf r ≡ firstRepeat (entriesBy (now (table .entry)) (now (starts .entry))) ⌝ }
 {
-    let mut names = [0u32; MAX_LINES];
-    let mut others = [0u32; MAX_LINES];
-    let unclear = fill(table, starts, &mut names, &mut others);
     let n = count(starts);
-    if !(unclear | some_met(&names, &others, n)) {
+    if !(unclear | some_met(names, others, n)) {
         return Found::Nothing;
     }
     let mut k = 0;
     while k < n {
-        if repeats(table, starts, &names, &others, k) {
+        if repeats(table, starts, names, others, k) {
             return Found::At(k);
         }
         k += 1;

@@ -1,5 +1,5 @@
 -- The laws of what a body of an alias entry is judged by: it is the form of the entry that stands in it, and that this is valid. Assumes nothing.
-use mathlib.Core.Bool.{Bool, true, false, cond, _&&_, _||_, and-false, and-true}
+use mathlib.Core.Bool.{Bool, true, false, cond, _&&_, _||_, and-true}
 use mathlib.Core.List.{List, _++_}
 use mathlib.Core.Logic.{⊎-elim}
 use mathlib.Core.Path.{_≡_, refl, sym, ap, ap₂, _∙_}
@@ -8,23 +8,25 @@ use native.Mathlib.Nat.{add-zero}
 use native.Mathlib.Numerals.{add-one}
 use native.Mathlib.Omega.{arith}
 use lib.Dec.{eqb, leb, ltb}
-use lib.ListN.{drop, getD, length, take, length-drop}
+use lib.ListN.{drop, length, take, length-drop, length-take}
 use lib.Seq.{getD-drop, getD-take, length-take-le, take-all, take-at}
 use borrow.Author.Tests.{eq-eqb, le-leb, le-ltb, lt-ltb}
 use Rattle.label.specs.Answer.{isGranted, require, granted}
 use Rattle.label.specs.Index.{every, tabulate}
 use Rattle.label.specs.Label
-use Rattle.label.proofs.BoolLaws.{not-so, same-truth}
+use Rattle.label.proofs.BoolLaws.{both, first-true, same-truth, second-true}
 use Rattle.label.proofs.IndexLaws.{every-all, every-at, le-or-lt, tabulate-at, tabulate-is, tabulate-length}
 use Rattle.label.proofs.LabelLaws.{equal-exact}
 use Rattle.frame.specs.Frame.{bodyFrom, bodyOf, framedOf}
-use Rattle.hexline.specs.Accept.{textOk, valueByteOk}
+use Rattle.hexline.specs.Accept.{TextsAt, partOf, textOk, valueByteOk}
 use Rattle.hexline.specs.Body.{byteAt, labelAt, labelSize, lineWords}
-use Rattle.hexline.specs.Entry.{entryFrom, isLetter, isNameByte, labelFrom, layoutOf, maxAbbreviation, maxName, nameByteAt, nameByteOk, nameOf, past, textByte, textFrom, validOf, valueFrom, valueOk, valueSize}
-use Rattle.hexline.specs.Line.{contentsOf, entryForm, entryIn, readEntryOf}
+use Rattle.hexline.specs.Entry.{atMost, entryFrom, isLetter, isNameByte, labelFrom, layoutOf, maxAbbreviation, maxName, nameByteAt, nameByteOk, nameOf, past, spanBytes, textByte, textFrom, validOf, valueFrom, valueOk, valueSize}
+use Rattle.hexline.specs.Line.{abbreviationIn, contentsOf, entryForm, entryIn, nameIn, readEntryOf}
 use Rattle.hexline.specs.declared.entry.Entry.{Entry}
+use Rattle.hexline.specs.declared.entry.Span.{Span}
 use Rattle.hexline.proofs.EntryLaws.{text-byte}
 use Rattle.hexline.proofs.LineLaws.{entry-form-parts}
+use Rattle.hexline.proofs.StandingLaws.{abbreviation-stands, name-stands}
 
 pub every-more : (f : ℕ → Bool) (i : ℕ) → every f (i + 1) ≡ (every f i && f i)
 unfolding every
@@ -138,10 +140,21 @@ accepted-as line = go (framedOf line) (entryForm 4 lineWords (bodyOf line) && va
     go true false x = refl
     go false v x = refl
 
-pub too-long : (line : List ℕ) → 83 < length (bodyOf line) → false ≡ isGranted (readEntryOf line)
-too-long line h =
-    let f = not-so (entryForm 4 lineWords (bodyOf line)) (λ e. absurd (omega (arith, form-short (bodyOf line) e))) in
-    sym (accepted-as line ∙ rw f (and-false (framedOf line)))
+-- the body of an accepted line has at most 83 bytes
+pub accepted-short : (line : List ℕ) (n : ℕ) → 83 ≤ n → (leb (length (bodyOf line)) n && isGranted (readEntryOf line)) ≡ isGranted (readEntryOf line)
+accepted-short line n h =
+    rw (accepted-as line)
+    (same-truth (leb (length (bodyOf line)) n && t) t (λ e. second-true (leb (length (bodyOf line)) n) t e)
+    (λ e. both (le-leb (length (bodyOf line)) n (omega (arith, form-short (bodyOf line) (first-true f v (second-true (framedOf line) (f && v) e))))) e))
+  where
+    f : Bool
+    f = entryForm 4 lineWords (bodyOf line)
+
+    v : Bool
+    v = validOf (entryIn lineWords (bodyOf line))
+
+    t : Bool
+    t = framedOf line && (f && v)
 
 -- the bytes of its body at the front of a buffer
 pub decoded : (line out copied rest : List ℕ) (n : ℕ) → n ≡ length (bodyOf line) → n ≤ length out → copied ≡ bodyFrom line 0 (length (take n out))
@@ -151,3 +164,32 @@ decoded line out copied rest n e h c =
     let whole : tabulate (λ k. byteAt (bodyOf line) (0 + k)) (length (bodyOf line)) ≡ bodyOf line = sym
     (tabulate-is (λ k. byteAt (bodyOf line) (0 + k)) (bodyOf line) (length (bodyOf line)) 0 refl (λ i l. ap (byteAt (bodyOf line)) (omega arith))) in
     ap (λ (t : List ℕ). take n (t ++ rest)) (c ∙ ap (bodyFrom line 0) (length-take-le n out h ∙ e) ∙ whole) ∙ take-at (bodyOf line) rest n (sym e)
+
+-- the bytes of a buffer at a span, where a body is at its front
+part-stands : (bs out : List ℕ) (n : ℕ) (s : Span) → take n out ≡ bs → n ≡ length bs → n ≤ length out → past s ≤ n → partOf out s ≡ spanBytes bs s
+unfolding spanBytes
+part-stands bs out n s e m h l =
+    let d = length-drop (s .at) out in
+    tabulate-is (λ k. byteAt bs (s .at + k)) (partOf out s) (s .length) 0 (length-take-le (s .length) (drop (s .at) out) (omega arith))
+    (λ k b. getD-take (s .length) (drop (s .at) out) k 0 b ∙ getD-drop (s .at) out k 0 ∙ sym (getD-take n out (s .at + k) 0 (omega arith))
+    ∙ ap (λ (xs : List ℕ). byteAt xs (s .at + k)) e)
+
+at-most-all : (most : ℕ) (s : Span) → s .length ≤ most → atMost most s ≡ s
+at-most-all most s h = ap (λ (n : ℕ). spanFor (s .at) n) (omega arith)
+  where
+    spanFor : ℕ → ℕ → Span
+    spanFor i n = record { at = i; length = n }
+
+pub texts-at : (line out : List ℕ) (n : ℕ) {name abbreviation : Span} → take n out ≡ bodyOf line → n ≡ length (bodyOf line)
+    → name ≡ layoutOf lineWords (bodyOf line) 1 .name → abbreviation ≡ layoutOf lineWords (bodyOf line) 1 .abbreviation
+    → entryForm 4 lineWords (bodyOf line) ≡ true → TextsAt line name abbreviation out
+unfolding nameIn abbreviationIn
+texts-at line out n e m p q form =
+    let h : n ≤ length out = omega (arith, length-take n out, ap length e) in
+    let f = entry-form-parts 4 lineWords (bodyOf line) form in
+    let at = abbreviation-at lineWords (bodyOf line) 1 in
+    let l = layoutOf lineWords (bodyOf line) 1 in
+    record {
+      name-is = rw p (part-stands (bodyOf line) out n (l .name) e m h (omega (arith, f .size)) ∙ ap (spanBytes (bodyOf line)) (sym (at-most-all maxName (l .name) (f .name))) ∙ sym (name-stands line));
+      abbreviation-is = rw q (part-stands (bodyOf line) out n (l .abbreviation) e m h (omega (arith, f .size)) ∙ ap (spanBytes (bodyOf line)) (sym (at-most-all maxAbbreviation (l .abbreviation) (f .abbreviation))) ∙ sym (abbreviation-stands line));
+    }

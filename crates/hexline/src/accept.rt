@@ -1,4 +1,4 @@
-// Whether a body is that of an alias entry, judged by its bytes: no entry is made.
+// Lines of alias entries judged by the bytes of their bodies: no entry is made, and its texts can be read where the body was put.
 use crate::body::LINE_WORDS;
 use crate::entry::Layout;
 use crate::entry::MAX_ABBREVIATION;
@@ -9,18 +9,27 @@ use crate::entry::is_name_byte;
 use crate::entry::value_size;
 use label::MAX_HIERARCHY;
 ghost use mathlib.Core.Path.{_≡_};
-ghost use mathlib.Core.Bool.{_&&_};
+ghost use mathlib.Core.Bool.{true, false, _&&_};
 ghost use Prim.Native.Nat.{_+_, _<_, _≤_};
+ghost use lib.Dec.{leb};
 ghost use lib.ListN.{length, take};
+ghost use Rattle.label.specs.Answer.{isGranted};
 ghost use Rattle.label.specs.Index.{every};
 ghost use Rattle.frame.specs.Frame.{bodyOf};
-ghost use Rattle.hexline.specs.Accept.{textOk, valueByteOk};
+ghost use Rattle.hexline.specs.Accept.{TextsAt, textOk, valueByteOk};
 ghost use Rattle.hexline.specs.Body.{byteAt, lineWords};
 ghost use Rattle.hexline.specs.Entry.{isNameByte, layoutOf, spanOf, validOf};
-ghost use Rattle.hexline.specs.Line.{entryForm, entryIn};
+ghost use Rattle.hexline.specs.Line.{entryForm, entryIn, readEntryOf};
 
 // The longest body of an entry: kind, class, label, and two lengths with their texts.
-pub(crate) const ENTRY_BYTES: usize = 83;
+pub const ENTRY_BYTES: usize = 83;
+
+// Whether a line is accepted, and then where the texts of its entry stand in its body.
+pub struct Judged {
+    pub accepted: bool,
+    pub name: Span,
+    pub abbreviation: Span,
+}
 
 // Byte i of a body, and 0 past its end.
 fn byte(body: &[u8], i: usize) -> u8
@@ -100,7 +109,7 @@ fn text_ok(text: &[u8]) -> bool
 }
 
 // Whether a body is that of a valid alias entry.
-pub(crate) fn accepts(body: &[u8]) -> bool
+fn accepts(body: &[u8]) -> bool
     ensures { λ r. ⌜ r ≡ (entryForm 4 lineWords (now (body .entry)) && validOf (entryIn lineWords (now (body .entry)))) ⌝ }
 {
     let p = layout(body);
@@ -115,9 +124,50 @@ pub(crate) fn accepts(body: &[u8]) -> bool
 }
 
 // The body of a line at the front of out.
-pub(crate) fn decode(line: &[u8], n: usize, out: &mut [u8])
+fn decode(line: &[u8], n: usize, out: &mut [u8])
     requires { ⌜ (n ≡ length (bodyOf (now line))) × (n ≤ length (now out)) ⌝ }
     ensures { λ _. ⌜ take n (now (out .exit)) ≡ bodyOf (now (line .entry)) ⌝ }
 {
     frame::copy(line, 0, &mut out[..n]);
+}
+
+fn refused() -> Judged
+    ensures { λ r. ⌜ r .accepted ≡ false ⌝ }
+{
+    Judged {
+        accepted: false,
+        name: Span { at: 0, length: 0 },
+        abbreviation: Span { at: 0, length: 0 },
+    }
+}
+
+// The same of a body.
+fn judge(body: &[u8]) -> Judged
+    ensures { λ r. ⌜ r .accepted ≡ (entryForm 4 lineWords (now (body .entry)) && validOf (entryIn lineWords (now (body .entry)))) ⌝ }
+    ensures { λ r. ⌜ (r .name ≡ layoutOf lineWords (now (body .entry)) 1 .name) × (r .abbreviation ≡ layoutOf lineWords (now (body .entry)) 1 .abbreviation) ⌝ }
+{
+    let p = layout(body);
+    let name = p.name;
+    let abbreviation = p.abbreviation;
+    Judged {
+        accepted: accepts(body),
+        name,
+        abbreviation,
+    }
+}
+
+// Whether a line is an accepted line of kind 04 whose body fits out: the body is then at the front of out.
+pub fn decode_entry(line: &[u8], out: &mut [u8]) -> Judged
+    ensures { λ r. ⌜ r .accepted ≡ (leb (length (bodyOf (now (line .entry)))) (length (now (out .entry))) && isGranted (readEntryOf (now (line .entry)))) ⌝ }
+    ensures { λ r. ⌜ (r .accepted ≡ true → TextsAt (now (line .entry)) (r .name) (r .abbreviation) (now (out .exit))) ⌝ }
+{
+    let n = frame::body_length(line);
+    if out.len() < n {
+        return refused();
+    }
+    if !frame::framed(line) {
+        return refused();
+    }
+    decode(line, n, out);
+    judge(octets::front(out, n))
 }

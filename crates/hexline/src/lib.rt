@@ -1,12 +1,11 @@
 // Hex lines: one frame a line, in `frame`, and what stands in its body. A writer takes contents and a lent buffer, a reader one whole line
 // with its LF; each refuses what document 01 refuses, and a refusal writes nothing.
-mod accept;
+pub mod accept;
 mod body;
 pub mod entry;
 pub mod parts;
 mod regions;
 
-use crate::accept::ENTRY_BYTES;
 use crate::body::LINE_WORDS;
 use crate::body::label_at;
 use crate::body::put_label;
@@ -38,7 +37,7 @@ use range::tuple::TupleAnswer;
 ghost use mathlib.Core.Path.{_≡_};
 ghost use Prim.Native.Nat.{_+_, _<_};
 ghost use lib.ListN.{take};
-ghost use Rattle.label.specs.Answer.{Answered, isGranted, require};
+ghost use Rattle.label.specs.Answer.{Answered, require};
 ghost use Rattle.label.specs.Buffer.{WrittenTo};
 ghost use Rattle.label.specs.Label as labels;
 ghost use Rattle.range.specs.Range as ranges;
@@ -233,20 +232,4 @@ pub fn read_entry(line: &[u8]) -> EntryAnswer
         outcome: Outcome::Refused(Errno::Invalid),
         entry: entry::zero(),
     }
-}
-
-// Whether a line is an accepted line of kind 04.
-pub fn accepts_entry(line: &[u8]) -> bool
-    ensures { λ r. ⌜ r ≡ isGranted (readEntryOf (now (line .entry))) ⌝ }
-{
-    let n = frame::body_length(line);
-    if ENTRY_BYTES < n {
-        return false;
-    }
-    if !frame::framed(line) {
-        return false;
-    }
-    let mut bytes = [0u8; ENTRY_BYTES];
-    accept::decode(line, n, &mut bytes);
-    accept::accepts(octets::front(&bytes, n))
 }

@@ -21,37 +21,34 @@ Inv-loop table starts names others unclear n k₀ k = firstRepeat (entriesBy tab
 abbrev μ-loop : tie.MeasureT-loop
 μ-loop table starts names others unclear n k₀ k = n - k
 
-fill-requires : tie.Need-fill-requires Inv-loop μ-loop
-fill-requires c κs = (search needs, search needs)
-
 returns : tie.Need-returns Inv-loop μ-loop
 returns c =
     let m = c .before in
-    let n = m .before .before .before in
-    let f = n .before in
-    let a = f .before .before .before .before .before .args in
-    let d = neither (f .fill .result) (m .some-met .result) (not-true (f .fill .result || m .some-met .result) (c .if1 .taken)) in
-    none-met (entriesBy (a .table .now) (a .starts .now)) (length (a .starts .now) - 1) (entries-length (a .table .now) (a .starts .now)) (f .fill .ensures .0) (f .fill .ensures .1 (d .0))
+    let n = m .before in
+    let s = n .before .before .before in
+    let a = s .args in
+    let d = neither (a .unclear) (m .some-met .result) (not-true (a .unclear || m .some-met .result) (c .if1 .taken)) in
+    none-met (entriesBy (a .table .now) (a .starts .now)) (length (a .starts .now) - 1) (entries-length (a .table .now) (a .starts .now)) (s .pre) (d .0)
     (rw (n .count .ensures) at (m .some-met .ensures (d .1)))
 
 loop-holds : tie.Need-loop-holds Inv-loop μ-loop
 unfolding firstRepeat
 loop-holds c =
-    let n = c .before .before .before .before in
-    let a = n .before .before .before .before .before .before .args in
+    let n = c .before .before in
+    let a = n .before .before .before .args in
     search-start (a .table .now) (a .starts .now) _ (n .count .ensures)
 
 repeats-requires : tie.Need-repeats-requires Inv-loop μ-loop
-repeats-requires c κs = (search needs, c .before .before .before .before .before .before .before .before .before .fill .ensures .0)
+repeats-requires c κs = (search needs, c .before .before .before .before .before .before .before .pre .keys)
 
 returns-2 : tie.Need-returns-2 Inv-loop μ-loop
 returns-2 c =
-    let h = c .before .before .before .before .before in
+    let h = c .before .before .before in
     sym (h .loop .inv ∙ search-hit _ (h .loop .k) _ (omega arith) (sym (c .before .repeats .ensures) ∙ c .if2 .taken))
 
 loop-again : tie.Need-loop-again Inv-loop μ-loop
 loop-again c =
-    let h = c .before .before .before .before .before in
+    let h = c .before .before .before in
     h .loop .inv ∙ search-pass _ (h .loop .k) _ (omega arith) (sym (c .before .repeats .ensures) ∙ c .if2 .left)
 
 returns-3 : tie.Need-returns-3 Inv-loop μ-loop
@@ -59,5 +56,4 @@ returns-3 c = let h = c .before in sym (h .loop .inv ∙ search-end _ (h .loop .
 
 pub first-spec : {M : Type 1} → statement M
 first-spec =
-    tie.close (tie.spec Inv-loop μ-loop fill-requires (search needs) (search needs) returns loop-holds repeats-requires returns-2 (search needs) (search needs)
-    loop-again returns-3)
+    tie.close (tie.spec Inv-loop μ-loop (search needs) (search needs) returns loop-holds repeats-requires returns-2 (search needs) (search needs) loop-again returns-3)
