@@ -4,16 +4,20 @@ use mathlib.Core.List.{List, _∷_}
 use mathlib.Core.Logic.{⊎-elim}
 use mathlib.Core.Option.{none}
 use mathlib.Core.Path.{_≡_, refl, sym, ap, _∙_}
-use Prim.Native.Nat.{ℕ, _+_, _%_, _≤_, _<_}
-use native.Mathlib.Nat.{add-zero, eq-or-lt-of-le, zero-add}
+use Prim.Native.Nat.{ℕ, _+_, _/_, _%_, _^_, _≤_, _<_}
+use native.Mathlib.Nat.{add-zero, one-mul, zero-add}
 use native.Mathlib.Numerals.{add-one}
 use native.Mathlib.Omega.{arith}
+use lib.Bits.{bitOr}
 use lib.Dec.{eqb, leb}
 use lib.ListN.{drop, getD, length, set, take, drop-of-length-le, length-set}
+use lib.Pow.{shl-shr}
 use lib.Seq.{drop-cons, getD-set-other, getD-set-same, getD-take}
 use borrow.Author.Count.{below-more}
 use borrow.Author.Tests.{eq-eqb, eqb-true, le-leb, leb-false, lt-leb}
 use Rattle.label.specs.Index.{any, every, firstFrom, tabulate}
+use Rattle.label.specs.Words.{bit}
+use Rattle.label.proofs.BitLaws.{bit-or}
 use Rattle.label.proofs.BoolLaws.{both, either, first-true, neither, not-so, or-first, or-second, second-true}
 use Rattle.label.proofs.IndexLaws.{Filled, every-all, fill-next, fill-none, tabulate-at, tabulate-is, tabulate-length}
 use Rattle.label.proofs.SearchLaws.{none-of, pass, same-or-not}
@@ -21,7 +25,7 @@ use Rattle.octets.specs.Bytes.{sameBytes}
 use Rattle.octets.proofs.ByteLaws.{same-is}
 use Rattle.hexline.specs.Entry.{abbreviationBytes, nameBytes}
 use Rattle.hexline.specs.declared.entry.Entry.{Entry}
-use Rattle.alias.specs.Keys.{IsMarked, Keys, KeysKept, KeysOf, Marked, NoneMet, NoneWithin, halfOf, keyFrom, keyOf, keyed, marks, meet, meetAt, metBefore, nameKey, nextKey, otherBytes, otherKey, repeatsWithin}
+use Rattle.alias.specs.Keys.{Keys, KeysKept, KeysOf, Marked, NoneMet, NoneWithin, halfOf, isMarked, keyFrom, keyOf, keyed, markWords, markedWith, meet, meetAt, metBefore, nameKey, nextKey, otherBytes, otherKey, repeatsWithin}
 use Rattle.alias.specs.Lines.{entryAt, maxLines}
 use Rattle.alias.specs.Lookup.{calledOf}
 use Rattle.alias.specs.Table.{firstRepeat, repeatsAt, sharesOf}
@@ -189,54 +193,77 @@ module _ {es : List Entry} (n : ℕ) {names others : List ℕ} (h : Keys es (key
 
 -- ---- marks
 
--- a mark stays set
-mark-kept : (marked : List ℕ) (i j : ℕ) → getD marked j 0 ≡ 1 → j < length marked → getD (set marked i 1) j 0 ≡ 1
-mark-kept marked i j e l =
-    ⊎-elim (λ u. ap (λ (n : ℕ). getD (set marked n 1) j 0) (sym u) ∙ getD-set-same marked j 1 0 l) (λ u. getD-set-other marked i j 1 0 u ∙ e) (same-or-not j i)
+power-bit : (s : ℕ) → bit (2 ^ s) s ≡ true
+unfolding bit
+power-bit s = ap (λ (z : ℕ). eqb (z % 2) 1) (ap (λ (z : ℕ). z / 2 ^ s) (sym (one-mul (2 ^ s))) ∙ shl-shr 1 s)
 
-pub marked-none : (names others marked : List ℕ) → length marked ≡ marks → Marked names others 0 marked
+module _ (marked : List ℕ) (size : length marked ≡ markWords) where
+  -- a mark stays set
+  mark-kept : (key other : ℕ) → isMarked marked key ≡ true → isMarked (markedWith marked other) key ≡ true
+  mark-kept key other h = ⊎-elim same (λ u. ap (λ (w : ℕ). bit w (key % 64)) (getD-set-other marked j i (bitOr x y) 0 u) ∙ h) (same-or-not i j)
+    where
+      i : ℕ
+      i = key / 64 % markWords
+
+      j : ℕ
+      j = other / 64 % markWords
+
+      x : ℕ
+      x = getD marked j 0
+
+      y : ℕ
+      y = 2 ^ (other % 64)
+
+      same : i ≡ j → bit (getD (set marked j (bitOr x y)) i 0) (key % 64) ≡ true
+      same u =
+          ap (λ (n : ℕ). bit (getD (set marked j (bitOr x y)) n 0) (key % 64)) u ∙ ap (λ (w : ℕ). bit w (key % 64)) (getD-set-same marked j (bitOr x y) 0 (omega (arith, size)))
+          ∙ bit-or x y (key % 64) ∙ or-first (bit y (key % 64)) (ap (λ (n : ℕ). bit (getD marked n 0) (key % 64)) (sym u) ∙ h)
+
+  mark-set : (key : ℕ) → isMarked (markedWith marked key) key ≡ true
+  mark-set key =
+      let i = key / 64 % markWords in
+      let x = getD marked i 0 in
+      let y = 2 ^ (key % 64) in
+      ap (λ (w : ℕ). bit w (key % 64)) (getD-set-same marked i (bitOr x y) 0 (omega (arith, size))) ∙ bit-or x y (key % 64) ∙ or-second (bit x (key % 64)) (power-bit (key % 64))
+
+  mark-size : (key : ℕ) → length (markedWith marked key) ≡ markWords
+  mark-size key = length-set marked (key / 64 % markWords) _ ∙ size
+
+pub marked-none : (names others marked : List ℕ) → length marked ≡ markWords → Marked names others 0 marked
 marked-none names others marked e = record { size = e; name = λ j l. absurd (omega arith); other = λ j l. absurd (omega arith) }
 
 module _ {names others marked : List ℕ} {k : ℕ} (h : Marked names others k marked) where
-  marked-both : Marked names others (k + 1) (set (set marked (getD names k 0 % marks) 1) (getD others k 0 % marks) 1)
+  marked-both : Marked names others (k + 1) (markedWith (markedWith marked (getD names k 0)) (getD others k 0))
   marked-both =
       record {
-        size = length-set (set marked a 1) b 1 ∙ length-set marked a 1 ∙ h .size;
-        name = λ j l. ⊎-elim (λ u. rw u (twice (getD names k 0) fresh-a)) (λ u. kept (getD names j 0) (h .name j u)) (eq-or-lt-of-le (omega arith));
-        other = λ j l. ⊎-elim (λ u. rw u fresh-b) (λ u. kept (getD others j 0) (h .other j u)) (eq-or-lt-of-le (omega arith));
+        size = mark-size first size (getD others k 0);
+        name = below-more _ _ (λ j l. kept (getD names j 0) (h .name j l)) (mark-kept first size (getD names k 0) (getD others k 0) (mark-set marked (h .size) (getD names k 0)));
+        other = below-more _ _ (λ j l. kept (getD others j 0) (h .other j l)) (mark-set first size (getD others k 0));
       }
     where
-      a : ℕ
-      a = getD names k 0 % marks
+      first : List ℕ
+      first = markedWith marked (getD names k 0)
 
-      b : ℕ
-      b = getD others k 0 % marks
+      size : length first ≡ markWords
+      size = mark-size marked (h .size) (getD names k 0)
 
-      twice : (key : ℕ) → IsMarked (set marked a 1) key → IsMarked (set (set marked a 1) b 1) key
-      twice key m = mark-kept (set marked a 1) b (key % marks) m (omega (arith, length-set marked a 1, h .size))
+      kept : (key : ℕ) → isMarked marked key ≡ true → isMarked (markedWith first (getD others k 0)) key ≡ true
+      kept key m = mark-kept first size key (getD others k 0) (mark-kept marked (h .size) key (getD names k 0) m)
 
-      kept : (key : ℕ) → IsMarked marked key → IsMarked (set (set marked a 1) b 1) key
-      kept key m = twice key (mark-kept marked a (key % marks) m (omega (arith, h .size)))
-
-      fresh-a : getD (set marked a 1) a 0 ≡ 1
-      fresh-a = getD-set-same marked a 1 0 (omega (arith, h .size))
-
-      fresh-b : getD (set (set marked a 1) b 1) b 0 ≡ 1
-      fresh-b = getD-set-same (set marked a 1) b 1 0 (omega (arith, length-set marked a 1, h .size))
-
-  pub marked-next : {a b : ℕ} → a ≡ getD names k 0 % marks → b ≡ getD others k 0 % marks → Marked names others (k + 1) (set (set marked a 1) b 1)
-  marked-next e f = rw (e, f) marked-both
+  pub marked-next : {first second : List ℕ} → first ≡ markedWith marked (getD names k 0) → second ≡ markedWith first (getD others k 0) → Marked names others (k + 1) second
+  marked-next e f = rw (f, e) marked-both
 
   -- a key that has no mark is none of the earlier ones
-  apart : (key c : ℕ) → IsMarked marked key → getD marked (c % marks) 0 ≡ 0 → eqb key c ≡ false
-  apart key c m z = not-so (eqb key c) (λ e. let n : getD marked (c % marks) 0 ≡ 1 = rw (eqb-true key c e) at m in absurd (omega arith))
+  apart : (key c : ℕ) → isMarked marked key ≡ true → isMarked marked c ≡ false → eqb key c ≡ false
+  apart key c m z = not-so (eqb key c) (λ e. true≢false (sym m ∙ ap (isMarked marked) (eqb-true key c e) ∙ z))
 
-  pub not-marked : k < maxLines → getD marked (getD names k 0 % marks) 0 ≡ 0 → getD marked (getD others k 0 % marks) 0 ≡ 0 → metBefore names others k ≡ false
+  pub not-marked : k < maxLines → (isMarked marked (getD names k 0) || isMarked marked (getD others k 0)) ≡ false → metBefore names others k ≡ false
   unfolding metBefore
-  not-marked l c d =
+  not-marked l e =
+      let d = neither (isMarked marked (getD names k 0)) (isMarked marked (getD others k 0)) e in
       rw (lt-leb maxLines k l)
       (any-none (meetAt names others k) k
-      (λ j m. rw (apart _ _ (h .name j m) c, apart _ _ (h .other j m) c, apart _ _ (h .name j m) d, apart _ _ (h .other j m) d)))
+      (λ j m. rw (apart _ _ (h .name j m) (d .0), apart _ _ (h .other j m) (d .0), apart _ _ (h .name j m) (d .1), apart _ _ (h .other j m) (d .1))))
 
 -- such a loop over n entries has marked the keys of the first k, and none of these was met before
 pub record Marking (names others : List ℕ) (n : ℕ) (marked : List ℕ) (k : ℕ) : Type 0 where

@@ -1,11 +1,13 @@
 -- Keys of names, which tell most names apart without reading them: for functions that are not public. Assumes nothing.
-use mathlib.Core.Bool.{Bool, false, cond, _||_}
+use mathlib.Core.Bool.{Bool, true, false, cond, _||_}
 use mathlib.Core.List.{List, [], _∷_}
 use mathlib.Core.Path.{_≡_}
-use Prim.Native.Nat.{ℕ, _+_, _*_, _/_, _%_, _<_, min}
+use Prim.Native.Nat.{ℕ, _+_, _*_, _/_, _%_, _^_, _<_, min}
+use lib.Bits.{bitOr}
 use lib.Dec.{eqb, leb}
-use lib.ListN.{getD, length, take}
+use lib.ListN.{getD, length, set, take}
 use Rattle.label.specs.Index.{any, tabulate}
+use Rattle.label.specs.Words.{bit}
 use Rattle.octets.specs.Bytes.{sameBytes}
 use Rattle.hexline.specs.Entry.{abbreviationBytes, nameBytes}
 use Rattle.hexline.specs.declared.entry.Entry.{Entry}
@@ -79,17 +81,22 @@ metBefore names others k = leb maxLines k || any (meetAt names others k) k
 abbrev pub NoneMet : List ℕ → List ℕ → ℕ → Type 0
 NoneMet names others n = (k : ℕ) → k < n → metBefore names others k ≡ false
 
--- ---- marks of the keys that were met
+-- ---- marks of the keys that were met, a bit each
 
-abbrev pub marks : ℕ
-marks = 4096
+-- in so many words of 64 bits
+abbrev pub markWords : ℕ
+markWords = 256
 
--- the mark of a key is set
-abbrev pub IsMarked : List ℕ → ℕ → Type 0
-IsMarked marked key = getD marked (key % marks) 0 ≡ 1
+-- whether the mark of a key is set
+abbrev pub isMarked : List ℕ → ℕ → Bool
+isMarked marked key = bit (getD marked (key / 64 % markWords) 0) (key % 64)
+
+-- with the mark of one more key
+abbrev pub markedWith : List ℕ → ℕ → List ℕ
+markedWith marked key = set marked (key / 64 % markWords) (bitOr (getD marked (key / 64 % markWords) 0) (2 ^ (key % 64)))
 
 -- the marks of the keys of the first k entries are set
 pub record Marked (names others : List ℕ) (k : ℕ) (marked : List ℕ) : Type 0 where
-  pub size : length marked ≡ marks
-  pub name : (j : ℕ) → j < k → IsMarked marked (getD names j 0)
-  pub other : (j : ℕ) → j < k → IsMarked marked (getD others j 0)
+  pub size : length marked ≡ markWords
+  pub name : (j : ℕ) → j < k → isMarked marked (getD names j 0) ≡ true
+  pub other : (j : ℕ) → j < k → isMarked marked (getD others j 0) ≡ true

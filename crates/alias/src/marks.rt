@@ -1,30 +1,46 @@
-// Marks of the keys that were met: a key whose mark is not set was not. The keys are compared only where it is.
+// Marks of the keys that were met, a bit each: a key whose mark is not set was not. The keys are compared only where it is.
 use crate::MAX_LINES;
 use crate::keys::met_before;
 ghost use mathlib.Core.Path.{_≡_};
 ghost use mathlib.Core.Bool.{false};
-ghost use Prim.Native.Nat.{_<_, _%_};
-ghost use lib.ListN.{length};
-ghost use Rattle.alias.specs.Keys.{Marked, NoneMet, marks, metBefore};
+ghost use Prim.Native.Nat.{_<_, _/_, _%_};
+ghost use Rattle.alias.specs.Keys.{Marked, NoneMet, isMarked, markWords, markedWith, metBefore};
 ghost use Rattle.alias.specs.Lines.{maxLines};
 
-const MARKS: usize = 4096;
+const MARK_WORDS: usize = 256;
 
-// Where the mark of a key is.
-fn mark_of(key: u32) -> usize
-    ensures { λ r. ⌜ r ≡ key % marks ⌝ }
+// The word that has the mark of a key.
+fn word_of(key: u32) -> usize
+    ensures { λ r. ⌜ r ≡ key / 64 % markWords ⌝ }
 {
-    (key % 4096) as usize
+    (key / 64 % 256) as usize
+}
+
+fn is_marked(marked: &[u64; MARK_WORDS], key: u32) -> bool
+    ensures { λ r. ⌜ r ≡ isMarked (now (marked .entry)) key ⌝ }
+{
+    let w = marked[word_of(key)];
+    (w >> (key % 64)) % 2 == 1
+}
+
+fn mark(marked: &mut [u64; MARK_WORDS], key: u32)
+    ensures { λ _. ⌜ now (marked .exit) ≡ markedWith (now (marked .entry)) key ⌝ }
+{
+    let i = word_of(key);
+    marked[i] = marked[i] | (1 << (key % 64));
 }
 
 // Whether entry k, by its keys, may have a name in common with an earlier entry, where the keys of these are marked.
-fn met(names: &[u32; MAX_LINES], others: &[u32; MAX_LINES], marked: &[u8; MARKS], k: usize) -> bool
+fn met(
+    names: &[u32; MAX_LINES],
+    others: &[u32; MAX_LINES],
+    marked: &[u64; MARK_WORDS],
+    k: usize,
+) -> bool
     requires { ⌜ (k < maxLines) × Marked (now names) (now others) k (now marked) ⌝ }
     ensures { λ r. ⌜ r ≡ metBefore (now (names .entry)) (now (others .entry)) k ⌝ }
 {
-    let a = marked[mark_of(names[k])];
-    let b = marked[mark_of(others[k])];
-    if (a == 0) & (b == 0) {
+    if !(is_marked(marked, names[k]) | is_marked(marked, others[k])) {
         return false;
     }
     met_before(names, others, k)
@@ -37,14 +53,14 @@ pub(crate) fn some_met(names: &[u32; MAX_LINES], others: &[u32; MAX_LINES], n: u
     if MAX_LINES < n {
         return true;
     }
-    let mut marked = [0u8; MARKS];
+    let mut marked = [0u64; MARK_WORDS];
     let mut k = 0;
     while k < n {
         if met(names, others, &marked, k) {
             return true;
         }
-        marked[mark_of(names[k])] = 1;
-        marked[mark_of(others[k])] = 1;
+        mark(&mut marked, names[k]);
+        mark(&mut marked, others[k]);
         k += 1;
     }
     false

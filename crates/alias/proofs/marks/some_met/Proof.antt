@@ -29,13 +29,13 @@ returns-2 c e = absurd (true≢false e)
 
 loop-again : tie.Need-loop-again Inv-loop μ-loop
 loop-again c =
-    let a = c .before .before in
-    let e = a .before .before in
+    let a = c .before .before .before in
+    let e = a .before .before .before in
     let h = e .before .before .before .before in
     let v = h .loop .inv in
     record {
       upto = omega arith;
-      keys = marked-next (v .keys) (a .mark-of .ensures) (c .mark-of2 .ensures);
+      keys = marked-next (v .keys) (a .mark .ensures) (c .mark2 .ensures);
       clear = below-more _ _ (v .clear) (sym (e .before .met .ensures) ∙ e .if2 .left);
     }
 
@@ -45,4 +45,4 @@ returns-3 c e j l = c .before .loop .inv .clear j (omega arith)
 pub some-met-spec : {M : Type 1} → statement M
 some-met-spec =
     tie.close (tie.spec Inv-loop μ-loop returns loop-holds met-requires returns-2 (search needs) (search needs) (search needs) (search needs) (search needs)
-    (search needs) (search needs) (search needs) (search needs) (search needs) loop-again returns-3)
+    (search needs) (search needs) (search needs) loop-again returns-3)
