@@ -45,12 +45,8 @@ fn put_span(out: &mut [u8], at: usize, line: &[u8], s: Span) -> usize
     requires { ⌜ (s .at + s .length < 1024) × (at + s .length ≤ length (now out)) ⌝ }
     ensures { λ r. ⌜ Put (now (out .entry)) at (spanBytes (bodyOf (now (line .entry))) s) r (now (out .exit)) ⌝ }
 {
-    let mut i = 0;
-    while i < s.length {
-        out[at + i] = frame::byte(line, s.at + i);
-        i += 1;
-    }
-    at + i
+    frame::copy(line, s.at, &mut out[at..at + s.length]);
+    at + s.length
 }
 
 // How long the name for a value is.
