@@ -14,7 +14,7 @@ use lib.ListN.{drop, getD, length, set, take, drop-of-length-le, length-set}
 use lib.Pow.{shl-shr}
 use lib.Seq.{drop-cons, getD-set-other, getD-set-same, getD-take}
 use borrow.Author.Count.{below-more}
-use borrow.Author.Tests.{eq-eqb, eqb-true, le-leb, leb-false, lt-leb}
+use borrow.Author.Tests.{eq-eqb, eqb-true, leb-false, lt-leb}
 use Rattle.label.specs.Index.{any, every, firstFrom, tabulate}
 use Rattle.label.specs.Words.{bit}
 use Rattle.label.proofs.BitLaws.{bit-or}

@@ -4,10 +4,9 @@ use mathlib.Core.List.{List, _++_}
 use mathlib.Core.Logic.{⊎-elim}
 use mathlib.Core.Path.{_≡_, refl, sym, ap, ap₂, _∙_}
 use Prim.Native.Nat.{ℕ, zero, suc, _+_, _≤_, _<_}
-use native.Mathlib.Nat.{add-zero}
 use native.Mathlib.Numerals.{add-one}
 use native.Mathlib.Omega.{arith}
-use lib.Dec.{eqb, leb, ltb}
+use lib.Dec.{eqb, leb}
 use lib.ListN.{drop, length, take, length-drop, length-take}
 use lib.Seq.{getD-drop, getD-take, length-take-le, take-all, take-at}
 use borrow.Author.Tests.{eq-eqb, le-leb, le-ltb, lt-ltb}

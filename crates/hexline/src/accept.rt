@@ -141,7 +141,7 @@ fn refused() -> Judged
     }
 }
 
-// The same of a body.
+// Whether a body is that of a valid alias entry, and where the texts of the entry stand in it.
 fn judge(body: &[u8]) -> Judged
     ensures { λ r. ⌜ r .accepted ≡ (entryForm 4 lineWords (now (body .entry)) && validOf (entryIn lineWords (now (body .entry)))) ⌝ }
     ensures { λ r. ⌜ (r .name ≡ layoutOf lineWords (now (body .entry)) 1 .name) × (r .abbreviation ≡ layoutOf lineWords (now (body .entry)) 1 .abbreviation) ⌝ }
