@@ -1,7 +1,6 @@
 // Keys of the names in a table: names that have different keys differ.
 use crate::MAX_LINES;
 use hexline::accept;
-use hexline::accept::ENTRY_BYTES;
 ghost use mathlib.Core.Path.{_≡_};
 ghost use mathlib.Core.Bool.{true, cond};
 ghost use lib.Dec.{leb};
@@ -77,8 +76,7 @@ pub(crate) fn line_keys(line: &[u8]) -> LineKeys
     ensures { λ r. ⌜ r .accepted ≡ isGranted (readEntryOf (now (line .entry))) ⌝ }
     ensures { λ r. ⌜ (r .accepted ≡ true → KeysOf (standingIn (now (line .entry))) (r .name) (r .other) (r .unclear)) ⌝ }
 {
-    let mut body = [0u8; ENTRY_BYTES];
-    let t = accept::decode_entry(line, &mut body);
+    let t = accept::judge_entry(line);
     if !t.accepted {
         return LineKeys {
             accepted: false,
@@ -89,6 +87,7 @@ pub(crate) fn line_keys(line: &[u8]) -> LineKeys
     }
     let n = t.name;
     let a = t.abbreviation;
+    let body = t.body;
     text_keys(
         octets::front(octets::rest(&body, n.at), n.length),
         octets::front(octets::rest(&body, a.at), a.length),

@@ -7,21 +7,25 @@ use Prim.Native.Nat.{ℕ, zero, suc, _+_, _≤_, _<_}
 use native.Mathlib.Numerals.{add-one}
 use native.Mathlib.Omega.{arith}
 use lib.Dec.{eqb, leb}
-use lib.ListN.{drop, length, take, length-drop, length-take}
+use lib.ListN.{drop, length, replicate, take, length-drop, length-take}
 use lib.Seq.{getD-drop, getD-take, length-take-le, take-all, take-at}
 use borrow.Author.Tests.{eq-eqb, le-leb, le-ltb, lt-ltb}
 use Rattle.label.specs.Answer.{isGranted, require, granted}
+use Rattle.label.specs.Buffer.{overlay}
 use Rattle.label.specs.Index.{every, tabulate}
 use Rattle.label.specs.Label
-use Rattle.label.proofs.BoolLaws.{both, first-true, same-truth, second-true}
+use Rattle.label.proofs.BoolLaws.{first-true, same-truth, second-true}
+use Rattle.label.proofs.BufferLaws.{overlay-length}
 use Rattle.label.proofs.IndexLaws.{every-all, every-at, le-or-lt, tabulate-at, tabulate-is, tabulate-length}
 use Rattle.label.proofs.LabelLaws.{equal-exact}
 use Rattle.frame.specs.Frame.{bodyFrom, bodyOf, framedOf}
-use Rattle.hexline.specs.Accept.{TextsAt, partOf, textOk, valueByteOk}
+use Rattle.hexline.specs.Accept.{TextsAt, judgedOf, noEntry, partOf, textOk, valueByteOk}
 use Rattle.hexline.specs.Body.{byteAt, labelAt, labelSize, lineWords}
 use Rattle.hexline.specs.Entry.{atMost, entryFrom, isLetter, isNameByte, labelFrom, layoutOf, maxAbbreviation, maxName, nameByteAt, nameByteOk, nameOf, past, spanBytes, textByte, textFrom, validOf, valueFrom, valueOk, valueSize}
 use Rattle.hexline.specs.Line.{abbreviationIn, contentsOf, entryForm, entryIn, nameIn, readEntryOf}
+use Rattle.hexline.specs.declared.accept.Judged.{Judged}
 use Rattle.hexline.specs.declared.entry.Entry.{Entry}
+use Rattle.hexline.specs.declared.entry.Layout.{Layout}
 use Rattle.hexline.specs.declared.entry.Span.{Span}
 use Rattle.hexline.proofs.EntryLaws.{text-byte}
 use Rattle.hexline.proofs.LineLaws.{entry-form-parts}
@@ -139,30 +143,27 @@ accepted-as line = go (framedOf line) (entryForm 4 lineWords (bodyOf line) && va
     go true false x = refl
     go false v x = refl
 
+accepted-form : (line : List ℕ) → isGranted (readEntryOf line) ≡ true → entryForm 4 lineWords (bodyOf line) ≡ true
+accepted-form line e =
+    let f : Bool = entryForm 4 lineWords (bodyOf line) in
+    let v : Bool = validOf (entryIn lineWords (bodyOf line)) in
+    first-true f v (second-true (framedOf line) (f && v) (sym (accepted-as line) ∙ e))
+
 -- the body of an accepted line has at most 83 bytes
-pub accepted-short : (line : List ℕ) (n : ℕ) → 83 ≤ n → (leb (length (bodyOf line)) n && isGranted (readEntryOf line)) ≡ isGranted (readEntryOf line)
-accepted-short line n h =
-    rw (accepted-as line)
-    (same-truth (leb (length (bodyOf line)) n && t) t (λ e. second-true (leb (length (bodyOf line)) n) t e)
-    (λ e. both (le-leb (length (bodyOf line)) n (omega (arith, form-short (bodyOf line) (first-true f v (second-true (framedOf line) (f && v) e))))) e))
-  where
-    f : Bool
-    f = entryForm 4 lineWords (bodyOf line)
-
-    v : Bool
-    v = validOf (entryIn lineWords (bodyOf line))
-
-    t : Bool
-    t = framedOf line && (f && v)
+pub accepted-short : (line : List ℕ) → isGranted (readEntryOf line) ≡ true → length (bodyOf line) ≤ 83
+accepted-short line e = form-short (bodyOf line) (accepted-form line e)
 
 -- the bytes of its body at the front of a buffer
-pub decoded : (line out copied rest : List ℕ) (n : ℕ) → n ≡ length (bodyOf line) → n ≤ length out → copied ≡ bodyFrom line 0 (length (take n out))
-    → take n (copied ++ rest) ≡ bodyOf line
+pub decoded : (line out copied : List ℕ) (n : ℕ) → n ≡ length (bodyOf line) → n ≤ length out → copied ≡ bodyFrom line 0 (length (take n out))
+    → (copied ++ drop n out) ≡ overlay (bodyOf line) out
 unfolding bodyFrom
-decoded line out copied rest n e h c =
+decoded line out copied n e h c =
     let whole : tabulate (λ k. byteAt (bodyOf line) (0 + k)) (length (bodyOf line)) ≡ bodyOf line = sym
     (tabulate-is (λ k. byteAt (bodyOf line) (0 + k)) (bodyOf line) (length (bodyOf line)) 0 refl (λ i l. ap (byteAt (bodyOf line)) (omega arith))) in
-    ap (λ (t : List ℕ). take n (t ++ rest)) (c ∙ ap (bodyFrom line 0) (length-take-le n out h ∙ e) ∙ whole) ∙ take-at (bodyOf line) rest n (sym e)
+    ap₂ (λ (t : List ℕ) (m : ℕ). t ++ drop m out) (c ∙ ap (bodyFrom line 0) (length-take-le n out h ∙ e) ∙ whole) e
+
+pub front-decoded : (bs out : List ℕ) (n : ℕ) → n ≡ length bs → take n (overlay bs out) ≡ bs
+front-decoded bs out n e = take-at bs (drop (length bs) out) n (sym e)
 
 -- the bytes of a buffer at a span, where a body is at its front
 part-stands : (bs out : List ℕ) (n : ℕ) (s : Span) → take n out ≡ bs → n ≡ length bs → n ≤ length out → past s ≤ n → partOf out s ≡ spanBytes bs s
@@ -192,3 +193,38 @@ texts-at line out n e m p q form =
       name-is = rw p (part-stands (bodyOf line) out n (l .name) e m h (omega (arith, f .size)) ∙ ap (spanBytes (bodyOf line)) (sym (at-most-all maxName (l .name) (f .name))) ∙ sym (name-stands line));
       abbreviation-is = rw q (part-stands (bodyOf line) out n (l .abbreviation) e m h (omega (arith, f .size)) ∙ ap (spanBytes (bodyOf line)) (sym (at-most-all maxAbbreviation (l .abbreviation) (f .abbreviation))) ∙ sym (abbreviation-stands line));
     }
+
+-- ---- what a line is judged to be
+
+pub judged-accepted : (line : List ℕ) → judgedOf line .accepted ≡ isGranted (readEntryOf line)
+unfolding judgedOf
+judged-accepted line = go (isGranted (readEntryOf line)) _ refl
+  where
+    go : (b : Bool) (x : Judged) → x .accepted ≡ true → cond b x noEntry .accepted ≡ b
+    go true x e = e
+    go false x e = refl
+
+pub judged-not : (line : List ℕ) → isGranted (readEntryOf line) ≡ false → noEntry ≡ judgedOf line
+unfolding judgedOf
+judged-not line e = rw e
+
+pub judged-as : (line : List ℕ) {p : Layout} {bs : List ℕ} → isGranted (readEntryOf line) ≡ true → p ≡ layoutOf lineWords (bodyOf line) 1 → bs ≡ overlay (bodyOf line) (replicate 83 0)
+    → record { accepted = true; name = p .name; abbreviation = p .abbreviation; body = bs } ≡ judgedOf line
+unfolding judgedOf
+judged-as line e h k = rw (e, h, k)
+
+pub judged-length : (line : List ℕ) → length (judgedOf line .body) ≡ 83
+unfolding judgedOf
+judged-length line = go (isGranted (readEntryOf line)) refl
+  where
+    go : (b : Bool) → isGranted (readEntryOf line) ≡ b → length (judgedOf line .body) ≡ 83
+    go true e = rw e (overlay-length (bodyOf line) (replicate 83 0) (accepted-short line e))
+    go false e = rw e
+
+-- the texts of an accepted line
+pub judged-texts : (line : List ℕ) → isGranted (readEntryOf line) ≡ true → TextsAt line (judgedOf line .name) (judgedOf line .abbreviation) (judgedOf line .body)
+unfolding judgedOf
+judged-texts line e =
+    rw e
+    (texts-at line (overlay (bodyOf line) (replicate 83 0)) (length (bodyOf line)) (front-decoded (bodyOf line) (replicate 83 0) (length (bodyOf line)) refl)
+    refl refl refl (accepted-form line e))

@@ -9,26 +9,26 @@ use crate::entry::is_name_byte;
 use crate::entry::value_size;
 use label::MAX_HIERARCHY;
 ghost use mathlib.Core.Path.{_≡_};
-ghost use mathlib.Core.Bool.{true, false, _&&_};
+ghost use mathlib.Core.Bool.{true, _&&_};
 ghost use Prim.Native.Nat.{_+_, _<_, _≤_};
-ghost use lib.Dec.{leb};
-ghost use lib.ListN.{length, take};
-ghost use Rattle.label.specs.Answer.{isGranted};
+ghost use lib.ListN.{length};
+ghost use Rattle.label.specs.Buffer.{overlay};
 ghost use Rattle.label.specs.Index.{every};
-ghost use Rattle.frame.specs.Frame.{bodyOf};
-ghost use Rattle.hexline.specs.Accept.{TextsAt, textOk, valueByteOk};
+ghost use Rattle.frame.specs.Frame.{bodyOf, framedOf};
+ghost use Rattle.hexline.specs.Accept.{judgedOf, noEntry, textOk, valueByteOk};
 ghost use Rattle.hexline.specs.Body.{byteAt, lineWords};
 ghost use Rattle.hexline.specs.Entry.{isNameByte, layoutOf, spanOf, validOf};
-ghost use Rattle.hexline.specs.Line.{entryForm, entryIn, readEntryOf};
+ghost use Rattle.hexline.specs.Line.{entryForm, entryIn};
 
 // The longest body of an entry: kind, class, label, and two lengths with their texts.
 pub const ENTRY_BYTES: usize = 83;
 
-// Whether a line is accepted, and then where the texts of its entry stand in its body.
+// Whether a line is accepted; then its body, with zeros behind it, and where the texts of its entry stand there. Zeros where it is not.
 pub struct Judged {
     pub accepted: bool,
     pub name: Span,
     pub abbreviation: Span,
+    pub body: [u8; ENTRY_BYTES],
 }
 
 // Byte i of a body, and 0 past its end.
@@ -126,48 +126,53 @@ fn accepts(body: &[u8]) -> bool
 // The body of a line at the front of out.
 fn decode(line: &[u8], n: usize, out: &mut [u8])
     requires { ⌜ (n ≡ length (bodyOf (now line))) × (n ≤ length (now out)) ⌝ }
-    ensures { λ _. ⌜ take n (now (out .exit)) ≡ bodyOf (now (line .entry)) ⌝ }
+    ensures { λ _. ⌜ now (out .exit) ≡ overlay (bodyOf (now (line .entry))) (now (out .entry)) ⌝ }
 {
     frame::copy(line, 0, &mut out[..n]);
 }
 
 fn refused() -> Judged
-    ensures { λ r. ⌜ r .accepted ≡ false ⌝ }
+    ensures { λ r. ⌜ r ≡ noEntry ⌝ }
 {
     Judged {
         accepted: false,
         name: Span { at: 0, length: 0 },
         abbreviation: Span { at: 0, length: 0 },
+        body: [0u8; ENTRY_BYTES],
     }
 }
 
-// Whether a body is that of a valid alias entry, and where the texts of the entry stand in it.
-fn judge(body: &[u8]) -> Judged
-    ensures { λ r. ⌜ r .accepted ≡ (entryForm 4 lineWords (now (body .entry)) && validOf (entryIn lineWords (now (body .entry)))) ⌝ }
-    ensures { λ r. ⌜ (r .name ≡ layoutOf lineWords (now (body .entry)) 1 .name) × (r .abbreviation ≡ layoutOf lineWords (now (body .entry)) 1 .abbreviation) ⌝ }
+// What a framed line is judged to be, with a body of n bytes.
+fn judge_framed(line: &[u8], n: usize) -> Judged
+    requires { ⌜ (framedOf (now line) ≡ true) × (n ≡ length (bodyOf (now line))) × (n ≤ 83) ⌝ }
+    ensures { λ r. ⌜ r ≡ judgedOf (now (line .entry)) ⌝ }
 {
-    let p = layout(body);
+    let mut body = [0u8; ENTRY_BYTES];
+    decode(line, n, &mut body);
+    if !accepts(octets::front(&body, n)) {
+        return refused();
+    }
+    let p = layout(octets::front(&body, n));
     let name = p.name;
     let abbreviation = p.abbreviation;
     Judged {
-        accepted: accepts(body),
+        accepted: true,
         name,
         abbreviation,
+        body,
     }
 }
 
-// Whether a line is an accepted line of kind 04 whose body fits out: the body is then at the front of out.
-pub fn decode_entry(line: &[u8], out: &mut [u8]) -> Judged
-    ensures { λ r. ⌜ r .accepted ≡ (leb (length (bodyOf (now (line .entry)))) (length (now (out .entry))) && isGranted (readEntryOf (now (line .entry)))) ⌝ }
-    ensures { λ r. ⌜ (r .accepted ≡ true → TextsAt (now (line .entry)) (r .name) (r .abbreviation) (now (out .exit))) ⌝ }
+// What a line is judged to be: an accepted line of kind 04, or not.
+pub fn judge_entry(line: &[u8]) -> Judged
+    ensures { λ r. ⌜ r ≡ judgedOf (now (line .entry)) ⌝ }
 {
     let n = frame::body_length(line);
-    if out.len() < n {
+    if ENTRY_BYTES < n {
         return refused();
     }
     if !frame::framed(line) {
         return refused();
     }
-    decode(line, n, out);
-    judge(octets::front(out, n))
+    judge_framed(line, n)
 }

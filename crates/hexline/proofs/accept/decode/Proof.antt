@@ -13,7 +13,7 @@ returns c =
     let p = c .before .before in
     let start = p .before .before .before .before in
     let a = start .args in
-    decoded (a .line .now) (a .out .now) _ _ (a .n) (start .pre .0) (start .pre .1) (p .copy .ensures)
+    decoded (a .line .now) (a .out .now) _ (a .n) (start .pre .0) (start .pre .1) (p .copy .ensures)
 
 pub decode-spec : {M : Type 1} → statement M
 decode-spec = tie.close (tie.spec (search needs) slice-aggregate-copy (search needs) (search needs) returns)
