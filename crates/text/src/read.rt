@@ -235,8 +235,12 @@ pub fn read_label(table: &[u8], more: bool, s: Subject, text: &[u8]) -> LabelAns
         },
         Outcome::Granted => {
             let lines = t.lines;
-            let starts = lines.starts;
-            read_checked(table, lookup::starts_to(&starts, lines.count), s, text)
+            read_checked(
+                table,
+                lookup::starts_to(&lines.starts, lines.count),
+                s,
+                text,
+            )
         }
     }
 }
@@ -314,8 +318,12 @@ pub fn read_range(table: &[u8], more: bool, s: Subject, text: &[u8]) -> RangeAns
         },
         Outcome::Granted => {
             let lines = t.lines;
-            let starts = lines.starts;
-            read_range_checked(table, lookup::starts_to(&starts, lines.count), s, text)
+            read_range_checked(
+                table,
+                lookup::starts_to(&lines.starts, lines.count),
+                s,
+                text,
+            )
         }
     }
 }

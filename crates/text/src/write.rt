@@ -291,10 +291,9 @@ pub fn write_label(
         Outcome::Refused(e) => Written::Refused(e),
         Outcome::Granted => {
             let lines = t.lines;
-            let starts = lines.starts;
             write_checked(
                 table,
-                lookup::starts_to(&starts, lines.count),
+                lookup::starts_to(&lines.starts, lines.count),
                 s,
                 style,
                 l,
@@ -428,10 +427,9 @@ pub fn write_range(
         Outcome::Refused(e) => with_status(true, Written::Refused(e)),
         Outcome::Granted => {
             let lines = t.lines;
-            let starts = lines.starts;
             write_range_checked(
                 table,
-                lookup::starts_to(&starts, lines.count),
+                lookup::starts_to(&lines.starts, lines.count),
                 s,
                 style,
                 x,
