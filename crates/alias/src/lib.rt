@@ -58,22 +58,25 @@ fn bad(line: usize) -> TableAnswer
 pub fn check(table: &[u8], more: bool) -> TableAnswer
     ensures { λ r. ⌜ Answered (r .outcome) (r .lines) noLines (checkOf more (now (table .entry))) ⌝ }
 {
-    let mut starts = [0usize; MAX_STARTS];
+    let mut lines = LineStarts {
+        count: 0,
+        starts: [0usize; MAX_STARTS],
+    };
     let mut names = [0u32; MAX_LINES];
     let mut others = [0u32; MAX_LINES];
-    let w = walk(table, more, &mut starts, &mut names, &mut others);
-    let count = w.count;
-    let lines = lookup::starts_to(&starts, count);
-    let repeat = repeats::first(table, lines, &names, &others, w.unclear);
+    let w = walk(table, more, &mut lines.starts, &mut names, &mut others);
+    lines.count = w.count;
+    let starts = lookup::starts_to(&lines.starts, w.count);
+    let repeat = repeats::first(table, starts, &names, &others, w.unclear);
     match repeat {
         Found::At(k) => bad(k),
         Found::Nothing => {
             if w.stopped {
-                return bad(count);
+                return bad(w.count);
             }
             TableAnswer {
                 outcome: Outcome::Granted,
-                lines: LineStarts { count, starts },
+                lines,
             }
         }
     }

@@ -18,34 +18,34 @@ lines w = linesFrom (w .walk .result .count) (w .walk .last .1 .1 .0)
 first-requires : tie.Need-first-requires
 first-requires c κs =
     let b = c .before .before in
-    let w = b .before .before in
+    let w = b .before .before .before in
     rw (b .starts-to .ensures) (walk-keys (w .walk .ensures .0) (w .walk .ensures .1))
 
 -- the first repeat among them
 told : (f : tie.After-first) {r : Found} → f .first .result ≡ r
-    → let w = f .before .before .before .before .before in
+    → let w = f .before .before .before .before .before .before in
     foundOf r ≡ firstRepeat (entriesBy (w .before .before .before .before .before .args .table .now) (startsTo (lines w)))
 told f e =
     let b = f .before .before .before in
-    let w = b .before .before in
+    let w = b .before .before .before in
     sym (ap foundOf e) ∙ f .first .ensures ∙ ap (λ xs. firstRepeat (entriesBy (w .before .before .before .before .before .args .table .now) xs)) (b .starts-to .ensures)
 
 returns : tie.Need-returns
 returns c =
     let t = c .before in
     let f = t .before .before .before in
-    rw (check-stopped (f .before .before .before .before .before .walk .ensures .0) (t .if1 .taken) (told f (t .before .enum-told .given .1))) (c .bad2 .ensures)
+    rw (check-stopped (f .before .before .before .before .before .before .walk .ensures .0) (t .if1 .taken) (told f (t .before .enum-told .given .1))) (c .bad2 .ensures)
 
 returns-2 : tie.Need-returns-2
 returns-2 c =
     let r = c .before .before in
     let f = r .before .before in
-    rw (check-repeat (f .before .before .before .before .before .walk .ensures .0) (told f (r .repeat .given .1))) (c .bad .ensures)
+    rw (check-repeat (f .before .before .before .before .before .before .walk .ensures .0) (told f (r .repeat .given .1))) (c .bad .ensures)
 
 returns-3 : tie.Need-returns-3
 returns-3 c =
     let f = c .before .before .before in
-    answers-grant _ noLines _ _ (check-granted (f .before .before .before .before .before .walk .ensures .0) (c .if1 .left) (told f (c .before .enum-told .given .1))) refl
+    answers-grant _ noLines _ _ (check-granted (f .before .before .before .before .before .before .walk .ensures .0) (c .if1 .left) (told f (c .before .enum-told .given .1))) refl
 
 pub check-spec : {M : Type 1} → statement M
 check-spec =
