@@ -14,6 +14,12 @@ impl From<Label> for raw::Label {
     }
 }
 
+impl From<raw::Label> for Label {
+    fn from(label: raw::Label) -> Label {
+        Label { hierarchy: label.hierarchy, categories: label.categories }
+    }
+}
+
 impl From<Range> for raw::Range {
     fn from(range: Range) -> raw::Range {
         raw::Range { low: range.low.into(), high: range.high.into() }

@@ -2,6 +2,7 @@
 
 #[cfg(test)]
 mod agreement;
+mod by_value;
 mod cases;
 mod convert;
 mod harness;

@@ -1,6 +1,7 @@
 //! Dominance and the bounds of pairs of labels, most of which are comparable.
 
 use super::{prepared, Case};
+use crate::by_value;
 use crate::harness::{side, Side, Sides};
 use crate::ordinary::label::{dominates, lower_bound, upper_bound, Label};
 use crate::ordinary::Refusal;
@@ -81,13 +82,30 @@ fn bound(
     ]
 }
 
+/// The ordinary version behind the header's interface, and the proved one.
+fn passed<A: 'static>(
+    random: &mut Random,
+    ordinary: impl Fn(raw::Label, raw::Label) -> A + 'static,
+    proved: impl Fn(raw::Label, raw::Label) -> A + 'static,
+) -> Sides<A> {
+    let pairs = raw_pairs(&pairs(random));
+    vec![
+        side((), pairs.clone(), move |_, (a, b)| ordinary(*a, *b), |_, answer| answer),
+        side((), pairs, move |_, (a, b)| proved(*a, *b), |_, answer| answer),
+    ]
+}
+
 pub fn cases() -> Vec<Case> {
     // SAFETY: the functions take any labels.
+    let dominates = |a, b| unsafe { raw::lurm_dominates(a, b) };
     let upper = |a, b| unsafe { raw::lurm_upper_bound(a, b) };
     let lower = |a, b| unsafe { raw::lurm_lower_bound(a, b) };
     vec![
         Case::new("dominance", dominance),
         Case::new("upper bound", move |random| bound(random, upper_bound, upper)),
         Case::new("lower bound", move |random| bound(random, lower_bound, lower)),
+        Case::new("dominance, by value", move |random| passed(random, |a, b| by_value::dominates(a, b), dominates)),
+        Case::new("upper bound, by value", move |random| passed(random, |a, b| by_value::upper_bound(a, b), upper)),
+        Case::new("lower bound, by value", move |random| passed(random, |a, b| by_value::lower_bound(a, b), lower)),
     ]
 }

@@ -1,6 +1,7 @@
 //! Decisions of the monitor: grants, grants by privilege and denials.
 
 use super::labels::{below, label, label_at};
+use crate::by_value;
 use super::{prepared, Case};
 use crate::harness::{side, Sides};
 use crate::ordinary::label::Label;
@@ -114,9 +115,21 @@ fn decision(random: &mut Random, make: fn(&mut Random) -> Request) -> Sides<raw:
     ]
 }
 
+/// The ordinary version behind the header's interface, and the proved one.
+fn passed(random: &mut Random, make: fn(&mut Random) -> Request) -> Sides<raw::Answer> {
+    let requests: Vec<RawRequest> = prepared(REQUESTS, random, make).iter().map(RawRequest::from).collect();
+    vec![
+        side((), requests.clone(), |_, (c, o, intents, attribute)| by_value::check(*c, *o, *intents, *attribute), |_, answer| answer),
+        // SAFETY: the function takes any values.
+        side((), requests, |_, (c, o, intents, attribute)| unsafe { raw::lurm_check(*c, *o, *intents, *attribute) }, |_, answer| answer),
+    ]
+}
+
 pub fn cases() -> Vec<Case> {
     vec![
         Case::new("decision, file with label", |random| decision(random, labelled_file)),
         Case::new("decision, object with tuple", |random| decision(random, object_with_tuple)),
+        Case::new("decision, file with label, by value", |random| passed(random, labelled_file)),
+        Case::new("decision, object with tuple, by value", |random| passed(random, object_with_tuple)),
     ]
 }

@@ -4,6 +4,7 @@
 //! stored again from the outcome, which is part of the call's time. What a call uses up is put back by one plain assignment, timed in both.
 
 use super::{prepared, Case};
+use crate::by_value;
 use crate::harness::{side, side_with_undo, Side, Sides};
 use crate::ordinary::board::{Board, Place, Segment, Tenant, TenantId, PLACES, TENANTS};
 use crate::ordinary::label::Label;
@@ -115,6 +116,21 @@ fn left<T: Granted>(board: &Board, result: Result<T, Refusal>) -> Left {
     (seen.map(|(value, _)| value).into(), shown, board.into())
 }
 
+fn raw_call(call: &Call<Label>) -> Call<raw::Label> {
+    Call { tenant: call.tenant, label: call.label.into(), place: call.place, number: call.number }
+}
+
+/// A call whose state is stored where the one that was passed stands.
+fn stored(
+    call: impl Fn(&mut raw::Table, &Call<raw::Label>) -> raw::Outcome,
+) -> impl Fn(&mut raw::Table, &Call<raw::Label>) -> (raw::Answer, raw::Segment) {
+    move |table, asked| {
+        let outcome = call(table, asked);
+        *table = outcome.table;
+        (outcome.answer, outcome.shown)
+    }
+}
+
 /// Both versions of a call, and for each how its board is made ready for the next call.
 fn sides_with_undo<T: Granted + 'static>(
     board: &Board,
@@ -124,17 +140,10 @@ fn sides_with_undo<T: Granted + 'static>(
     proved: impl Fn(&mut raw::Table, &Call<raw::Label>) -> raw::Outcome + 'static,
     proved_undo: impl Fn(&mut raw::Table, &Call<raw::Label>) + 'static,
 ) -> Sides<Left> {
-    let raw_call =
-        |call: &Call<Label>| Call { tenant: call.tenant, label: raw::Label::from(call.label), place: call.place, number: call.number };
     let raw_calls = calls.iter().map(raw_call).collect();
-    let stored = move |table: &mut raw::Table, call: &Call<raw::Label>| {
-        let outcome = proved(table, call);
-        *table = outcome.table;
-        (outcome.answer, outcome.shown)
-    };
     vec![
         side_with_undo(board.clone(), calls, ordinary, ordinary_undo, left),
-        side_with_undo(raw::Table::from(board), raw_calls, stored, proved_undo, |table, (answer, shown)| (answer, shown, *table)),
+        side_with_undo(raw::Table::from(board), raw_calls, stored(proved), proved_undo, |table, (answer, shown)| (answer, shown, *table)),
     ]
 }
 
@@ -195,6 +204,20 @@ fn post(random: &mut Random) -> Sides<Left> {
         |board, call| board.post(TenantId(call.tenant), &call.label, Place(call.place as u64), call.number),
         |table, call| unsafe { raw::lurm_post(*table, call.tenant, call.label, call.place as u64, call.number) },
     )
+}
+
+/// The ordinary version behind the header's interface, and the proved one.
+fn post_passed(random: &mut Random) -> Sides<Left> {
+    let board = full_board(random);
+    let table = raw::Table::from(&board);
+    let calls: Vec<_> = own_calls(random, &board).iter().map(raw_call).collect();
+    let passed = |call: fn(raw::Table, &Call<raw::Label>) -> raw::Outcome, calls: Vec<Call<raw::Label>>| {
+        side(table, calls, stored(move |table, asked| call(*table, asked)), |table, (answer, shown)| (answer, shown, *table))
+    };
+    vec![
+        passed(|table, call| by_value::post(table, call.tenant, call.label, call.place as u64, call.number), calls.clone()),
+        passed(|table, call| unsafe { raw::lurm_post(table, call.tenant, call.label, call.place as u64, call.number) }, calls),
+    ]
 }
 
 fn look(random: &mut Random) -> Sides<Left> {
@@ -264,6 +287,7 @@ pub fn cases() -> Vec<Case> {
         Case::new("open, granted", open_granted),
         Case::new("size", size),
         Case::new("post", post),
+        Case::new("post, by value", post_passed),
         Case::new("look", look),
         Case::new("close", close),
         Case::new("admit", admit),

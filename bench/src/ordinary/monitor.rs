@@ -87,6 +87,12 @@ fn intents_valid(intents: u64, class: Class, attribute: u64) -> bool {
 /// Whether a privilege was needed.
 #[inline(never)]
 pub fn check(credentials: &Credentials, object: &Object, intents: u64, attribute: u64) -> Result<bool, Refusal> {
+    check_inlined(credentials, object, intents, attribute)
+}
+
+/// The same, for callers that are timed themselves.
+#[inline(always)]
+pub fn check_inlined(credentials: &Credentials, object: &Object, intents: u64, attribute: u64) -> Result<bool, Refusal> {
     let valid = intents_valid(intents, object.class, attribute) && credentials.is_valid() && object.is_valid();
     require(valid, Refusal::Invalid)?;
     let sets = intents & intent::SET_ATTRIBUTE != 0;
