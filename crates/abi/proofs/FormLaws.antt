@@ -10,8 +10,10 @@ use Rattle.label.specs.Region.{regions}
 use Rattle.label.proofs.IndexLaws.{every-at, tabulate-at, tabulate-is}
 use Rattle.range.specs.Tuple as coreTuples
 use Rattle.range.specs.declared.tuple.RegionRange as coreRegion
+use Rattle.segments.specs.Calls.{Decides, stepOf}
 use Rattle.segments.specs.Replies.{Step, applied, isRefusal}
 use Rattle.segments.specs.Segments as core
+use Rattle.segments.specs.declared.Call.{Call}
 use Rattle.segments.specs.declared.Change.{Change}
 use Rattle.segments.specs.declared.Segment.{Segment}
 use Rattle.segments.specs.declared.SegmentTable.{SegmentTable}
@@ -20,10 +22,12 @@ use Rattle.segments.specs.declared.Tenant as coreTenant
 use Rattle.abi.specs.Flag as flags
 use Rattle.abi.specs.Table as tables
 use Rattle.abi.specs.Tuple as tuples
+use Rattle.abi.specs.declared.table.Outcome.{Outcome}
 use Rattle.abi.specs.declared.table.Table.{Table}
 use Rattle.abi.specs.declared.table.Tenant.{Tenant}
 use Rattle.abi.specs.declared.tuple.RegionRange.{RegionRange}
 use Rattle.abi.specs.declared.tuple.Tuple.{Tuple}
+use Rattle.abi.proofs.AnswerLaws.{call-answered}
 
 flag-back : (n : ℕ) → n ≤ 1 → n ≡ flags.encodedOf (flags.decodedOf n)
 flag-back zero h = refl
@@ -80,6 +84,14 @@ applied-back s c long h l =
     go : (b : Bool) → cond b s (tables.withSegment s (c .slot) (c .segment)) ≡ tables.encodedOf (cond b (tables.decodedOf s) (core.withSegment (tables.decodedOf s) (c .slot) (c .segment)))
     go true = sym back
     go false = ap (λ t. tables.withSegment t (c .slot) (c .segment)) (sym back) ∙ segment-set (tables.decodedOf s) (c .slot) (c .segment)
+
+-- so a call that is decided on the value of a state and made to the state is the call
+pub call-applied : (s : Table) {u : SegmentTable} {c : Call} {x : Change} {formed : Bool} {o : Outcome} → formed ≡ tables.formedOf s → formed ≡ true → u ≡ tables.decodedOf s → Decides u c x
+    → ((tables.formedOf s ≡ true) × (x .slot .0 < core.slots) → o ≡ tables.handedBack (applied (tables.decodedOf s) x))
+    → o ≡ tables.callOf s (tables.formedOf s) (λ v. stepOf v c)
+call-applied s f t e d h =
+    let k = rw e at d in
+    rw (← f, t) (h (sym f ∙ t, k .slot) ∙ call-answered (k .results))
 
 -- a call that is refused hands back the state that was passed, whether its flags are flags or not
 pub refused-call-keeps : (s : Table) → tables.Lengths s → (formed : Bool) → (formed ≡ true → tables.formedOf s ≡ true) → (step : SegmentTable → Step)
