@@ -27,6 +27,7 @@ use Rattle.abi.specs.declared.table.Table.{Table}
 use Rattle.abi.specs.declared.table.Tenant.{Tenant}
 use Rattle.abi.specs.declared.tuple.RegionRange.{RegionRange}
 use Rattle.abi.specs.declared.tuple.Tuple.{Tuple}
+use Rattle.segments.proofs.ResultsLaws.{decides-results, decides-slot}
 use Rattle.abi.proofs.AnswerLaws.{call-answered}
 
 flag-back : (n : ℕ) → n ≤ 1 → n ≡ flags.encodedOf (flags.decodedOf n)
@@ -91,7 +92,7 @@ pub call-applied : (s : Table) {u : SegmentTable} {c : Call} {x : Change} {forme
     → o ≡ tables.callOf s (tables.formedOf s) (λ v. stepOf v c)
 call-applied s f t e d h =
     let k = rw e at d in
-    rw (← f, t) (h (sym f ∙ t, k .slot) ∙ call-answered (k .results))
+    rw (← f, t) (h (sym f ∙ t, decides-slot _ _ k) ∙ call-answered (decides-results _ _ k))
 
 -- a call that is refused hands back the state that was passed, whether its flags are flags or not
 pub refused-call-keeps : (s : Table) → tables.Lengths s → (formed : Bool) → (formed ≡ true → tables.formedOf s ≡ true) → (step : SegmentTable → Step)

@@ -1,20 +1,20 @@
 -- What the proofs of the calls' code need of their answers. Assumes nothing.
 use mathlib.Core.Bool.{Bool, true, false, cond, _&&_, true≢false}
-use mathlib.Core.Option.{some}
+use mathlib.Core.Option.{Option, some}
 use mathlib.Core.Path.{_≡_, refl, sym, ap, ap₂, _∙_}
-use Prim.Native.Nat.{_<_, _≤_}
+use Prim.Native.Nat.{ℕ, _<_, _≤_}
 use borrow.Author.Tests.{lt-ltb}
 use lib.Dec.{lit<, ltb}
-use Rattle.label.specs.Answer.{Answer, andThen, granted, isGranted, refusedBy, require}
+use Rattle.label.specs.Answer.{Answer, andThen, granted, isGranted, refused, refusedBy, require}
 use Rattle.label.specs.Label
 use Rattle.label.specs.declared.Label.{Label}
 use Rattle.label.specs.declared.errno.Errno.{Errno}
 use Rattle.label.specs.declared.errno.Errno.the-variants.{Invalid}
 use Rattle.label.proofs.AnswerLaws.{grant-passed, require-then}
 use Rattle.label.proofs.BoolLaws.{both, first-true, not-so}
-use Rattle.segments.specs.Calls.{Decides, accessOf, answerOf, callOf, callValid, cleared, found, grantOf, numbersValid, pagesFit, permitted, slotFor, slotOr0, slotValid, stepOf, target, written}
+use Rattle.segments.specs.Calls.{Decides, accessOf, answerOf, callOf, callValid, changedSlot, cleared, found, grantOf, numbersValid, pagesFit, permitted, slotFor, slotOr0, slotValid, stepOf, target, written}
 use Rattle.segments.specs.Parts.{Started, namedSlot, startOf, unlabeled}
-use Rattle.segments.specs.Replies.{Answers, Grant, Results, done, isRefusal, labelBeside, leaving, refusedWith, replyOf, shownLabel}
+use Rattle.segments.specs.Replies.{Answers, Grant, Results, applied, done, isRefusal, labelBeside, leaving, refusedWith, replyOf, shownLabel}
 use Rattle.segments.specs.Segments.{ceilingAt, segmentAt, slots, tenants, withSegment}
 use Rattle.segments.specs.Slots.{pagesOf}
 use Rattle.segments.specs.Sound.{sound}
@@ -29,7 +29,7 @@ use Rattle.segments.specs.declared.Segment.{Segment}
 use Rattle.segments.specs.declared.SegmentTable.{SegmentTable}
 use Rattle.segments.specs.declared.Slot.{Slot}
 use Rattle.segments.specs.declared.TenantId.{TenantId}
-use Rattle.segments.proofs.CallsLaws.{slot-found, valid-numbers, valid-slot, valid-tenant}
+use Rattle.segments.proofs.CallsLaws.{granted-passed, valid-numbers, valid-slot, valid-tenant}
 use Rattle.segments.proofs.SoundLaws.{sound-parts}
 
 -- ---- outcomes that show no label
@@ -53,6 +53,12 @@ grant-is-no-refusal Done l g e = refl
 grant-is-no-refusal (Opened p) l g e = refl
 grant-is-no-refusal (Shown x) l g e = refl
 grant-is-no-refusal (Refused x) l g e = absurd (true≢false (sym (ap isGranted e)))
+
+refusal-is : (r : Reply) (l : Label) (n : ℕ) (detail : Option ℕ) → replyOf r l ≡ refused n detail → isRefusal r ≡ true
+refusal-is Done l n detail e = absurd (true≢false (ap isGranted e))
+refusal-is (Opened p) l n detail e = absurd (true≢false (ap isGranted e))
+refusal-is (Shown x) l n detail e = absurd (true≢false (ap isGranted e))
+refusal-is (Refused x) l n detail e = refl
 
 -- what an open writes and answers does not depend on what was in its slot; the others are about the slot that they name
 named-written : (s : SegmentTable) (t : TenantId) (l : Label) (a : Action) → written (segmentAt s (namedSlot a)) l a ≡ written (segmentAt s (slotOr0 (slotFor s t a))) l a
@@ -87,8 +93,7 @@ module _ (s : SegmentTable) (c : Call) where
 
   -- a refusal changes nothing
   pub decides-refused : {x : Change} (e : Errno) → x ≡ refusedWith e → answerOf s c ≡ refusedBy e → Decides s c x
-  unfolding stepOf
-  decides-refused e h k = rw h (record { slot = lit< tt; results = results-refused _ s _ _ e refl k })
+  decides-refused e h k = rw h (record { slot = rw k; segment = rw k; answer = rw k (record { reply = refl; label = refl }) })
 
   pub decides-stopped : {x : Change} (e : Errno) → x ≡ refusedWith e → refusedBy e ≡ startOf s c → Decides s c x
   decides-stopped e h k = decides-refused e h (answer-start ∙ ap (λ (y : Answer Grant). andThen y (λ g. accessOf s c)) (sym k))
@@ -135,19 +140,47 @@ module _ (s : SegmentTable) (c : Call) (w : Started s c) where
       → found (slotFor s (c .tenant) (c .action)) ≡ true → pagesFit s (c .tenant) (c .action) ≡ true → x .slot ≡ target s c
       → y ≡ segmentAt s (namedSlot (c .action)) → x .segment ≡ written y (c .label) (c .action)
       → Answers (x .answer) (granted (grantOf (x .slot) y (c .action))) → Decides s c x
-  unfolding stepOf accessOf
+  unfolding accessOf
   decides-granted {x} {y} a b d e v f g =
       let k : answerOf s c ≡ granted (grantOf (target s c) (segmentAt s (target s c)) (c .action)) = started-answer ∙ rw (a, b, d) in
       let h : granted (grantOf (x .slot) y (c .action)) ≡ granted (grantOf (target s c) (segmentAt s (target s c)) (c .action)) =
       ap granted (ap (λ (z : Segment). grantOf (x .slot) z (c .action)) v ∙ named-grant s (x .slot) (c .tenant) (c .action) ∙ ap (λ (p : Slot). grantOf p (segmentAt s (target s c)) (c .action)) e) in
       record {
-        slot = rw e (started-slot refl (slot-found (slotFor s (c .tenant) (c .action)) b));
-        results =
-            rw k (record {
-              table =
-                  ap (λ (b : Bool). cond b s (withSegment s (x .slot) (x .segment))) (grant-is-no-refusal (x .answer .reply) (x .answer .label) _ (g .reply))
-                  ∙ ap₂ (withSegment s) e (f ∙ ap (λ (z : Segment). written z (c .label) (c .action)) v ∙ named-written s (c .tenant) (c .label) (c .action));
-              answer = g .reply ∙ h;
-              label = g .label ∙ ap labelBeside h;
-            });
+        slot = rw k e;
+        segment = rw k (f ∙ ap (λ (z : Segment). written z (c .label) (c .action)) v ∙ named-written s (c .tenant) (c .label) (c .action));
+        answer = record { reply = g .reply ∙ h ∙ sym k; label = g .label ∙ ap labelBeside (h ∙ sym k) };
       }
+
+-- ---- a change that is what the call does
+
+module _ (s : SegmentTable) (c : Call) {x : Change} (d : Decides s c x) where
+  pub decides-slot : x .slot .0 < slots
+  decides-slot = rw (d .slot) (go (answerOf s c) refl)
+    where
+      go : (y : Answer Grant) → answerOf s c ≡ y → changedSlot y (target s c) .0 < slots
+      go (granted g) e =
+          let r = granted-passed s (c .tenant) (c .label) (c .action) g e in
+          rw (ap slotOr0 (r .slot-is)) (valid-slot s (c .tenant) (c .label) (c .action) (r .slot) (r .is-valid) (r .slot-is))
+      go (refused n detail) e = lit< tt
+
+  -- made to the state, it gives the call's outcome
+  pub decides-results : Results (applied s x) (stepOf s c)
+  unfolding stepOf
+  decides-results = go (answerOf s c) refl
+    where
+      go : (y : Answer Grant) → answerOf s c ≡ y → Results (applied s x) (stepOf s c)
+      go (granted g) e =
+          let a = rw e at (d .answer) in
+          rw e (record {
+            table = ap (λ (b : Bool). cond b s (withSegment s (x .slot) (x .segment))) (grant-is-no-refusal (x .answer .reply) (x .answer .label) g (a .reply))
+                ∙ ap₂ (withSegment s) (rw e at (d .slot)) (rw e at (d .segment));
+            answer = a .reply;
+            label = a .label;
+          })
+      go (refused n detail) e =
+          let a = rw e at (d .answer) in
+          rw e (record {
+            table = ap (λ (b : Bool). cond b s (withSegment s (x .slot) (x .segment))) (refusal-is (x .answer .reply) (x .answer .label) n detail (a .reply));
+            answer = a .reply;
+            label = a .label;
+          })

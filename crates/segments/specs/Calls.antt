@@ -1,13 +1,14 @@
 -- Document 01, "The board": the tenant calls. Assumes nothing.
 use mathlib.Core.Bool.{Bool, true, false, _&&_}
 use mathlib.Core.Option.{Option, none, some}
-use Prim.Native.Nat.{ℕ, _+_, _-_, _<_}
+use mathlib.Core.Path.{_≡_}
+use Prim.Native.Nat.{ℕ, _+_, _-_}
 use lib.Dec.{leb, ltb}
-use Rattle.label.specs.Answer.{Answer, granted, require}
+use Rattle.label.specs.Answer.{Answer, granted, refused, require}
 use Rattle.label.specs.Label
 use Rattle.label.specs.declared.Label.{Label}
 use Rattle.range.specs.Tuple
-use Rattle.segments.specs.Replies.{Grant, Results, Step, applied, done, leaving, opened, shown}
+use Rattle.segments.specs.Replies.{Answers, Grant, Step, done, leaving, opened, shown}
 use Rattle.segments.specs.Segments.{ceilingAt, clearanceAt, pagesAt, pagesValid, segmentAt, segmentOf, slot, slots, withSegment, zeroSegment}
 use Rattle.segments.specs.Slots.{filled, lowestEmpty, owns, pagesOf}
 use Rattle.segments.specs.Sound.{admitted, sound}
@@ -146,7 +147,17 @@ answerOf s c = require (sound s) 22 (require (callValid s c) 22 (require (cleare
 unfoldable pub stepOf : SegmentTable → Call → Step
 stepOf s c = leaving s (withSegment s (target s c) (written (segmentAt s (target s c)) (c .label) (c .action))) (answerOf s c)
 
--- the code's change is what the call does: made to the state, it gives the call's outcome
+-- what a change has beside an answer: the slot that a grant writes and what it gets; zeros beside a refusal
+abbrev pub changedSlot : Answer Grant → Slot → Slot
+changedSlot (granted g) p = p
+changedSlot (refused n detail) p = slot 0
+
+abbrev pub changedSegment : Answer Grant → Segment → Segment
+changedSegment (granted g) x = x
+changedSegment (refused n detail) x = zeroSegment
+
+-- the code's change is what the call does, whole
 pub record Decides (s : SegmentTable) (c : Call) (x : Change) : Type 0 where
-  pub slot : x .slot .0 < slots
-  pub results : Results (applied s x) (stepOf s c)
+  pub slot : x .slot ≡ changedSlot (answerOf s c) (target s c)
+  pub segment : x .segment ≡ changedSegment (answerOf s c) (written (segmentAt s (target s c)) (c .label) (c .action))
+  pub answer : Answers (x .answer) (answerOf s c)
