@@ -20,7 +20,7 @@ use Rattle.segments.specs.declared.Reply.the-variants.{Done, Opened, Shown, Ref
 use Rattle.text.specs.Write as texts
 use Rattle.text.specs.declared.RangeWritten as coreWritten
 use Rattle.abi.specs.Answer.{RangeWrittenTo, WrittenTo, bareAnswer, grant, numberAnswer, numbered, outcomeAnswer, rangeWritten, refusalBy}
-use Rattle.abi.specs.Table.{encodedOf, grantNumber, handedBack, outcome, replyAnswer, segmentBeside, shownOf, stepOutcome}
+use Rattle.abi.specs.Table.{grantNumber, handedBack, outcome, replyAnswer, segmentBeside, shownOf, stepOutcome}
 use Rattle.abi.specs.declared.answer.Answer.{Answer}
 
 -- ---- an outcome and what stands beside it
@@ -65,9 +65,9 @@ reply-shown (RefusedReply e) l = refl
 
 pub call-answered : {o : coreOutcome.Outcome} {x : Step} → Results o x → handedBack o ≡ stepOutcome x
 call-answered {o} {x} h =
-    ap (λ s. outcome (encodedOf s) (replyAnswer r) (segmentBeside r l)) (h .table)
-    ∙ ap (λ a. outcome (encodedOf (x .table)) a (segmentBeside r l)) (reply-answered r l ∙ ap (numbered grantNumber) (h .answer))
-    ∙ ap (outcome (encodedOf (x .table)) (numbered grantNumber (x .answer))) (reply-shown r l ∙ ap shownOf (h .answer))
+    ap (λ s. outcome s (replyAnswer r) (segmentBeside r l)) (h .table)
+    ∙ ap (λ a. outcome (x .table) a (segmentBeside r l)) (reply-answered r l ∙ ap (numbered grantNumber) (h .answer))
+    ∙ ap (outcome (x .table) (numbered grantNumber (x .answer))) (reply-shown r l ∙ ap shownOf (h .answer))
   where
     r : Reply
     r = o .answer .reply

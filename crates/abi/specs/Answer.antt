@@ -22,7 +22,6 @@ use Rattle.text.specs.Write.{Shown, statusOr, textOf}
 use Rattle.text.specs.declared.RangeWritten as coreWritten
 use Rattle.abi.specs.Entry
 use Rattle.abi.specs.Flag
-use Rattle.abi.specs.Tuple
 use Rattle.abi.specs.declared.answer.Answer.{Answer}
 use Rattle.abi.specs.declared.answer.EntryAnswer.{EntryAnswer}
 use Rattle.abi.specs.declared.answer.LabelAnswer.{LabelAnswer}
@@ -77,7 +76,7 @@ abbrev pub withRange : Answer → Range → RangeAnswer
 withRange a x = record { answer = a; range = x }
 
 abbrev pub withTuple : Answer → coreTuple.Tuple → TupleAnswer
-withTuple a t = record { answer = a; tuple = Tuple.encodedOf t }
+withTuple a t = record { answer = a; tuple = t }
 
 -- what is answered; zeros beside a refusal
 abbrev pub labelAnswer : answers.Answer Label → LabelAnswer

@@ -1,7 +1,7 @@
 -- Alias entries as C has them: what an entry names is a number of its own. Assumes nothing.
 use mathlib.Core.Bool.{Bool, true, false, cond, _&&_, _||_}
-use Prim.Native.Nat.{ℕ, _%_}
-use lib.Dec.{eqb, leb}
+use Prim.Native.Nat.{ℕ}
+use lib.Dec.{eqb}
 use lib.ListN.{replicate}
 use Rattle.label.specs.Label
 use Rattle.hexline.specs.Entry.{abbreviationText, maxAbbreviation, maxName, nameText}
@@ -10,12 +10,12 @@ use Rattle.hexline.specs.declared.entry.Value.{Value}
 use Rattle.hexline.specs.declared.entry.Value.the-variants.{Hierarchy, Category, WholeLabel}
 use Rattle.abi.specs.declared.entry.Entry.{Entry}
 
--- 1 a hierarchy, which is a byte; 2 a category; 3 a label, which has no number
+-- 1 a hierarchy; 2 a category; 3 a label, which has no number
 unfoldable pub formedOf : Entry → Bool
-formedOf e = (eqb (e .names) 1 && leb (e .number) 255) || eqb (e .names) 2 || (eqb (e .names) 3 && eqb (e .number) 0)
+formedOf e = eqb (e .names) 1 || eqb (e .names) 2 || (eqb (e .names) 3 && eqb (e .number) 0)
 
 unfoldable pub valueOf : ℕ → ℕ → Value
-valueOf names number = cond (eqb names 1) (Hierarchy (number % 256)) (cond (eqb names 2) (Category number) WholeLabel)
+valueOf names number = cond (eqb names 1) (Hierarchy number) (cond (eqb names 2) (Category number) WholeLabel)
 
 abbrev pub decodedOf : Entry → coreEntry.Entry
 decodedOf e = record { value = valueOf (e .names) (e .number); label = e .label; name = e .name; abbreviation = e .abbreviation }

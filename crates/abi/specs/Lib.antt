@@ -4,4 +4,3 @@ pub mod Flag
 pub mod Request
 pub mod Style
 pub mod Table
-pub mod Tuple

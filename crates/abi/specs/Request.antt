@@ -1,5 +1,5 @@
 -- What the monitor is asked, as C has it. Assumes nothing.
-use mathlib.Core.Bool.{Bool, not, _&&_, _||_}
+use mathlib.Core.Bool.{Bool, _&&_}
 use Prim.Native.Nat.{ℕ}
 use lib.Dec.{leb}
 use Rattle.monitor.specs.Numbers.{classOf, kindOf}
@@ -7,7 +7,6 @@ use Rattle.monitor.specs.declared.Credentials as coreCredentials
 use Rattle.monitor.specs.declared.Object as coreObject
 use Rattle.monitor.specs.declared.Request as coreRequest
 use Rattle.abi.specs.Flag
-use Rattle.abi.specs.Tuple
 use Rattle.abi.specs.declared.request.Credentials.{Credentials}
 use Rattle.abi.specs.declared.request.Object.{Object}
 
@@ -25,14 +24,13 @@ credentialsOf c = record {
   };
 }
 
--- six classes, three kinds; the flags of a tuple that is not there do not count
+-- six classes, three kinds
 abbrev pub objectFormed : Object → Bool
 objectFormed o =
     leb (o .class) 5
     && leb (o .kind) 2
     && Flag.formedOf (o .«has_label»)
     && Flag.formedOf (o .«has_tuple»)
-    && (not (Flag.decodedOf (o .«has_tuple»)) || Tuple.formedOf (o .tuple))
 
 abbrev pub objectOf : Object → coreObject.Object
 objectOf o = record {
@@ -40,7 +38,7 @@ objectOf o = record {
   kind = kindOf (o .kind);
   present = record { label = Flag.decodedOf (o .«has_label»); tuple = Flag.decodedOf (o .«has_tuple») };
   label = o .label;
-  tuple = Tuple.decodedOf (o .tuple);
+  tuple = o .tuple;
 }
 
 abbrev pub requestOf : Credentials → Object → ℕ → ℕ → coreRequest.Request

@@ -1,8 +1,6 @@
 // Answers. A grant and a refusal are told apart by `refusal`, which no grant has and no refusal lacks.
 use crate::entry;
 use crate::entry::Entry;
-use crate::tuple;
-use crate::tuple::Tuple;
 use hexline::Kind;
 use label::Label;
 use label::answer::Number;
@@ -14,6 +12,7 @@ use label::errno::Carried;
 use label::errno::Errno;
 use monitor::Decision;
 use range::Range;
+use range::tuple::Tuple;
 ghost use mathlib.Core.Path.{_≡_};
 ghost use Rattle.label.specs.Answer.{numberAnswerOf, outcomeOf, testOf};
 ghost use Rattle.label.specs.Buffer.{writtenOf};
@@ -166,12 +165,12 @@ pub fn of_range(o: Outcome, range: Range) -> RangeAnswer
     }
 }
 
-pub fn of_tuple(o: Outcome, t: range::tuple::Tuple) -> TupleAnswer
+pub fn of_tuple(o: Outcome, t: Tuple) -> TupleAnswer
     ensures { λ r. ⌜ r ≡ withTuple (outcomeAnswer o 0) t ⌝ }
 {
     TupleAnswer {
         answer: of_outcome(o, 0),
-        tuple: tuple::encode(t),
+        tuple: t,
     }
 }
 

@@ -17,18 +17,18 @@ pub struct Entry {
     pub abbreviation: Abbreviation,
 }
 
-// Whether an entry names what can be named: a hierarchy is a byte, and a label has no number.
+// Whether an entry names what can be named: a label has no number.
 pub fn formed(e: Entry) -> bool
     ensures { λ r. ⌜ r ≡ formedOf e ⌝ }
 {
-    ((e.names == 1) & (e.number <= 255)) | (e.names == 2) | ((e.names == 3) & (e.number == 0))
+    (e.names == 1) | (e.names == 2) | ((e.names == 3) & (e.number == 0))
 }
 
 fn value(names: u32, number: u64) -> Value
     ensures { λ r. ⌜ r ≡ valueOf names number ⌝ }
 {
     if names == 1 {
-        return Value::Hierarchy((number % 256) as u8);
+        return Value::Hierarchy(number);
     }
     if names == 2 {
         return Value::Category(number);
@@ -64,7 +64,7 @@ fn number(v: Value) -> u64
     ensures { λ r. ⌜ r ≡ numberOf v ⌝ }
 {
     match v {
-        Value::Hierarchy(h) => h as u64,
+        Value::Hierarchy(h) => h,
         Value::Category(c) => c,
         Value::WholeLabel => 0,
     }

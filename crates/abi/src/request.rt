@@ -1,11 +1,10 @@
 // What the monitor is asked.
-use crate::tuple;
-use crate::tuple::Tuple;
 use label::Label;
 use monitor::Presence;
 use monitor::Privileges;
 use monitor::numbers;
 use range::Range;
+use range::tuple::Tuple;
 ghost use mathlib.Core.Path.{_≡_};
 ghost use Rattle.abi.specs.Request.{credentialsFormed, credentialsOf, objectFormed, objectOf};
 
@@ -51,21 +50,18 @@ pub fn decode_credentials(c: Credentials) -> monitor::Credentials
     }
 }
 
-// Whether class, kind and flags are some that there are. A tuple that is not there is not looked at.
+// Whether class, kind and flags are some that there are.
 pub fn object_formed(o: Object) -> bool
     ensures { λ r. ⌜ r ≡ objectFormed o ⌝ }
 {
-    (o.class <= 5)
-        & (o.kind <= 2)
-        & (o.has_label <= 1)
-        & (o.has_tuple <= 1)
-        & ((o.has_tuple != 1) | tuple::formed(o.tuple))
+    (o.class <= 5) & (o.kind <= 2) & (o.has_label <= 1) & (o.has_tuple <= 1)
 }
 
 pub fn decode_object(o: Object) -> monitor::Object
     ensures { λ r. ⌜ r ≡ objectOf o ⌝ }
 {
     let label = o.label;
+    let tuple = o.tuple;
     monitor::Object {
         class: numbers::class_of(o.class as u64),
         kind: numbers::kind_of(o.kind as u64),
@@ -74,6 +70,6 @@ pub fn decode_object(o: Object) -> monitor::Object
             tuple: o.has_tuple == 1,
         },
         label,
-        tuple: tuple::decode(o.tuple),
+        tuple,
     }
 }

@@ -7,17 +7,15 @@ use abi::answer::RangeAnswer;
 use abi::answer::TupleAnswer;
 use abi::entry;
 use abi::entry::Entry;
-use abi::tuple;
-use abi::tuple::Tuple;
 use label::Label;
 use label::errno::Errno;
 use range::Range;
+use range::tuple::Tuple;
 ghost use mathlib.Core.Path.{_≡_};
 ghost use Rattle.label.specs.Answer.{require};
 ghost use Rattle.hexline.specs.Line.{entryLineOf, kindOf, labelLineOf, rangeLineOf, readEntryOf, readLabelOf, readRangeOf, readTupleOf, tupleLineOf};
 ghost use Rattle.abi.specs.Answer.{WrittenTo, entryAnswer, labelAnswer, numberAnswer, rangeAnswer, tupleAnswer};
 ghost use Rattle.abi.specs.Entry as entries;
-ghost use Rattle.abi.specs.Tuple as tuples;
 
 #[no_mangle]
 pub extern "C" fn lurm_line_kind(line: &[u8]) -> Answer
@@ -42,12 +40,9 @@ pub extern "C" fn lurm_write_range(x: Range, out: &mut [u8]) -> Answer
 
 #[no_mangle]
 pub extern "C" fn lurm_write_tuple(t: Tuple, out: &mut [u8]) -> Answer
-    ensures { λ r. ⌜ WrittenTo r (require (tuples.formedOf t) 22 (tupleLineOf (tuples.decodedOf t))) (now (out .entry)) (now (out .exit)) ⌝ }
+    ensures { λ r. ⌜ WrittenTo r (tupleLineOf t) (now (out .entry)) (now (out .exit)) ⌝ }
 {
-    if tuple::formed(t) {
-        return answer::of_written(hexline::write_tuple(tuple::decode(t), out));
-    }
-    answer::refused(Errno::Invalid)
+    answer::of_written(hexline::write_tuple(t, out))
 }
 
 #[no_mangle]

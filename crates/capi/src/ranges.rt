@@ -1,14 +1,12 @@
-// Ranges and tuples. A tuple whose flags are no flags is refused first.
+// Ranges and tuples.
 use abi::answer;
 use abi::answer::Answer;
 use abi::answer::RangeAnswer;
 use abi::answer::TupleAnswer;
-use abi::tuple::Tuple;
 use label::Label;
-use label::answer::Outcome;
-use label::errno::Errno;
 use range::Range;
 use range::tuple;
+use range::tuple::Tuple;
 ghost use mathlib.Core.Path.{_≡_};
 ghost use mathlib.Core.Bool.{_&&_};
 ghost use Rattle.label.specs.Answer.{granted, require};
@@ -16,7 +14,6 @@ ghost use Rattle.label.specs.Label as labels;
 ghost use Rattle.range.specs.Range as ranges;
 ghost use Rattle.range.specs.Tuple as tuples;
 ghost use Rattle.abi.specs.Answer.{rangeAnswer, testAnswer, tupleAnswer};
-ghost use Rattle.abi.specs.Tuple.{decodedOf, formedOf};
 
 #[no_mangle]
 pub extern "C" fn lurm_range_contains(x: Range, l: Label) -> Answer
@@ -45,42 +42,30 @@ pub extern "C" fn lurm_range_split(x: Range) -> TupleAnswer
 
 #[no_mangle]
 pub extern "C" fn lurm_tuple_is_empty(t: Tuple) -> Answer
-    ensures { λ r. ⌜ r ≡ testAnswer (require (formedOf t) 22 (require (tuples.validOf (decodedOf t)) 22 (granted (tuples.emptyOf (decodedOf t))))) ⌝ }
+    ensures { λ r. ⌜ r ≡ testAnswer (require (tuples.validOf t) 22 (granted (tuples.emptyOf t))) ⌝ }
 {
-    if abi::tuple::formed(t) {
-        return answer::of_test(tuple::is_empty(abi::tuple::decode(t)));
-    }
-    answer::refused(Errno::Invalid)
+    answer::of_test(tuple::is_empty(t))
 }
 
 #[no_mangle]
 pub extern "C" fn lurm_tuple_contains(t: Tuple, l: Label) -> Answer
-    ensures { λ r. ⌜ r ≡ testAnswer (require (formedOf t) 22 (require (tuples.validOf (decodedOf t) && labels.validOf l) 22 (granted (tuples.containsOf (decodedOf t) l)))) ⌝ }
+    ensures { λ r. ⌜ r ≡ testAnswer (require (tuples.validOf t && labels.validOf l) 22 (granted (tuples.containsOf t l))) ⌝ }
 {
-    if abi::tuple::formed(t) {
-        return answer::of_test(tuple::contains(abi::tuple::decode(t), l));
-    }
-    answer::refused(Errno::Invalid)
+    answer::of_test(tuple::contains(t, l))
 }
 
 #[no_mangle]
 pub extern "C" fn lurm_tuple_within(t: Tuple, u: Tuple) -> Answer
-    ensures { λ r. ⌜ r ≡ testAnswer (require (formedOf t && formedOf u) 22 (require (tuples.validOf (decodedOf t) && tuples.validOf (decodedOf u)) 22 (granted (tuples.withinOf (decodedOf t) (decodedOf u))))) ⌝ }
+    ensures { λ r. ⌜ r ≡ testAnswer (require (tuples.validOf t && tuples.validOf u) 22 (granted (tuples.withinOf t u))) ⌝ }
 {
-    if abi::tuple::formed(t) & abi::tuple::formed(u) {
-        return answer::of_test(tuple::within(abi::tuple::decode(t), abi::tuple::decode(u)));
-    }
-    answer::refused(Errno::Invalid)
+    answer::of_test(tuple::within(t, u))
 }
 
 #[no_mangle]
 pub extern "C" fn lurm_tuple_meet(t: Tuple, u: Tuple) -> TupleAnswer
-    ensures { λ r. ⌜ r ≡ tupleAnswer (require (formedOf t && formedOf u) 22 (require (tuples.validOf (decodedOf t) && tuples.validOf (decodedOf u)) 22 (granted (tuples.meetOf (decodedOf t) (decodedOf u))))) ⌝ }
+    ensures { λ r. ⌜ r ≡ tupleAnswer (require (tuples.validOf t && tuples.validOf u) 22 (granted (tuples.meetOf t u))) ⌝ }
 {
-    if abi::tuple::formed(t) & abi::tuple::formed(u) {
-        let m = tuple::meet(abi::tuple::decode(t), abi::tuple::decode(u));
-        let outcome = m.outcome;
-        return answer::of_tuple(outcome, m.tuple);
-    }
-    answer::of_tuple(Outcome::Refused(Errno::Invalid), tuple::empty())
+    let m = tuple::meet(t, u);
+    let outcome = m.outcome;
+    answer::of_tuple(outcome, m.tuple)
 }

@@ -1,10 +1,10 @@
 -- The laws of labels and ranges as bytes: what is written reads back, and what is read is written as it stands. Assumes nothing.
-use mathlib.Core.Bool.{cond}
+use mathlib.Core.Bool.{cond, true}
 use mathlib.Core.List.{List, [], _∷_, _++_}
 use mathlib.Core.Logic.{⊎-elim}
 use mathlib.Core.Path.{_≡_, sym, ap, ap₂, _∙_}
 use Prim.Native.Nat.{ℕ, zero, suc, _+_, _*_, _/_, _%_, _^_, _≤_, _<_}
-use native.Mathlib.Nat.{add-zero, mod-lt, zero-lt-suc}
+use native.Mathlib.Nat.{add-zero, mod-eq-of-lt, mod-lt, zero-lt-suc}
 use native.Mathlib.Omega.{arith}
 use lib.Dec.{eqb}
 use lib.ListN.{drop, getD, length, take, length-append, length-drop, List·getD-append, List·getD-eq-default}
@@ -14,6 +14,8 @@ use Rattle.label.specs.Index.{tabulate}
 use Rattle.label.specs.Label
 use Rattle.label.specs.Words.{bit, has, wordAt, words}
 use Rattle.label.specs.declared.Label.{Label}
+use Rattle.label.proofs.LabelLaws.{valid-hierarchy}
+use Rattle.range.proofs.RangeLaws.{valid-parts}
 use Rattle.label.proofs.IndexLaws.{le-or-lt, tabulate-at, tabulate-length}
 use Rattle.range.specs.Range
 use Rattle.range.specs.declared.Range.{Range}
@@ -97,10 +99,10 @@ category-byte ws i =
 category-byte-small : (ws : List ℕ) (i : ℕ) → categoryByte ws i < 256
 category-byte-small ws i = rw category-byte (mod-lt (wordAt ws (i / 8) / 256 ^ (i % 8)) (zero-lt-suc 255))
 
-pub label-bytes : (w : ℕ) (l : Label) → l .hierarchy < 256 → Bytes (labelBytes w l)
+pub label-bytes : (w : ℕ) (l : Label) → Bytes (labelBytes w l)
 unfolding labelBytes
-label-bytes w l h zero = h
-label-bytes w l h (suc i) = bytes-tabulate (categoryByte (l .categories)) (8 * w) (category-byte-small (l .categories)) i
+label-bytes w l zero = mod-lt (l .hierarchy) (zero-lt-suc 255)
+label-bytes w l (suc i) = bytes-tabulate (categoryByte (l .categories)) (8 * w) (category-byte-small (l .categories)) i
 
 -- byte k of word j
 pub word-byte : (ws : List ℕ) (j k : ℕ) → k < 8 → categoryByte ws (8 * j + k) ≡ wordAt ws j / 256 ^ k % 256
@@ -121,7 +123,7 @@ word-past w bs i j h = rw (le-ltb j w h)
 pub label-typed : (w : ℕ) (bs : List ℕ) (i : ℕ) → Bytes bs → Label.Typed (labelAt w bs i)
 unfolding labelAt
 label-typed w bs i small =
-    record { hierarchy = small i; length-is = tabulate-length (wordFrom w bs (i + 1)) words; word = tabulate-below (wordFrom w bs (i + 1)) words (2 ^ 64) word }
+    record { hierarchy = let s = small i in omega arith; length-is = tabulate-length (wordFrom w bs (i + 1)) words; word = tabulate-below (wordFrom w bs (i + 1)) words (2 ^ 64) word }
   where
     word : (j : ℕ) → wordFrom w bs (i + 1) j < 2 ^ 64
     word j =
@@ -129,18 +131,18 @@ label-typed w bs i small =
         (λ p. rw (word-from w bs (i + 1) j p) (number-bound 256 (byteAt bs) small (i + 1 + 8 * j) 8)) (le-or-lt w j)
 
 -- the bytes of a label read back as the label
-pub label-back : (w : ℕ) (bs : List ℕ) (i : ℕ) (l : Label) → Holds bs i (labelBytes w l) → Label.Typed l → Within w l → labelAt w bs i ≡ l
+pub label-back : (w : ℕ) (bs : List ℕ) (i : ℕ) (l : Label) → Holds bs i (labelBytes w l) → Label.Typed l → Label.validOf l ≡ true → Within w l → labelAt w bs i ≡ l
 unfolding labelBytes labelAt
-label-back w bs i l h t within = ap₂ Label.labelOf first rest
+label-back w bs i l h t v within = ap₂ Label.labelOf first rest
   where
     cats : List ℕ
     cats = l .categories
 
-    size : length (l .hierarchy ∷ tabulate (categoryByte cats) (8 * w)) ≡ labelSize w
+    size : length (l .hierarchy % 256 ∷ tabulate (categoryByte cats) (8 * w)) ≡ labelSize w
     size = let t = tabulate-length (categoryByte cats) (8 * w) in omega arith
 
     first : byteAt bs i ≡ l .hierarchy
-    first = ap (byteAt bs) (sym (add-zero i)) ∙ h 0 (omega (arith, size))
+    first = ap (byteAt bs) (sym (add-zero i)) ∙ h 0 (omega (arith, size)) ∙ mod-eq-of-lt (let s = valid-hierarchy l v in omega arith)
 
     digit : (j k : ℕ) → j < w → k < 8 → byteAt bs (i + 1 + 8 * j + k) ≡ wordAt cats j / 256 ^ k % 256
     digit j k lj lk =
@@ -167,8 +169,8 @@ label-forth w bs i small fits h =
     ws : List ℕ
     ws = tabulate (wordFrom w bs (i + 1)) words
 
-    at-index : (k : ℕ) → k < labelSize w → getD (byteAt bs i ∷ tabulate (categoryByte ws) (8 * w)) k 0 ≡ getD bs (i + k) 0
-    at-index zero p = ap (byteAt bs) (sym (add-zero i))
+    at-index : (k : ℕ) → k < labelSize w → getD (byteAt bs i % 256 ∷ tabulate (categoryByte ws) (8 * w)) k 0 ≡ getD bs (i + k) 0
+    at-index zero p = mod-eq-of-lt (small i) ∙ ap (byteAt bs) (sym (add-zero i))
     at-index (suc m) p =
         let q : m / 8 < w = omega arith in
         tabulate-at (categoryByte ws) (8 * w) m 0 (omega arith)
@@ -184,17 +186,18 @@ pub range-length : (w : ℕ) (x : Range) → length (rangeBytes w x) ≡ rangeSi
 unfolding rangeBytes
 range-length w x = length-append (labelBytes w (x .low)) (labelBytes w (x .high)) ∙ ap₂ _+_ (label-length w (x .low)) (label-length w (x .high))
 
-pub range-bytes : (w : ℕ) (x : Range) → Range.TypedRange x → Bytes (rangeBytes w x)
+pub range-bytes : (w : ℕ) (x : Range) → Bytes (rangeBytes w x)
 unfolding rangeBytes
-range-bytes w x t =
-    bytes-append (labelBytes w (x .low)) (labelBytes w (x .high)) (label-bytes w (x .low) (t .low .hierarchy)) (label-bytes w (x .high) (t .high .hierarchy))
+range-bytes w x =
+    bytes-append (labelBytes w (x .low)) (labelBytes w (x .high)) (label-bytes w (x .low)) (label-bytes w (x .high))
 
-pub range-back : (w : ℕ) (bs : List ℕ) (i : ℕ) (x : Range) → Holds bs i (rangeBytes w x) → Range.TypedRange x → Within w (x .low) → Within w (x .high) → rangeAt w bs i ≡ x
+pub range-back : (w : ℕ) (bs : List ℕ) (i : ℕ) (x : Range) → Holds bs i (rangeBytes w x) → Range.TypedRange x → Range.validOf x ≡ true → Within w (x .low) → Within w (x .high) → rangeAt w bs i ≡ x
 unfolding rangeBytes rangeAt
-range-back w bs i x h t wl wh =
+range-back w bs i x h t v wl wh =
+    let ends = valid-parts x v in
     let n = label-length w (x .low) in
-    ap₂ Range.rangeOf (label-back w bs i (x .low) (holds-first bs i (labelBytes w (x .low)) (labelBytes w (x .high)) h) (t .low) wl)
-    (label-back w bs (i + labelSize w) (x .high) (holds-second bs i (i + labelSize w) (labelBytes w (x .low)) (labelBytes w (x .high)) (omega arith) h) (t .high) wh)
+    ap₂ Range.rangeOf (label-back w bs i (x .low) (holds-first bs i (labelBytes w (x .low)) (labelBytes w (x .high)) h) (t .low) (ends .low) wl)
+    (label-back w bs (i + labelSize w) (x .high) (holds-second bs i (i + labelSize w) (labelBytes w (x .low)) (labelBytes w (x .high)) (omega arith) h) (t .high) (ends .high) wh)
 
 -- two parts that stand side by side
 pub parts-join : (i m n : ℕ) (bs : List ℕ) → part i m bs ++ part (i + m) n bs ≡ part i (m + n) bs

@@ -37,6 +37,9 @@ unfolding valueOk
 hierarchy-small h l e =
     valid-hierarchy (Label.labelOf h []) (first-true (Label.validOf (Label.labelOf h [])) (Label.equalOf l Label.zeroLabel) e)
 
+pub hierarchy-byte : (h : ℕ) (l : Label) → valueOk (Hierarchy h) l ≡ true → h < 256
+hierarchy-byte h l e = let s = hierarchy-small h l e in omega arith
+
 pub record Valid (e : Entry) : Type 0 where
   pub value : valueOk (e .value) (e .label) ≡ true
   pub named : 1 ≤ e .name .length
@@ -157,7 +160,7 @@ pub value-bytes : (w : ℕ) (v : Value) (l : Label) → Label.Typed l → valueO
 unfolding valueBytes
 value-bytes w (Hierarchy h) l t e = cons-bytes h [] (let s = hierarchy-small h l e in omega arith) (λ i. omega arith)
 value-bytes w (Category c) l t e = cons-bytes c [] (category-small c l e) (λ i. omega arith)
-value-bytes w WholeLabel l t e = label-bytes w l (t .hierarchy)
+value-bytes w WholeLabel l t e = label-bytes w l
 
 zero-typed : Label.Typed Label.zeroLabel
 zero-typed = record { hierarchy = omega arith; length-is = refl; word = word }
@@ -187,7 +190,7 @@ value-back w bs i (Hierarchy h) l t within e here =
     (ap Hierarchy (ap (byteAt bs) (sym (add-zero i)) ∙ here 0 (omega arith)), no-label l t (second-true (Label.validOf (Label.labelOf h [])) (Label.equalOf l Label.zeroLabel) e))
 value-back w bs i (Category c) l t within e here =
     (ap Category (ap (byteAt bs) (sym (add-zero i)) ∙ here 0 (omega arith)), no-label l t (second-true (ltb c 256) (Label.equalOf l Label.zeroLabel) e))
-value-back w bs i WholeLabel l t within e here = (refl, label-back w bs i l here t within)
+value-back w bs i WholeLabel l t within e here = (refl, label-back w bs i l here t e within)
 
 -- a value that is read is written as the bytes that it was read from
 pub value-forth : (w : ℕ) (bs : List ℕ) (class i : ℕ) → Bytes bs → w ≤ words → 1 ≤ class → class ≤ 3 → i + valueSize w class ≤ length bs

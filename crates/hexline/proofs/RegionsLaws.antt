@@ -8,6 +8,7 @@ use native.Mathlib.Nat.{add-mul, eq-or-lt-of-le, lt-of-lt-of-le, mod-lt, mul-le-
 use native.Mathlib.Numerals.{add-one}
 use native.Mathlib.Omega.{arith}
 use lib.Dec.{eqb}
+use borrow.Author.Tests.{eqb-true}
 use lib.ListN.{length, length-append}
 use lib.Pow.{pow-mono}
 use lib.Seq.{ext-getD}
@@ -20,7 +21,7 @@ use Rattle.range.specs.Tuple
 use Rattle.range.specs.declared.Range.{Range}
 use Rattle.range.specs.declared.tuple.RegionRange.{RegionRange}
 use Rattle.range.specs.declared.tuple.Tuple.{Tuple}
-use Rattle.range.proofs.TupleLaws.{range-of, valid-absent, valid-region}
+use Rattle.range.proofs.TupleLaws.{range-of, valid-absent, valid-placed, valid-region}
 use Rattle.frame.proofs.FrameLaws.{Bytes, bytes-append}
 use Rattle.hexline.specs.Body.{numberOf, rangeAt, rangeBytes, rangeSize}
 use Rattle.hexline.specs.Regions.{presenceOf, presentAt, presentBelow, regionAt, regionBytes, regionsBytes, tupleAt}
@@ -29,11 +30,11 @@ use Rattle.hexline.proofs.NumberLaws.{as-number, number-bound, number-d
 
 -- ---- one region
 
-pub region-there : (w : ℕ) (e : RegionRange) → e .present ≡ true → regionBytes w e ≡ rangeBytes w (e .range)
+pub region-there : (w : ℕ) (e : RegionRange) → Tuple.isThere e ≡ true → regionBytes w e ≡ rangeBytes w (e .range)
 unfolding regionBytes
 region-there w e h = rw h
 
-pub region-none : (w : ℕ) (e : RegionRange) → e .present ≡ false → regionBytes w e ≡ []
+pub region-none : (w : ℕ) (e : RegionRange) → Tuple.isThere e ≡ false → regionBytes w e ≡ []
 unfolding regionBytes
 region-none w e h = rw h
 
@@ -52,9 +53,9 @@ by-present : {A : Type 0} (b : Bool) → (b ≡ true → A) → (b ≡ false →
 by-present true f g = f refl
 by-present false f g = g refl
 
-region-size : (w : ℕ) (e : RegionRange) → length (regionBytes w e) ≡ cond (e .present) 1 0 * rangeSize w
+region-size : (w : ℕ) (e : RegionRange) → length (regionBytes w e) ≡ cond (Tuple.isThere e) 1 0 * rangeSize w
 region-size w e =
-    by-present (e .present) (λ h. ap length (region-there w e h) ∙ range-length w (e .range) ∙ sym (ap (λ (b : Bool). cond b 1 0 * rangeSize w) h ∙ omega arith))
+    by-present (Tuple.isThere e) (λ h. ap length (region-there w e h) ∙ range-length w (e .range) ∙ sym (ap (λ (b : Bool). cond b 1 0 * rangeSize w) h ∙ omega arith))
     (λ h. ap length (region-none w e h) ∙ sym (ap (λ (b : Bool). cond b 1 0 * rangeSize w) h ∙ omega arith))
 
 pub one-of : (b : Bool) → cond b 1 0 ≤ 1
@@ -68,12 +69,12 @@ regions-size w t (suc n) =
     let ih : length (regionsBytes w t n) ≤ n * rangeSize w = regions-size w t n in
     let a = length-append (regionsBytes w t n) (regionBytes w (Tuple.rangeAt t n)) in
     let e = region-size w (Tuple.rangeAt t n) in
-    let m : cond (Tuple.rangeAt t n .present) 1 0 * rangeSize w ≤ 1 * rangeSize w = mul-le-mul-right (rangeSize w) (one-of (Tuple.rangeAt t n .present)) in
+    let m : cond (Tuple.isThere (Tuple.rangeAt t n)) 1 0 * rangeSize w ≤ 1 * rangeSize w = mul-le-mul-right (rangeSize w) (one-of (Tuple.isThere (Tuple.rangeAt t n))) in
     let s = suc-mul n (rangeSize w) in
     omega arith
 
 -- where all are there, exactly
-pub regions-full : (w : ℕ) (t : Tuple) (n : ℕ) → ((r : ℕ) → r < n → Tuple.rangeAt t r .present ≡ true) → length (regionsBytes w t n) ≡ n * rangeSize w
+pub regions-full : (w : ℕ) (t : Tuple) (n : ℕ) → ((r : ℕ) → r < n → Tuple.isThere (Tuple.rangeAt t r) ≡ true) → length (regionsBytes w t n) ≡ n * rangeSize w
 unfolding regionsBytes
 regions-full w t zero h = sym (zero-mul (rangeSize w))
 regions-full w t (suc n) h =
@@ -115,7 +116,7 @@ present-room p r n s h e =
 -- ---- the byte of presence
 
 pub present-small : (t : Tuple) (r : ℕ) → presentAt t r < 2
-present-small t r = let one = one-of (Tuple.rangeAt t r .present) in omega arith
+present-small t r = let one = one-of (Tuple.isThere (Tuple.rangeAt t r)) in omega arith
 
 -- the bits past the lowest leave room for one more
 pub presence-room : (t : Tuple) (r n : ℕ) → n ≤ 2 → numberOf 2 (presentAt t) r n < 4
@@ -129,10 +130,10 @@ as-bit : (b : Bool) → eqb (cond b 1 0) 1 ≡ b
 as-bit true = refl
 as-bit false = refl
 
-presence-bit : (t : Tuple) (r : ℕ) → r < regions → bit (presenceOf t) r ≡ Tuple.rangeAt t r .present
+presence-bit : (t : Tuple) (r : ℕ) → r < regions → bit (presenceOf t) r ≡ Tuple.isThere (Tuple.rangeAt t r)
 unfolding bit presenceOf
 presence-bit t r h =
-    ap (λ (x : ℕ). eqb x 1) (number-digit 2 (presentAt t) (present-small t) 0 regions r h ∙ ap (presentAt t) (omega arith)) ∙ as-bit (Tuple.rangeAt t r .present)
+    ap (λ (x : ℕ). eqb x 1) (number-digit 2 (presentAt t) (present-small t) 0 regions r h ∙ ap (presentAt t) (omega arith)) ∙ as-bit (Tuple.isThere (Tuple.rangeAt t r))
 
 presence-below : (w : ℕ) (t : Tuple) (n : ℕ) → n ≤ regions → length (regionsBytes w t n) ≡ presentBelow (presenceOf t) n * rangeSize w
 unfolding regionsBytes presentBelow
@@ -151,15 +152,15 @@ presence-size w t = presence-below w t regions (omega arith)
 abbrev pub WithinTuple : ℕ → Tuple → Type 0
 WithinTuple w t = (r : ℕ) → r < regions → Within w (Tuple.rangeAt t r .range .low) × Within w (Tuple.rangeAt t r .range .high)
 
-region-bytes : (w : ℕ) (e : RegionRange) → Range.TypedRange (e .range) → Bytes (regionBytes w e)
-region-bytes w e t =
-    by-present (e .present) (λ h. rw (region-there w e h) (range-bytes w (e .range) t)) (λ h. rw (region-none w e h) (λ i. omega arith))
+region-bytes : (w : ℕ) (e : RegionRange) → Bytes (regionBytes w e)
+region-bytes w e =
+    by-present (Tuple.isThere e) (λ h. rw (region-there w e h) (range-bytes w (e .range))) (λ h. rw (region-none w e h) (λ i. omega arith))
 
-pub regions-bytes : (w : ℕ) (t : Tuple) → Tuple.TypedTuple t → (n : ℕ) → n ≤ regions → Bytes (regionsBytes w t n)
+pub regions-bytes : (w : ℕ) (t : Tuple) → (n : ℕ) → n ≤ regions → Bytes (regionsBytes w t n)
 unfolding regionsBytes
-regions-bytes w t ty zero h = λ i. omega arith
-regions-bytes w t ty (suc n) h =
-    bytes-append (regionsBytes w t n) (regionBytes w (Tuple.rangeAt t n)) (regions-bytes w t ty n (omega arith)) (region-bytes w (Tuple.rangeAt t n) (ty .range n h))
+regions-bytes w t zero h = λ i. omega arith
+regions-bytes w t (suc n) h =
+    bytes-append (regionsBytes w t n) (regionBytes w (Tuple.rangeAt t n)) (regions-bytes w t n (omega arith)) (region-bytes w (Tuple.rangeAt t n))
 
 -- the regions below n stand first
 holds-below : (w : ℕ) (t : Tuple) (bs : List ℕ) (i m n : ℕ) → m ≤ n → Holds bs i (regionsBytes w t n) → Holds bs i (regionsBytes w t m)
@@ -172,12 +173,12 @@ module _ (w : ℕ) (t : Tuple) (bs : List ℕ) (i : ℕ) (ty : Tuple.TypedTuple 
     (h : Holds bs i (regionsBytes w t regions)) where
   region-back : (r : ℕ) → r < regions → regionAt w bs (presenceOf t) i r ≡ Tuple.rangeAt t r
   unfolding regionAt
-  region-back r l = by-present (e .present) there none
+  region-back r l = by-present (Tuple.isThere e) there none
     where
       e : RegionRange
       e = Tuple.rangeAt t r
 
-      same : bit (presenceOf t) r ≡ e .present
+      same : bit (presenceOf t) r ≡ Tuple.isThere e
       same = presence-bit t r l
 
       here : Holds bs (i + presentBelow (presenceOf t) r * rangeSize w) (regionBytes w e)
@@ -185,13 +186,13 @@ module _ (w : ℕ) (t : Tuple) (bs : List ℕ) (i : ℕ) (ty : Tuple.TypedTuple 
           holds-second bs i (i + presentBelow (presenceOf t) r * rangeSize w) (regionsBytes w t r) (regionBytes w e) (ap (λ (n : ℕ). i + n) (sym (presence-below w t r (omega arith))))
           (rw (← regions-next w t r) (holds-below w t bs i (r + 1) regions (omega arith) h))
 
-      there : e .present ≡ true → regionAt w bs (presenceOf t) i r ≡ e
+      there : Tuple.isThere e ≡ true → regionAt w bs (presenceOf t) i r ≡ e
       there p =
-          let x = range-back w bs (i + presentBelow (presenceOf t) r * rangeSize w) (e .range) (rw (region-there w e p) at here) (ty .range r l) (within r l .0) (within r l .1) in
+          let x = range-back w bs (i + presentBelow (presenceOf t) r * rangeSize w) (e .range) (rw (region-there w e p) at here) (ty .range r l) (valid-placed r e p (valid-region t valid r l) .valid) (within r l .0) (within r l .1) in
           ap (λ (b : Bool). cond b (Tuple.present (rangeAt w bs (i + presentBelow (presenceOf t) r * rangeSize w))) Tuple.absent) (same ∙ p)
-          ∙ ap₂ (λ (b : Bool) (y : Range). record { present = b; range = y }) (sym p) x
+          ∙ ap₂ (λ (n : ℕ) (y : Range). record { present = n; range = y }) (sym (eqb-true (e .present) 1 p)) x
 
-      none : e .present ≡ false → regionAt w bs (presenceOf t) i r ≡ e
+      none : Tuple.isThere e ≡ false → regionAt w bs (presenceOf t) i r ≡ e
       none p =
           ap (λ (b : Bool). cond b (Tuple.present (rangeAt w bs (i + presentBelow (presenceOf t) r * rangeSize w))) Tuple.absent) (same ∙ p)
           ∙ sym (valid-absent r e (ty .range r l) p (valid-region t valid r l))
@@ -210,7 +211,7 @@ module _ (w : ℕ) (bs : List ℕ) (p i : ℕ) where
   unfolding tupleAt
   at-region r h = range-of (regionAt w bs p i) r h
 
-  region-present : (r : ℕ) → regionAt w bs p i r .present ≡ bit p r
+  region-present : (r : ℕ) → Tuple.isThere (regionAt w bs p i r) ≡ bit p r
   unfolding regionAt
   region-present r = by-present (bit p r) (λ e. rw e) (λ e. rw e)
 
@@ -218,7 +219,7 @@ module _ (w : ℕ) (bs : List ℕ) (p i : ℕ) where
   unfolding presenceOf bit
   presence-forth h =
       number-only 2 (presentAt (tupleAt w bs p i)) (zero-lt-suc 1) 0 regions p
-      (λ r l. ap (presentAt (tupleAt w bs p i)) (omega arith) ∙ ap (λ (e : RegionRange). cond (e .present) 1 0) (at-region r l)
+      (λ r l. ap (presentAt (tupleAt w bs p i)) (omega arith) ∙ ap (λ (e : RegionRange). cond (Tuple.isThere e) 1 0) (at-region r l)
       ∙ ap (λ (b : Bool). cond b 1 0) (region-present r) ∙ as-number (p / 2 ^ r % 2) (mod-lt (p / 2 ^ r) (zero-lt-suc 1)))
       h
 

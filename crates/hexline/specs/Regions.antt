@@ -15,13 +15,13 @@ use Rattle.hexline.specs.Body.{numberOf, rangeAt, rangeBytes, rangeSize}
 
 -- 1 where the range of region r is there, else 0
 abbrev pub presentAt : Tuple → ℕ → ℕ
-presentAt t r = cond (Tuple.rangeAt t r .present) 1 0
+presentAt t r = cond (Tuple.isThere (Tuple.rangeAt t r)) 1 0
 
 unfoldable pub presenceOf : Tuple → ℕ
 presenceOf t = numberOf 2 (presentAt t) 0 regions
 
 unfoldable pub regionBytes : ℕ → RegionRange → List ℕ
-regionBytes w e = cond (e .present) (rangeBytes w (e .range)) []
+regionBytes w e = cond (Tuple.isThere e) (rangeBytes w (e .range)) []
 
 -- the ranges of the first n regions
 unfoldable pub regionsBytes : ℕ → Tuple → ℕ → List ℕ

@@ -85,7 +85,7 @@ fn formed(body: &[u8], p: Layout) -> bool
 fn value_ok(class: u8, b: u8) -> bool
     ensures { λ r. ⌜ r ≡ valueByteOk class b ⌝ }
 {
-    (class == 2) | (b <= MAX_HIERARCHY)
+    (class == 2) | (b as u64 <= MAX_HIERARCHY)
 }
 
 // Whether all bytes are name bytes. The loop has no early exit, so that it can take several bytes at a time.

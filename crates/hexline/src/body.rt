@@ -34,7 +34,7 @@ pub(crate) fn put_label(out: &mut [u8], at: usize, l: Label, words: usize) -> us
     requires { ⌜ (words ≤ setWords) × (at + labelSize words ≤ length (now out)) ⌝ }
     ensures { λ r. ⌜ Appended (now (out .entry)) at (labelBytes words l) r (now (out .exit)) ⌝ }
 {
-    out[at] = l.hierarchy;
+    out[at] = (l.hierarchy % 256) as u8;
     let categories = l.categories;
     let mut j = 0;
     while j < words {
@@ -93,7 +93,7 @@ pub(crate) fn label_at(line: &[u8], at: usize, words: usize) -> Label
         j += 1;
     }
     Label {
-        hierarchy: bytes[0],
+        hierarchy: bytes[0] as u64,
         categories,
     }
 }

@@ -22,7 +22,7 @@ pub const MAX_ABBREVIATION: usize = 15;
 
 // What an alias stands for. A label stands beside it.
 pub enum Value {
-    Hierarchy(u8),
+    Hierarchy(u64),
     Category(u64),
     WholeLabel,
 }
@@ -173,7 +173,7 @@ fn put_value(out: &mut [u8], at: usize, v: Value, l: Label, words: usize) -> usi
     ensures { λ r. ⌜ Appended (now (out .entry)) at (valueBytes words v l) r (now (out .exit)) ⌝ }
 {
     match v {
-        Value::Hierarchy(h) => put_byte(out, at, h),
+        Value::Hierarchy(h) => put_byte(out, at, (h % 256) as u8),
         Value::Category(c) => put_byte(out, at, (c % 256) as u8),
         Value::WholeLabel => put_label(out, at, l, words),
     }
@@ -276,7 +276,7 @@ pub(crate) fn value_from(class: u8, b: u8) -> Value
     ensures { λ r. ⌜ r ≡ valueFrom class b ⌝ }
 {
     if class == 1 {
-        return Value::Hierarchy(b);
+        return Value::Hierarchy(b as u64);
     }
     if class == 2 {
         return Value::Category(b as u64);

@@ -19,7 +19,7 @@ fn present_at(t: Tuple, r: usize) -> u8
     requires { ⌜ r < regions ⌝ }
     ensures { λ p. ⌜ p ≡ presentAt t r ⌝ }
 {
-    if t.ranges[r].present { 1 } else { 0 }
+    if t.ranges[r].present == 1 { 1 } else { 0 }
 }
 
 // The byte of presence.
@@ -39,7 +39,7 @@ fn put_region(out: &mut [u8], at: usize, e: RegionRange, words: usize) -> usize
     requires { ⌜ (words ≤ setWords) × (at + rangeSize words ≤ length (now out)) ⌝ }
     ensures { λ r. ⌜ Appended (now (out .entry)) at (regionBytes words e) r (now (out .exit)) ⌝ }
 {
-    if e.present {
+    if e.present == 1 {
         return put_range(out, at, e.range, words);
     }
     at
@@ -97,7 +97,7 @@ fn region_at(line: &[u8], p: u8, at: usize, r: usize, words: usize) -> RegionRan
     if has_region(p, r) {
         let size = (1 + 8 * words) + (1 + 8 * words);
         return RegionRange {
-            present: true,
+            present: 1,
             range: range_at(line, at + present_below(p, r) * size, words),
         };
     }

@@ -46,6 +46,6 @@ nextAnswerOf (Refused e) = refusedBy e
 
 -- what every value of the code's type Label has (`label::typed` proves it): laws that need it are laws of every label that there is
 pub record Typed (a : Label) : Type 0 where
-  pub hierarchy : a .hierarchy < 2 ^ 8
+  pub hierarchy : a .hierarchy < 2 ^ 64
   pub length-is : length (a .categories) ≡ words
   pub word : (i : ℕ) → wordAt (a .categories) i < 2 ^ 64

@@ -7,35 +7,35 @@ ghost use Prim.Native.Nat.{max, min};
 ghost use Rattle.label.specs.Label.{dominatesOf, equalOf, labelOf, lowerBoundOf, upperBoundOf};
 
 // Whether the first label dominates the second.
-pub fn dominates(ah: u8, ac: [u64; WORDS], bh: u8, bc: [u64; WORDS]) -> bool
+pub fn dominates(ah: u64, ac: [u64; WORDS], bh: u64, bc: [u64; WORDS]) -> bool
     ensures { λ r. ⌜ r ≡ dominatesOf (labelOf ah ac) (labelOf bh bc) ⌝ }
 {
     (bh <= ah) & words::includes(ac, bc)
 }
 
 // Whether the two labels are equal.
-pub fn equal(ah: u8, ac: [u64; WORDS], bh: u8, bc: [u64; WORDS]) -> bool
+pub fn equal(ah: u64, ac: [u64; WORDS], bh: u64, bc: [u64; WORDS]) -> bool
     ensures { λ r. ⌜ r ≡ equalOf (labelOf ah ac) (labelOf bh bc) ⌝ }
 {
     (ah == bh) & words::same(ac, bc)
 }
 
 // The larger of two hierarchy numbers.
-pub fn higher(x: u8, y: u8) -> u8
+pub fn higher(x: u64, y: u64) -> u64
     ensures { λ r. ⌜ r ≡ max x y ⌝ }
 {
     if x < y { y } else { x }
 }
 
 // The smaller of two hierarchy numbers.
-pub fn lower(x: u8, y: u8) -> u8
+pub fn lower(x: u64, y: u64) -> u64
     ensures { λ r. ⌜ r ≡ min x y ⌝ }
 {
     if x < y { x } else { y }
 }
 
 // The upper bound of two labels: the larger hierarchy, and the union.
-pub fn upper_bound(ah: u8, ac: [u64; WORDS], bh: u8, bc: [u64; WORDS]) -> Label
+pub fn upper_bound(ah: u64, ac: [u64; WORDS], bh: u64, bc: [u64; WORDS]) -> Label
     ensures { λ r. ⌜ r ≡ upperBoundOf (labelOf ah ac) (labelOf bh bc) ⌝ }
 {
     Label {
@@ -45,7 +45,7 @@ pub fn upper_bound(ah: u8, ac: [u64; WORDS], bh: u8, bc: [u64; WORDS]) -> Label
 }
 
 // The lower bound of two labels: the smaller hierarchy, and the intersection.
-pub fn lower_bound(ah: u8, ac: [u64; WORDS], bh: u8, bc: [u64; WORDS]) -> Label
+pub fn lower_bound(ah: u64, ac: [u64; WORDS], bh: u64, bc: [u64; WORDS]) -> Label
     ensures { λ r. ⌜ r ≡ lowerBoundOf (labelOf ah ac) (labelOf bh bc) ⌝ }
 {
     Label {

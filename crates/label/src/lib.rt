@@ -21,11 +21,11 @@ ghost use Rattle.label.specs.Region.{regionOf};
 ghost use Rattle.label.specs.Words.{membersOf, nextOf};
 
 // The largest hierarchy number of a valid label.
-pub const MAX_HIERARCHY: u8 = 199;
+pub const MAX_HIERARCHY: u64 = 199;
 
 #[repr(C)]
 pub struct Label {
-    pub hierarchy: u8,
+    pub hierarchy: u64,
     pub categories: [u64; WORDS],
 }
 

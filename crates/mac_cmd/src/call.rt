@@ -16,7 +16,7 @@ pub(crate) fn valid(h: u64, out: &mut [u8]) -> usize {
     let zero = label::zero();
     let categories = zero.categories;
     let l = Label {
-        hierarchy: (h % 256) as u8,
+        hierarchy: h,
         categories,
     };
     answer::put_bool(label::valid(l), out)

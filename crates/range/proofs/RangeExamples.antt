@@ -24,7 +24,7 @@ empty-empty = refl
 
 -- where no range is there zeros are held, else the tuple is invalid
 abbrev heldTuple : Tuple
-heldTuple = tupleOf (record { present = false; range = rangeOf (exampleOf 0 (5 ∷ [])) (exampleOf 0 []) } ∷ absent ∷ absent ∷ [])
+heldTuple = tupleOf (record { present = 0; range = rangeOf (exampleOf 0 (5 ∷ [])) (exampleOf 0 []) } ∷ absent ∷ absent ∷ [])
 
 held-invalid : tuples.validOf heldTuple ≡ false
 unfolding tuples.validOf validAt equalOf sameOf includesOf every

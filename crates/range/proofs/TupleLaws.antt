@@ -17,7 +17,7 @@ use Rattle.label.proofs.LabelLaws.{dominates-parts, dominates-trans, equal-exac
 use Rattle.label.proofs.RegionLaws.{region-order, region-unique, region-within}
 use Rattle.range.specs.Range
 use Rattle.range.specs.Range.{commonOf}
-use Rattle.range.specs.Tuple.{TypedTuple, absent, containsAt, containsOf, cutOf, emptyOf, meetAt, meetOf, partOf, present, rangeAt, reaches, splitOf, tupleOf, validAt, validOf, withinAt, withinOf}
+use Rattle.range.specs.Tuple.{TypedTuple, absent, containsAt, containsOf, cutOf, emptyOf, isThere, meetAt, meetOf, partOf, present, rangeAt, reaches, splitOf, tupleOf, validAt, validOf, withinAt, withinOf}
 use Rattle.range.specs.declared.Range.{Range}
 use Rattle.range.specs.declared.tuple.RegionRange.{RegionRange}
 use Rattle.range.specs.declared.tuple.Tuple.{Tuple}
@@ -35,7 +35,7 @@ pub record Placed (r : ℕ) (x : Range) : Type 0 where
   pub low : regionOf (x .low .hierarchy) ≡ r
   pub high : regionOf (x .high .hierarchy) ≡ r
 
-pub valid-placed : (r : ℕ) (e : RegionRange) → e .present ≡ true → validAt r e ≡ true → Placed r (e .range)
+pub valid-placed : (r : ℕ) (e : RegionRange) → isThere e ≡ true → validAt r e ≡ true → Placed r (e .range)
 unfolding validAt
 valid-placed r e p h =
     let low : ℕ = regionOf (e .range .low .hierarchy) in
@@ -53,20 +53,21 @@ unfolding validAt
 absent-valid r = both (equal-exact zeroLabel zeroLabel refl .1 refl) (equal-exact zeroLabel zeroLabel refl .1 refl)
 
 -- where there is no range, a valid tuple holds just that
-pub valid-absent : (r : ℕ) (e : RegionRange) → Range.TypedRange (e .range) → e .present ≡ false → validAt r e ≡ true → e ≡ absent
+pub valid-absent : (r : ℕ) (e : RegionRange) → Range.TypedRange (e .range) → isThere e ≡ false → validAt r e ≡ true → e ≡ absent
 unfolding validAt
 valid-absent r e t p h =
     let low : Bool = Label.equalOf (e .range .low) zeroLabel in
     let high : Bool = Label.equalOf (e .range .high) zeroLabel in
-    let l = equal-exact (e .range .low) zeroLabel (t .low .length-is) .0 (first-true low high (rw p at h)) in
-    let u = equal-exact (e .range .high) zeroLabel (t .high .length-is) .0 (second-true low high (rw p at h)) in
-    ap₂ (λ (b : Bool) (x : Range). record { present = b; range = x }) p (ap₂ Range.rangeOf l u)
+    let z = three-true (eqb (e .present) 0) low high (rw p at h) in
+    let l = equal-exact (e .range .low) zeroLabel (t .low .length-is) .0 (z .1) in
+    let u = equal-exact (e .range .high) zeroLabel (t .high .length-is) .0 (z .2) in
+    ap₂ (λ (n : ℕ) (x : Range). record { present = n; range = x }) (eqb-true (e .present) 0 (z .0)) (ap₂ Range.rangeOf l u)
 
 pub valid-region : (t : Tuple) → validOf t ≡ true → (r : ℕ) → r < regions → validAt r (rangeAt t r) ≡ true
 unfolding validOf
 valid-region t v r k = every-at (λ j. validAt j (rangeAt t j)) regions r v k
 
-placed-region : (t : Tuple) → validOf t ≡ true → (r : ℕ) → r < regions → rangeAt t r .present ≡ true → Placed r (rangeAt t r .range)
+placed-region : (t : Tuple) → validOf t ≡ true → (r : ℕ) → r < regions → isThere (rangeAt t r) ≡ true → Placed r (rangeAt t r .range)
 placed-region t v r k p = valid-placed r (rangeAt t r) p (valid-region t v r k)
 
 -- the tuple that has f r for each region r is valid where each f r is
@@ -103,12 +104,12 @@ meet-placed r x y p q e =
 
 meet-at-valid : (r : ℕ) (e f : RegionRange) → validAt r e ≡ true → validAt r f ≡ true → validAt r (meetAt e f) ≡ true
 unfolding meetAt
-meet-at-valid r e f v w = go (e .present && f .present && commonOf (e .range) (f .range)) refl
+meet-at-valid r e f v w = go (isThere e && isThere f && commonOf (e .range) (f .range)) refl
   where
-    go : (p : Bool) → (e .present && f .present && commonOf (e .range) (f .range)) ≡ p → validAt r (cond p (present (Range.meetOf (e .range) (f .range))) absent) ≡ true
+    go : (p : Bool) → (isThere e && isThere f && commonOf (e .range) (f .range)) ≡ p → validAt r (cond p (present (Range.meetOf (e .range) (f .range))) absent) ≡ true
     go false h = absent-valid r
     go true h =
-        let t = three-true (e .present) (f .present) (commonOf (e .range) (f .range)) h in
+        let t = three-true (isThere e) (isThere f) (commonOf (e .range) (f .range)) h in
         placed-valid r (Range.meetOf (e .range) (f .range)) (meet-placed r (e .range) (f .range) (valid-placed r e (t .0) v) (valid-placed r f (t .1) w) (t .2))
 
 pub tuple-meet-valid : (t u : Tuple) → validOf t ≡ true → validOf u ≡ true → validOf (meetOf t u) ≡ true
@@ -120,7 +121,7 @@ tuple-meet-valid t u v w =
 
 meet-at-labels : (e f : RegionRange) (l : Label) → containsAt (meetAt e f) l ≡ (containsAt e l && containsAt f l)
 unfolding meetAt containsAt
-meet-at-labels e f l = go (e .present) (f .present) (commonOf (e .range) (f .range)) refl
+meet-at-labels e f l = go (isThere e) (isThere f) (commonOf (e .range) (f .range)) refl
   where
     go : (p q k : Bool) → commonOf (e .range) (f .range) ≡ k
         → containsAt (cond (p && q && k) (present (Range.meetOf (e .range) (f .range))) absent) l ≡ ((p && Range.containsOf (e .range) l) && (q && Range.containsOf (f .range) l))
@@ -140,12 +141,12 @@ tuple-meet-labels t u l =
 -- ---- what a tuple contains, by the region
 
 pub record Contains (e : RegionRange) (l : Label) : Type 0 where
-  pub present : e .present ≡ true
+  pub present : isThere e ≡ true
   pub range : Range.containsOf (e .range) l ≡ true
 
 contains-at-parts : (e : RegionRange) (l : Label) → containsAt e l ≡ true → Contains e l
 unfolding containsAt
-contains-at-parts e l h = record { present = first-true (e .present) _ h; range = second-true (e .present) (Range.containsOf (e .range) l) h }
+contains-at-parts e l h = record { present = first-true (isThere e) _ h; range = second-true (isThere e) (Range.containsOf (e .range) l) h }
 
 contained : (t : Tuple) (l : Label) → containsOf t l ≡ true → Contains (rangeAt t (regionOf (l .hierarchy))) l
 unfolding containsOf
@@ -169,22 +170,22 @@ contained-valid t l v h =
 -- ---- within exactly if each label of the one is in the other
 
 pub record Inside (e f : RegionRange) : Type 0 where
-  pub present : f .present ≡ true
+  pub present : isThere f ≡ true
   pub high : dominatesOf (f .range .high) (e .range .high) ≡ true
   pub low : dominatesOf (e .range .low) (f .range .low) ≡ true
 
-within-inside : (e f : RegionRange) → e .present ≡ true → withinAt e f ≡ true → Inside e f
+within-inside : (e f : RegionRange) → isThere e ≡ true → withinAt e f ≡ true → Inside e f
 unfolding withinAt
 within-inside e f p h =
-    let t = three-true (f .present) (dominatesOf (f .range .high) (e .range .high)) (dominatesOf (e .range .low) (f .range .low)) (rw p at h) in
+    let t = three-true (isThere f) (dominatesOf (f .range .high) (e .range .high)) (dominatesOf (e .range .low) (f .range .low)) (rw p at h) in
     record { present = t .0; high = t .1; low = t .2 }
 
-inside-within : (e f : RegionRange) → (e .present ≡ true → Inside e f) → withinAt e f ≡ true
+inside-within : (e f : RegionRange) → (isThere e ≡ true → Inside e f) → withinAt e f ≡ true
 unfolding withinAt
-inside-within e f h = go (e .present) refl
+inside-within e f h = go (isThere e) refl
   where
-    go : (p : Bool) → e .present ≡ p
-        → (not p || (f .present && dominatesOf (f .range .high) (e .range .high) && dominatesOf (e .range .low) (f .range .low))) ≡ true
+    go : (p : Bool) → isThere e ≡ p
+        → (not p || (isThere f && dominatesOf (f .range .high) (e .range .high) && dominatesOf (e .range .low) (f .range .low))) ≡ true
     go false q = refl
     go true q = let i = h q in both (both (i .present) (i .high)) (i .low)
 
@@ -208,11 +209,11 @@ within-labels t u w l h =
     })
 
 -- a label in t's range of region r is in u's
-label-carried : (t u : Tuple) → EachLabel t u → (r : ℕ) → rangeAt t r .present ≡ true → (l : Label) → Typed l → Label.validOf l ≡ true
+label-carried : (t u : Tuple) → EachLabel t u → (r : ℕ) → isThere (rangeAt t r) ≡ true → (l : Label) → Typed l → Label.validOf l ≡ true
     → regionOf (l .hierarchy) ≡ r → Range.containsOf (rangeAt t r .range) l ≡ true → Contains (rangeAt u r) l
 label-carried t u h r p l s v e c = contained-in u l r e (h l s v (contains-in t l r e (record { present = p; range = c })))
 
-labels-inside : (t u : Tuple) → TypedTuple t → validOf t ≡ true → EachLabel t u → (r : ℕ) → r < regions → rangeAt t r .present ≡ true → Inside (rangeAt t r) (rangeAt u r)
+labels-inside : (t u : Tuple) → TypedTuple t → validOf t ≡ true → EachLabel t u → (r : ℕ) → r < regions → isThere (rangeAt t r) ≡ true → Inside (rangeAt t r) (rangeAt u r)
 labels-inside t u s v h r k p =
     let x : Range = rangeAt t r .range in
     let placed = placed-region t v r k p in
@@ -235,15 +236,15 @@ within-exact t u s v =
 pub empty-none : (t : Tuple) (l : Label) → emptyOf t ≡ true → containsOf t l ≡ true → ⊥
 unfolding emptyOf
 empty-none t l w h =
-    let n = every-at (λ r. not (rangeAt t r .present)) regions (regionOf (l .hierarchy)) w (region-within (l .hierarchy) .known) in
+    let n = every-at (λ r. not (isThere (rangeAt t r))) regions (regionOf (l .hierarchy)) w (region-within (l .hierarchy) .known) in
     true≢false (sym n ∙ ap not (contained t l h .present))
 
 pub empty-exact : (t : Tuple) → TypedTuple t → validOf t ≡ true → (emptyOf t ≡ true) ↔ ((l : Label) → Typed l → Label.validOf l ≡ true → containsOf t l ≡ true → ⊥)
 unfolding emptyOf
-empty-exact t s v = (λ w l tl vl. empty-none t l w, λ h. every-all (λ r. not (rangeAt t r .present)) regions (back h))
+empty-exact t s v = (λ w l tl vl. empty-none t l w, λ h. every-all (λ r. not (isThere (rangeAt t r))) regions (back h))
   where
-    back : ((l : Label) → Typed l → Label.validOf l ≡ true → containsOf t l ≡ true → ⊥) → (r : ℕ) → r < regions → not (rangeAt t r .present) ≡ true
-    back h r k = ap not (not-so (rangeAt t r .present) (λ p.
+    back : ((l : Label) → Typed l → Label.validOf l ≡ true → containsOf t l ≡ true → ⊥) → (r : ℕ) → r < regions → not (isThere (rangeAt t r)) ≡ true
+    back h r k = ap not (not-so (isThere (rangeAt t r)) (λ p.
         let x : Range = rangeAt t r .range in
         let placed = placed-region t v r k p in
         h (x .low) (s .range r k .low) (valid-parts x (placed .valid) .low)

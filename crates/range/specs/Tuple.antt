@@ -1,5 +1,5 @@
 -- Document 01, "Ranges and tuples": tuples, by the region's number. Assumes nothing.
-use mathlib.Core.Bool.{Bool, true, false, cond, not, _&&_, _||_}
+use mathlib.Core.Bool.{Bool, cond, not, _&&_, _||_}
 use mathlib.Core.List.{List, []}
 use mathlib.Core.Path.{_≡_}
 use Prim.Native.Nat.{ℕ, _<_, max, min}
@@ -18,35 +18,39 @@ abbrev pub tupleOf : List RegionRange → Tuple
 tupleOf ranges = record { ranges = ranges }
 
 abbrev pub present : Range → RegionRange
-present x = record { present = true; range = x }
+present x = record { present = 1; range = x }
 
 -- no range: zeros are held there
 abbrev pub absent : RegionRange
-absent = record { present = false; range = Range.zeroRange }
+absent = record { present = 0; range = Range.zeroRange }
 
 abbrev pub emptyTuple : Tuple
 emptyTuple = tupleOf (replicate regions absent)
 
 -- what stands past the end of an array of these: no region has it
 abbrev noRegion : RegionRange
-noRegion = record { present = false; range = Range.rangeOf (Label.labelOf 0 []) (Label.labelOf 0 []) }
+noRegion = record { present = 0; range = Range.rangeOf (Label.labelOf 0 []) (Label.labelOf 0 []) }
 
 -- the range of region r
 abbrev pub rangeAt : Tuple → ℕ → RegionRange
 rangeAt t r = getD (t .ranges) r noRegion
 
--- one valid range with both ends in region r, or no range and zeros
+-- whether there is a range: its flag is 1. In a valid tuple it is 0 otherwise
+abbrev pub isThere : RegionRange → Bool
+isThere e = eqb (e .present) 1
+
+-- one valid range with both ends in region r, or no range and zeros, the flag too
 unfoldable pub validAt : ℕ → RegionRange → Bool
 validAt r e =
-    cond (e .present)
+    cond (isThere e)
     (Range.validOf (e .range) && eqb (regionOf (e .range .low .hierarchy)) r && eqb (regionOf (e .range .high .hierarchy)) r)
-    (Label.equalOf (e .range .low) Label.zeroLabel && Label.equalOf (e .range .high) Label.zeroLabel)
+    (eqb (e .present) 0 && Label.equalOf (e .range .low) Label.zeroLabel && Label.equalOf (e .range .high) Label.zeroLabel)
 
 unfoldable pub validOf : Tuple → Bool
 validOf t = every (λ r. validAt r (rangeAt t r)) regions
 
 unfoldable pub containsAt : RegionRange → Label → Bool
-containsAt e l = e .present && Range.containsOf (e .range) l
+containsAt e l = isThere e && Range.containsOf (e .range) l
 
 -- the range of l's region is there and contains l
 unfoldable pub containsOf : Tuple → Label → Bool
@@ -54,12 +58,12 @@ containsOf t l = containsAt (rangeAt t (regionOf (l .hierarchy))) l
 
 -- whether there is no range
 unfoldable pub emptyOf : Tuple → Bool
-emptyOf t = every (λ r. not (rangeAt t r .present)) regions
+emptyOf t = every (λ r. not (isThere (rangeAt t r))) regions
 
 -- the meet of two ranges where both are there and some label is in both
 unfoldable pub meetAt : RegionRange → RegionRange → RegionRange
 meetAt e f =
-    cond (e .present && f .present && Range.commonOf (e .range) (f .range)) (present (Range.meetOf (e .range) (f .range))) absent
+    cond (isThere e && isThere f && Range.commonOf (e .range) (f .range)) (present (Range.meetOf (e .range) (f .range))) absent
 
 -- the meet goes region by region
 unfoldable pub meetOf : Tuple → Tuple → Tuple
@@ -67,8 +71,8 @@ meetOf t u = tupleOf (tabulate (λ r. meetAt (rangeAt t r) (rangeAt u r)) region
 
 unfoldable pub withinAt : RegionRange → RegionRange → Bool
 withinAt e f =
-    not (e .present)
-    || (f .present && Label.dominatesOf (f .range .high) (e .range .high) && Label.dominatesOf (e .range .low) (f .range .low))
+    not (isThere e)
+    || (isThere f && Label.dominatesOf (f .range .high) (e .range .high) && Label.dominatesOf (e .range .low) (f .range .low))
 
 -- each label of t is in u (that it says so is the law `within-exact`)
 unfoldable pub withinOf : Tuple → Tuple → Bool

@@ -16,12 +16,14 @@ ghost use Rattle.label.specs.Region.{regions};
 ghost use Rattle.range.specs.Range as ranges;
 ghost use Rattle.range.specs.Tuple.{TypedTuple, absent, containsOf, cutOf, emptyOf, emptyTuple, meetAt, meetOf, rangeAt, splitOf, validAt, validOf, withinAt, withinOf};
 
-// The range of one region. Where none is present it holds zeros.
+// The range of one region: `present` is 1. Where there is none it holds zeros, `present` too; no other number is valid.
+#[repr(C)]
 pub struct RegionRange {
-    pub present: bool,
+    pub present: u64,
     pub range: Range,
 }
 
+#[repr(C)]
 pub struct Tuple {
     pub ranges: [RegionRange; REGIONS],
 }
@@ -37,7 +39,7 @@ pub fn no_range() -> RegionRange
     ensures { λ r. ⌜ r ≡ absent ⌝ }
 {
     RegionRange {
-        present: false,
+        present: 0,
         range: crate::zero(),
     }
 }
@@ -56,12 +58,12 @@ pub fn empty() -> Tuple
 fn valid_at(region: usize, e: RegionRange) -> bool
     ensures { λ r. ⌜ r ≡ validAt region e ⌝ }
 {
-    if e.present {
+    if e.present == 1 {
         return crate::valid(e.range)
             & (region::of_hierarchy(e.range.low.hierarchy) == region)
             & (region::of_hierarchy(e.range.high.hierarchy) == region);
     }
-    label::is_zero(e.range.low) & label::is_zero(e.range.high)
+    (e.present == 0) & label::is_zero(e.range.low) & label::is_zero(e.range.high)
 }
 
 pub fn valid(t: Tuple) -> bool
@@ -83,7 +85,7 @@ fn none_present(t: Tuple) -> bool
 {
     let mut r = 0;
     while r < REGIONS {
-        if t.ranges[r].present {
+        if t.ranges[r].present == 1 {
             return false;
         }
         r += 1;
@@ -115,9 +117,9 @@ pub fn contains(t: Tuple, l: Label) -> Test
 fn meet_at(e: RegionRange, f: RegionRange) -> RegionRange
     ensures { λ r. ⌜ r ≡ meetAt e f ⌝ }
 {
-    if e.present & f.present & crate::common(e.range, f.range) {
+    if (e.present == 1) & (f.present == 1) & crate::common(e.range, f.range) {
         return RegionRange {
-            present: true,
+            present: 1,
             range: crate::bounds(e.range, f.range),
         };
     }
@@ -158,8 +160,8 @@ pub fn meet(t: Tuple, u: Tuple) -> TupleAnswer
 fn within_at(e: RegionRange, f: RegionRange) -> bool
     ensures { λ r. ⌜ r ≡ withinAt e f ⌝ }
 {
-    !e.present
-        | (f.present
+    (e.present != 1)
+        | ((f.present == 1)
             & crate::dominates(f.range.high, e.range.high)
             & crate::dominates(e.range.low, f.range.low))
 }
@@ -200,7 +202,7 @@ fn cut(x: Range, region: usize) -> RegionRange
         let low_categories = low.categories;
         let high_categories = high.categories;
         return RegionRange {
-            present: true,
+            present: 1,
             range: Range {
                 low: Label {
                     hierarchy: components::higher(low.hierarchy, first),

@@ -10,7 +10,7 @@ ghost use Rattle.range.specs.Tuple.{containsAt, containsOf};
 pub fn contains_at(e: RegionRange, l: Label) -> bool
     ensures { λ r. ⌜ r ≡ containsAt e l ⌝ }
 {
-    e.present & crate::holds(e.range, l)
+    (e.present == 1) & crate::holds(e.range, l)
 }
 
 // Whether a label is in a tuple. Each region has its own step: a tuple that is indexed by a variable is copied first.

@@ -193,7 +193,7 @@ zero-tenant-sound : tenantSound zeroTenant ≡ true
 unfolding tenantSound Tuple.validOf Tuple.emptyOf
 zero-tenant-sound =
     both (every-all (λ r. Tuple.validAt r (Tuple.rangeAt Tuple.emptyTuple r)) regions (λ r l. ap (Tuple.validAt r) (getD-replicate regions r Tuple.absent _ l) ∙ absent-valid r))
-    (every-all (λ r. not (Tuple.rangeAt Tuple.emptyTuple r .present)) regions (λ r l. ap (λ (e : RegionRange). not (e .present)) (getD-replicate regions r Tuple.absent _ l)))
+    (every-all (λ r. not (Tuple.isThere (Tuple.rangeAt Tuple.emptyTuple r))) regions (λ r l. ap (λ (e : RegionRange). not (Tuple.isThere e)) (getD-replicate regions r Tuple.absent _ l)))
 
 no-ceilings : (pool : ℕ) → ceilingsOf (emptyTable pool) ≡ 0
 unfolding ceilingsOf

@@ -21,11 +21,14 @@ pub const SLOTS: usize = 64;
 pub const MAX_PAGES: u64 = 1048576;
 
 // A tenant's number, and a slot's (document 01: place): two kinds, so that neither is taken for the other.
+#[repr(C)]
 pub struct TenantId(pub u64);
 
+#[repr(C)]
 pub struct Slot(pub u64);
 
 // A tenant's record: zeros where the tenant is not admitted.
+#[repr(C)]
 pub struct Tenant {
     pub ceiling: u64,
     pub clearance: Tuple,
@@ -40,6 +43,7 @@ pub struct Segment {
 }
 
 // The state (document 01: the board).
+#[repr(C)]
 pub struct SegmentTable {
     pub pool: u64,
     pub tenants: [Tenant; TENANTS],

@@ -71,7 +71,7 @@ fn put_label(out: &mut [u8], at: usize, label: Label) -> usize
     ensures { λ r. ⌜ PutWithin (at + labelBytes) (now (out .entry)) at (labelText label) r (now (out .exit)) ⌝ }
 {
     let categories = label.categories;
-    let hierarchy = put_field(out, at, b" hierarchy ", label.hierarchy as u64);
+    let hierarchy = put_field(out, at, b" hierarchy ", label.hierarchy);
     let word = octets::append(out, hierarchy, b" categories");
     put_categories(out, word, categories)
 }

@@ -17,4 +17,4 @@ unfolding valueOf
 returns-3 c = rw (ne-eqb _ 1 (c .before .if1 .left), ne-eqb _ 2 (c .if2 .left))
 
 pub value-spec : {M : Type 1} → statement M
-value-spec = tie.close (tie.spec (search needs) returns returns-2 returns-3)
+value-spec = tie.close (tie.spec returns returns-2 returns-3)

@@ -3,7 +3,7 @@ use Rattle.abi.proofs.table.hand_back.Statement.{statement}
 use Rattle.abi.proofs.table.hand_back.Tie as tie
 
 returns : tie.Need-returns
-returns c = rw (c .shown .ensures, c .before .reply .ensures, c .before .before .encode .ensures)
+returns c = rw (c .shown .ensures, c .before .reply .ensures)
 
 pub hand-back-spec : {M : Type 1} → statement M
-hand-back-spec = tie.close (tie.spec (search needs) (search needs) (search needs) returns)
+hand-back-spec = tie.close (tie.spec (search needs) (search needs) returns)

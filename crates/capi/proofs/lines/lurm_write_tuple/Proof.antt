@@ -1,16 +1,10 @@
 use borrow.Author.Needs.{needs}
-use mathlib.Core.Path.{refl}
-use Rattle.label.specs.Buffer.{bufferOf, lengthOf}
 use Rattle.abi.proofs.AnswerLaws.{write-answered}
 use Rattle.capi.proofs.lines.lurm_write_tuple.Statement.{statement}
 use Rattle.capi.proofs.lines.lurm_write_tuple.Tie as tie
 
 returns : tie.Need-returns
-returns c = rw (← c .before .before .before .before .before .before .before .formed .ensures, c .before .before .before .before .before .before .if1 .taken, c .of-written .ensures, ← c .before .before .before .before .before .decode .ensures) (write-answered (c .before .before .before .write-tuple .ensures))
-
-returns-2 : tie.Need-returns-2
-unfolding bufferOf lengthOf
-returns-2 c = rw (← c .before .before .formed .ensures, c .before .if1 .left, c .refused .ensures) record { answer = refl; buffer = refl }
+returns c = rw (c .of-written .ensures) (write-answered (c .before .before .before .write-tuple .ensures))
 
 pub lurm-write-tuple-spec : {M : Type 1} → statement M
-lurm-write-tuple-spec = tie.close (tie.spec (search needs) (search needs) (search needs) (search needs) (search needs) returns (search needs) returns-2)
+lurm-write-tuple-spec = tie.close (tie.spec (search needs) (search needs) (search needs) returns)

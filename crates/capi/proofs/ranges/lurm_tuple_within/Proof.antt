@@ -3,10 +3,7 @@ use Rattle.capi.proofs.ranges.lurm_tuple_within.Statement.{statement}
 use Rattle.capi.proofs.ranges.lurm_tuple_within.Tie as tie
 
 returns : tie.Need-returns
-returns c = rw (← c .before .before .before .before .before .before .formed .ensures, ← c .before .before .before .before .before .formed2 .ensures, c .before .before .before .before .if1 .taken, c .of-test .ensures, c .before .within .ensures, c .before .before .decode2 .ensures, c .before .before .before .decode .ensures)
-
-returns-2 : tie.Need-returns-2
-returns-2 c = rw (← c .before .before .before .formed .ensures, ← c .before .before .formed2 .ensures, c .before .if1 .left, c .refused .ensures)
+returns c = rw (c .of-test .ensures, c .before .within .ensures)
 
 pub lurm-tuple-within-spec : {M : Type 1} → statement M
-lurm-tuple-within-spec = tie.close (tie.spec (search needs) (search needs) (search needs) (search needs) (search needs) (search needs) returns (search needs) returns-2)
+lurm-tuple-within-spec = tie.close (tie.spec (search needs) (search needs) returns)

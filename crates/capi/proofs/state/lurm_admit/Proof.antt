@@ -5,10 +5,7 @@ use Rattle.capi.proofs.state.lurm_admit.Statement.{statement}
 use Rattle.capi.proofs.state.lurm_admit.Tie as tie
 
 returns : tie.Need-returns
-returns c = rw (← c .before .before .before .before .before .before .formed .ensures, ← c .before .before .before .before .before .formed2 .ensures, c .before .before .before .before .if1 .taken, ← c .before .before .before .decode .ensures, ← c .before .before .decode2 .ensures) (c .hand-back .ensures ∙ call-answered (c .before .admit .ensures))
-
-returns-2 : tie.Need-returns-2
-returns-2 c = rw (← c .before .before .before .formed .ensures, ← c .before .before .formed2 .ensures, c .before .if1 .left, c .refuse .ensures)
+returns c = c .hand-back .ensures ∙ call-answered (c .before .admit .ensures)
 
 pub lurm-admit-spec : {M : Type 1} → statement M
-lurm-admit-spec = tie.close (tie.spec (search needs) (search needs) (search needs) (search needs) (search needs) (search needs) returns (search needs) returns-2)
+lurm-admit-spec = tie.close (tie.spec (search needs) (search needs) returns)

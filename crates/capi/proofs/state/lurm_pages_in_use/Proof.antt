@@ -3,10 +3,7 @@ use Rattle.capi.proofs.state.lurm_pages_in_use.Statement.{statement}
 use Rattle.capi.proofs.state.lurm_pages_in_use.Tie as tie
 
 returns : tie.Need-returns
-returns c = rw (← c .before .before .before .before .formed .ensures, c .before .before .before .if1 .taken, c .of-number .ensures, c .before .pages-in-use .ensures, c .before .before .decode .ensures)
-
-returns-2 : tie.Need-returns-2
-returns-2 c = rw (← c .before .before .formed .ensures, c .before .if1 .left, c .refused .ensures)
+returns c = rw (c .of-number .ensures, c .before .pages-in-use .ensures)
 
 pub lurm-pages-in-use-spec : {M : Type 1} → statement M
-lurm-pages-in-use-spec = tie.close (tie.spec (search needs) (search needs) (search needs) (search needs) returns (search needs) returns-2)
+lurm-pages-in-use-spec = tie.close (tie.spec (search needs) (search needs) returns)

@@ -5,10 +5,7 @@ use Rattle.capi.proofs.state.lurm_set_ceiling.Statement.{statement}
 use Rattle.capi.proofs.state.lurm_set_ceiling.Tie as tie
 
 returns : tie.Need-returns
-returns c = rw (← c .before .before .before .before .formed .ensures, c .before .before .before .if1 .taken, ← c .before .before .decode .ensures) (c .hand-back .ensures ∙ call-answered (c .before .set-ceiling .ensures))
-
-returns-2 : tie.Need-returns-2
-returns-2 c = rw (← c .before .before .formed .ensures, c .before .if1 .left, c .refuse .ensures)
+returns c = c .hand-back .ensures ∙ call-answered (c .before .set-ceiling .ensures)
 
 pub lurm-set-ceiling-spec : {M : Type 1} → statement M
-lurm-set-ceiling-spec = tie.close (tie.spec (search needs) (search needs) (search needs) (search needs) returns (search needs) returns-2)
+lurm-set-ceiling-spec = tie.close (tie.spec (search needs) (search needs) returns)

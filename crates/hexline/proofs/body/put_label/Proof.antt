@@ -25,7 +25,7 @@ loop-again : tie.Need-loop-again Inv-loop μ-loop
 loop-again c =
     let p = c .before .before in
     let h = p .before .before .before in
-    let a = h .before .before .before .args in
+    let a = h .before .before .before .before .args in
     (search needs, word-more (a .l .categories) _ _ _ (a .at + 1) (h .loop .j) (h .loop .inv .1) (p .put-word .ensures))
 
 same-length : tie.Need-same-length Inv-loop μ-loop
@@ -34,10 +34,10 @@ same-length c = simp length-set at (c .before .loop .inv .1 .size)
 returns : tie.Need-returns Inv-loop μ-loop
 returns c =
     let h = c .before in
-    let a = h .before .before .before .args in
+    let a = h .before .before .before .before .args in
     label-put (a .out .now) (h .loop .out) (a .at) (a .words) (h .loop .j) (a .l) (omega arith) (omega arith) (h .loop .inv .1)
 
 pub put-label-spec : {M : Type 1} → statement M
 put-label-spec =
-    tie.close (tie.spec Inv-loop μ-loop (search needs) loop-holds (search needs) (search needs) (search needs) (search needs) (search needs)
+    tie.close (tie.spec Inv-loop μ-loop (search needs) (search needs) loop-holds (search needs) (search needs) (search needs) (search needs) (search needs)
     put-word-requires (search needs) (search needs) loop-again (search needs) (search needs) (search needs) same-length returns)

@@ -1,7 +1,7 @@
 use borrow.Author.Needs.{needs}
 use native.Mathlib.Nat.{mod-eq-of-lt}
 use Rattle.hexline.specs.Entry.{valueBytes}
-use Rattle.hexline.proofs.EntryLaws.{category-small}
+use Rattle.hexline.proofs.EntryLaws.{category-small, hierarchy-byte}
 use Rattle.hexline.proofs.entry.put_value.Statement.{statement}
 use Rattle.hexline.proofs.entry.put_value.Tie as tie
 
@@ -9,7 +9,10 @@ returns : tie.Need-returns
 unfolding valueBytes
 returns c =
     let p = c .before .before in
-    rw (p .before .before .before .v .given .1) (p .put-byte .ensures)
+    let v = p .before .before .before in
+    let start = v .before .before .before in
+    let small = hierarchy-byte _ (start .args .l) (rw (v .v .given .1) at (start .pre .2)) in
+    rw (v .v .given .1) (rw (mod-eq-of-lt small) at (p .put-byte .ensures))
 
 returns-2 : tie.Need-returns-2
 unfolding valueBytes
@@ -29,4 +32,4 @@ returns-3 c =
 pub put-value-spec : {M : Type 1} → statement M
 put-value-spec =
     tie.close (tie.spec (search needs) (search needs) (search needs) (search needs) (search needs) (search needs) (search needs)
-    (search needs) returns (search needs) returns-2 (search needs) returns-3)
+    (search needs) (search needs) returns (search needs) returns-2 (search needs) returns-3)

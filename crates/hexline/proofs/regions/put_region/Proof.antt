@@ -1,4 +1,5 @@
 use borrow.Author.Needs.{needs}
+use borrow.Author.Tests.{eq-eqb, ne-eqb}
 use Rattle.hexline.proofs.BodyLoops.{appended-none}
 use Rattle.hexline.proofs.RegionsLaws.{region-none, region-there}
 use Rattle.hexline.proofs.regions.put_region.Statement.{statement}
@@ -7,11 +8,11 @@ use Rattle.hexline.proofs.regions.put_region.Tie as tie
 returns : tie.Need-returns
 returns c =
     let p = c .before .before in
-    let a = p .before .before .before .before .args in
-    rw (region-there (a .words) (a .e) (p .before .before .if1 .taken)) (p .put-range .ensures)
+    let a = p .before .before .before .before .before .args in
+    rw (region-there (a .words) (a .e) (eq-eqb _ 1 (p .before .before .if1 .taken))) (p .put-range .ensures)
 
 returns-2 : tie.Need-returns-2
-returns-2 c = let a = c .before .before .args in rw (region-none (a .words) (a .e) (c .if1 .left)) (appended-none _ _)
+returns-2 c = let a = c .before .before .before .args in rw (region-none (a .words) (a .e) (ne-eqb _ 1 (c .if1 .left))) (appended-none _ _)
 
 pub put-region-spec : {M : Type 1} → statement M
 put-region-spec = tie.close (tie.spec (search needs) (search needs) returns returns-2)

@@ -13,4 +13,4 @@ returns-2 c =
     sym (List·getD-eq-default t 0 (omega arith))
 
 pub entry-spec : {M : Type 1} → statement M
-entry-spec = tie.close (tie.spec (search needs) (search needs) returns-2)
+entry-spec = tie.close (tie.spec (search needs) (search needs) (search needs) returns-2)

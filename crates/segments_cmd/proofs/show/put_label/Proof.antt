@@ -24,5 +24,5 @@ returns c =
 
 pub put-label-spec : {M : Type 1} → statement M
 put-label-spec =
-    tie.close (tie.spec (search needs) (search needs) (search needs) (search needs) (search needs) put-categories-requires (search needs)
+    tie.close (tie.spec (search needs) (search needs) (search needs) (search needs) put-categories-requires (search needs)
     returns)
