@@ -1,7 +1,8 @@
--- Laws of the answers: what a function of the library answers, in the form that C has; and that a grant is never taken for a refusal. Assumes nothing.
+-- Laws of the answers: what a function of the library answers, in the form that C has; and that this form tells answers apart.
 use mathlib.Core.List.{List}
-use mathlib.Core.Path.{_≡_, refl, sym, ap, _∙_}
-use Prim.Native.Nat.{ℕ, _<_}
+use mathlib.Core.Option.{Option, none, some}
+use mathlib.Core.Path.{_≡_, refl, ap, ap₂, _∙_}
+use Prim.Native.Nat.{ℕ, _≤_, _<_}
 use native.Mathlib.Omega.{arith}
 use lib.ListN.{length}
 use Rattle.label.specs.Answer as answers
@@ -19,8 +20,8 @@ use Rattle.segments.specs.declared.Reply.{Reply}
 use Rattle.segments.specs.declared.Reply.the-variants.{Done, Opened, Shown, Refused as RefusedReply}
 use Rattle.text.specs.Write as texts
 use Rattle.text.specs.declared.RangeWritten as coreWritten
-use Rattle.abi.specs.Answer.{RangeWrittenTo, WrittenTo, bareAnswer, grant, numberAnswer, numbered, outcomeAnswer, rangeWritten, refusalBy}
-use Rattle.abi.specs.Table.{grantNumber, handedBack, outcome, replyAnswer, segmentBeside, shownOf, stepOutcome}
+use Rattle.abi.specs.Answer.{RangeWrittenTo, WrittenTo, bareAnswer, numberAnswer, numbered, outcomeAnswer, rangeWritten}
+use Rattle.abi.specs.Outcome.{grantNumber, handedBack, outcome, replyAnswer, segmentBeside, shownOf, stepOutcome}
 use Rattle.abi.specs.declared.answer.Answer.{Answer}
 
 -- ---- an outcome and what stands beside it
@@ -77,8 +78,8 @@ call-answered {o} {x} h =
 
 -- ---- grants and refusals
 
--- no refusal has the number 0,
-pub refusal-positive : (e : Errno) → 0 < refusalBy e .refusal
+-- no refusal has the number 0
+pub refusal-positive : (e : Errno) → 0 < numberOf e
 refusal-positive Perm = omega arith
 refusal-positive NoEnt = omega arith
 refusal-positive (TooBig n) = omega arith
@@ -90,6 +91,25 @@ refusal-positive (BadLine n) = omega arith
 refusal-positive NoSpace = omega arith
 refusal-positive Domain = omega arith
 
--- so no grant, whatever it answers, is what some refusal is: a grant of 1 and the refusal 1 are two answers
-pub grant-is-no-refusal : (value : ℕ) (e : Errno) → grant value ≡ refusalBy e → ⊥
-grant-is-no-refusal value e h = let p = refusal-positive e in let z : 0 ≡ refusalBy e .refusal = ap (λ (a : Answer). a .refusal) h in omega arith
+-- what a function may answer: any grant, and a refusal whose number is not 0
+abbrev pub Answerable : {A : Type 0} → answers.Answer A → Type 0
+Answerable (answers.granted value) = 0 ≤ 0
+Answerable (answers.refused n detail) = 0 < n
+
+-- what is refused by an enum is
+pub refused-answerable : (A : Type 0) (e : Errno) → Answerable {A = A} (answers.refusedBy e)
+refused-answerable A e = refusal-positive e
+
+-- so the C form tells answers apart: a grant from a refusal, a refusal that carries one more number from one that does not, and each from each
+-- other of its kind
+pub told-apart : (x y : answers.Answer ℕ) → Answerable x → Answerable y → numberAnswer x ≡ numberAnswer y → x ≡ y
+told-apart (answers.granted v) (answers.granted w) h l e = ap answers.granted (ap (λ (a : Answer). a .value) e)
+told-apart (answers.granted v) (answers.refused n none) h l e = let z : 0 ≡ n = ap (λ (a : Answer). a .refusal) e in absurd (omega arith)
+told-apart (answers.granted v) (answers.refused n (some m)) h l e = let z : 0 ≡ n = ap (λ (a : Answer). a .refusal) e in absurd (omega arith)
+told-apart (answers.refused n none) (answers.granted w) h l e = let z : n ≡ 0 = ap (λ (a : Answer). a .refusal) e in absurd (omega arith)
+told-apart (answers.refused n (some m)) (answers.granted w) h l e = let z : n ≡ 0 = ap (λ (a : Answer). a .refusal) e in absurd (omega arith)
+told-apart (answers.refused n none) (answers.refused k none) h l e = ap (λ (i : ℕ). answers.refused i none) (ap (λ (a : Answer). a .refusal) e)
+told-apart (answers.refused n (some m)) (answers.refused k (some j)) h l e =
+    ap₂ (λ (i p : ℕ). answers.refused i (some p)) (ap (λ (a : Answer). a .refusal) e) (ap (λ (a : Answer). a .value) e)
+told-apart (answers.refused n none) (answers.refused k (some j)) h l e = let z : _≡_ {A = ℕ} 0 1 = ap (λ (a : Answer). a .carries) e in absurd (omega arith)
+told-apart (answers.refused n (some m)) (answers.refused k none) h l e = let z : _≡_ {A = ℕ} 1 0 = ap (λ (a : Answer). a .carries) e in absurd (omega arith)

@@ -1,4 +1,4 @@
--- Answers as C has them: a grant and a refusal are told apart by `refusal`. Assumes nothing.
+-- Answers as C has them: a grant and a refusal are told apart by `refusal`, and a refusal that carries one more number by `carries`.
 use mathlib.Core.Bool.{Bool}
 use mathlib.Core.List.{List}
 use mathlib.Core.Option.{Option, none, some}
@@ -9,6 +9,7 @@ use Rattle.label.specs.Answer as answers
 use Rattle.label.specs.Buffer.{bufferOf, lengthOf, writtenOf}
 use Rattle.label.specs.Errno.{detailOf, numberOf}
 use Rattle.label.specs.Label
+use Rattle.label.specs.Words.{categories}
 use Rattle.label.specs.declared.Label.{Label}
 use Rattle.label.specs.declared.answer.Outcome.{Outcome}
 use Rattle.label.specs.declared.answer.Outcome.the-variants.{Granted, Refused}
@@ -32,15 +33,12 @@ use Rattle.abi.specs.declared.entry.Entry as form
 
 -- a grant has no refusal's number
 abbrev pub grant : ℕ → Answer
-grant value = record { refusal = 0; value = value }
+grant value = record { refusal = 0; carries = 0; value = value }
 
--- the one more number that a refusal carries, or 0
-abbrev pub carriedNumber : Option ℕ → ℕ
-carriedNumber none = 0
-carriedNumber (some n) = n
-
+-- a refusal, with the one more number that it may carry
 abbrev pub refusal : ℕ → Option ℕ → Answer
-refusal n detail = record { refusal = n; value = carriedNumber detail }
+refusal n none = record { refusal = n; carries = 0; value = 0 }
+refusal n (some more) = record { refusal = n; carries = 1; value = more }
 
 abbrev pub refusalBy : Errno → Answer
 refusalBy e = refusal (numberOf e) (detailOf e)
@@ -63,6 +61,11 @@ numberAnswer x = numbered same x
 -- an answer that is yes, 1, or no, 0
 abbrev pub testAnswer : answers.Answer Bool → Answer
 testAnswer x = numbered Flag.encodedOf x
+
+-- the category that is next, or, where there is none, how many categories there are
+abbrev pub nextNumber : Option ℕ → ℕ
+nextNumber none = categories
+nextNumber (some c) = c
 
 -- an answer that stands beside what is answered
 abbrev pub bareAnswer : {A : Type 0} → answers.Answer A → Answer

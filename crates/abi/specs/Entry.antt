@@ -4,7 +4,7 @@ use Prim.Native.Nat.{ℕ}
 use lib.Dec.{eqb}
 use lib.ListN.{replicate}
 use Rattle.label.specs.Label
-use Rattle.hexline.specs.Entry.{abbreviationText, maxAbbreviation, maxName, nameText}
+use Rattle.hexline.specs.Entry.{abbreviationSize, abbreviationText, nameSize, nameText}
 use Rattle.hexline.specs.declared.entry.Entry as coreEntry
 use Rattle.hexline.specs.declared.entry.Value.{Value}
 use Rattle.hexline.specs.declared.entry.Value.the-variants.{Hierarchy, Category, WholeLabel}
@@ -39,6 +39,6 @@ zeros = record {
   names = 0;
   number = 0;
   label = Label.zeroLabel;
-  name = nameText (replicate maxName 0) 0;
-  abbreviation = abbreviationText (replicate maxAbbreviation 0) 0;
+  name = nameText (replicate nameSize 0) 0;
+  abbreviation = abbreviationText (replicate abbreviationSize 0) 0;
 }

@@ -1,6 +1,6 @@
 pub mod Answer
 pub mod Entry
 pub mod Flag
+pub mod Outcome
 pub mod Request
 pub mod Style
-pub mod Table

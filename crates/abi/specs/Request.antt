@@ -1,7 +1,7 @@
 -- What the monitor is asked, as C has it. Assumes nothing.
-use mathlib.Core.Bool.{Bool, _&&_}
+use mathlib.Core.Bool.{Bool, not, _&&_, _||_}
 use Prim.Native.Nat.{ℕ}
-use lib.Dec.{leb}
+use lib.Dec.{eqb, leb}
 use Rattle.monitor.specs.Numbers.{classOf, kindOf}
 use Rattle.monitor.specs.declared.Credentials as coreCredentials
 use Rattle.monitor.specs.declared.Object as coreObject
@@ -24,11 +24,11 @@ credentialsOf c = record {
   };
 }
 
--- six classes, three kinds
+-- six classes; three kinds, which count for a file only
 abbrev pub objectFormed : Object → Bool
 objectFormed o =
     leb (o .class) 5
-    && leb (o .kind) 2
+    && (not (eqb (o .class) 0) || leb (o .kind) 2)
     && Flag.formedOf (o .«has_label»)
     && Flag.formedOf (o .«has_tuple»)
 

@@ -1,8 +1,10 @@
-// Answers. A grant and a refusal are told apart by `refusal`, which no grant has and no refusal lacks.
+// Answers. A grant and a refusal are told apart by `refusal`, which no grant has and no refusal lacks, and a refusal that carries one more number
+// from one that does not by `carries`.
 use crate::entry;
 use crate::entry::Entry;
 use hexline::Kind;
 use label::Label;
+use label::Next;
 use label::answer::Number;
 use label::answer::Outcome;
 use label::answer::Test;
@@ -10,6 +12,7 @@ use label::answer::Written;
 use label::errno;
 use label::errno::Carried;
 use label::errno::Errno;
+use label::words::WORDS;
 use monitor::Decision;
 use range::Range;
 use range::tuple::Tuple;
@@ -17,14 +20,17 @@ ghost use mathlib.Core.Path.{_≡_};
 ghost use Rattle.label.specs.Answer.{numberAnswerOf, outcomeOf, testOf};
 ghost use Rattle.label.specs.Buffer.{writtenOf};
 ghost use Rattle.label.specs.Errno.{carriedOf};
+ghost use Rattle.label.specs.Label.{nextAnswerOf};
 ghost use Rattle.hexline.specs.Line.{kindAnswerOf};
 ghost use Rattle.monitor.specs.Monitor.{decisionOf};
-ghost use Rattle.abi.specs.Answer.{carriedNumber, entryAnswer, grant, numberAnswer, outcomeAnswer, rangeWritten, refusalBy, testAnswer, withLabel, withRange, withTuple};
+ghost use Rattle.abi.specs.Answer.{entryAnswer, grant, nextNumber, numberAnswer, numbered, outcomeAnswer, rangeWritten, refusal, refusalBy, testAnswer, withLabel, withRange, withTuple};
 
-// A refusal's number, or 0 for a grant; and the number that a grant answers, or the one more number that a refusal carries.
+// A refusal's number, or 0 for a grant; whether a refusal carries one more number, 1 or 0; and the number that a grant answers or a refusal
+// carries, else 0.
 #[repr(C)]
 pub struct Answer {
     pub refusal: u32,
+    pub carries: u32,
     pub value: u64,
 }
 
@@ -62,25 +68,35 @@ pub struct RangeWritten {
 pub fn granted(value: u64) -> Answer
     ensures { λ r. ⌜ r ≡ grant value ⌝ }
 {
-    Answer { refusal: 0, value }
+    Answer {
+        refusal: 0,
+        carries: 0,
+        value,
+    }
 }
 
-fn carried(c: Carried) -> u64
-    ensures { λ r. ⌜ r ≡ carriedNumber (carriedOf c) ⌝ }
+// A refusal of a number, and of what it carries.
+fn refusal_of(number: u8, c: Carried) -> Answer
+    ensures { λ r. ⌜ r ≡ refusal number (carriedOf c) ⌝ }
 {
     match c {
-        Carried::Number(n) => n as u64,
-        Carried::Nothing => 0,
+        Carried::Number(n) => Answer {
+            refusal: number as u32,
+            carries: 1,
+            value: n as u64,
+        },
+        Carried::Nothing => Answer {
+            refusal: number as u32,
+            carries: 0,
+            value: 0,
+        },
     }
 }
 
 pub fn refused(e: Errno) -> Answer
     ensures { λ r. ⌜ r ≡ refusalBy e ⌝ }
 {
-    Answer {
-        refusal: errno::number(e) as u32,
-        value: carried(errno::detail(e)),
-    }
+    refusal_of(errno::number(e), errno::detail(e))
 }
 
 pub fn of_test(t: Test) -> Answer
@@ -103,6 +119,17 @@ pub fn of_number(n: Number) -> Answer
     match n {
         Number::Value(v) => granted(v),
         Number::Refused(e) => refused(e),
+    }
+}
+
+// The least category at or above a number; where there is none, the number of categories, which is none of them.
+pub fn of_next(n: Next) -> Answer
+    ensures { λ r. ⌜ r ≡ numbered nextNumber (nextAnswerOf n) ⌝ }
+{
+    match n {
+        Next::Category(c) => granted(c),
+        Next::Nothing => granted((WORDS * 64) as u64),
+        Next::Refused(e) => refused(e),
     }
 }
 

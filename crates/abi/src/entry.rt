@@ -10,7 +10,7 @@ ghost use Rattle.abi.specs.Entry.{classOf, decodedOf, encodedOf, formedO
 
 #[repr(C)]
 pub struct Entry {
-    pub names: u32,
+    pub names: u64,
     pub number: u64,
     pub label: Label,
     pub name: Name,
@@ -24,7 +24,7 @@ pub fn formed(e: Entry) -> bool
     (e.names == 1) | (e.names == 2) | ((e.names == 3) & (e.number == 0))
 }
 
-fn value(names: u32, number: u64) -> Value
+fn value(names: u64, number: u64) -> Value
     ensures { λ r. ⌜ r ≡ valueOf names number ⌝ }
 {
     if names == 1 {
@@ -50,7 +50,7 @@ pub fn decode(e: Entry) -> entry::Entry
     }
 }
 
-fn class(v: Value) -> u32
+fn class(v: Value) -> u64
     ensures { λ r. ⌜ r ≡ classOf v ⌝ }
 {
     match v {

@@ -2,6 +2,6 @@
 // each is one that there is, `decode` makes the value of it, and `encode` goes the other way. Labels, ranges, tuples and states pass as they are.
 pub mod answer;
 pub mod entry;
+pub mod outcome;
 pub mod request;
 pub mod style;
-pub mod table;

@@ -12,18 +12,18 @@ ghost use Rattle.abi.specs.Request.{credentialsFormed, credentialsOf, ob
 pub struct Credentials {
     pub label: Label,
     pub range: Range,
-    pub read_override: u8,
-    pub write_override: u8,
-    pub relabel: u8,
+    pub read_override: u64,
+    pub write_override: u64,
+    pub relabel: u64,
 }
 
-// Class: 0 file, 1 fifo, 2 process, 3 message queue, 4 shared memory, 5 semaphore. Kind: 0 regular, 1 directory, 2 other.
+// Class: 0 file, 1 fifo, 2 process, 3 message queue, 4 shared memory, 5 semaphore. Kind: 0 regular, 1 directory, 2 other; it counts for a file.
 #[repr(C)]
 pub struct Object {
-    pub class: u32,
-    pub kind: u32,
-    pub has_label: u8,
-    pub has_tuple: u8,
+    pub class: u64,
+    pub kind: u64,
+    pub has_label: u64,
+    pub has_tuple: u64,
     pub label: Label,
     pub tuple: Tuple,
 }
@@ -50,11 +50,11 @@ pub fn decode_credentials(c: Credentials) -> monitor::Credentials
     }
 }
 
-// Whether class, kind and flags are some that there are.
+// Whether the class, the kind of a file, and the flags are some that there are.
 pub fn object_formed(o: Object) -> bool
     ensures { λ r. ⌜ r ≡ objectFormed o ⌝ }
 {
-    (o.class <= 5) & (o.kind <= 2) & (o.has_label <= 1) & (o.has_tuple <= 1)
+    (o.class <= 5) & ((o.class != 0) | (o.kind <= 2)) & (o.has_label <= 1) & (o.has_tuple <= 1)
 }
 
 pub fn decode_object(o: Object) -> monitor::Object
@@ -63,8 +63,8 @@ pub fn decode_object(o: Object) -> monitor::Object
     let label = o.label;
     let tuple = o.tuple;
     monitor::Object {
-        class: numbers::class_of(o.class as u64),
-        kind: numbers::kind_of(o.kind as u64),
+        class: numbers::class_of(o.class),
+        kind: numbers::kind_of(o.kind),
         present: Presence {
             label: o.has_label == 1,
             tuple: o.has_tuple == 1,

@@ -8,14 +8,14 @@ ghost use Rattle.abi.specs.Style.{formOf, formedOf, styleOf, subjectForm
 #[repr(C)]
 pub struct Subject {
     pub label: Label,
-    pub read_override: u8,
+    pub read_override: u64,
 }
 
 // Form: 0 definition, 1 alias. Variant: 0 names, 1 abbreviations.
 #[repr(C)]
 pub struct Style {
-    pub form: u8,
-    pub variant: u8,
+    pub form: u64,
+    pub variant: u64,
 }
 
 pub fn subject_formed(s: Subject) -> bool
@@ -40,7 +40,7 @@ pub fn formed(s: Style) -> bool
     (s.form <= 1) & (s.variant <= 1)
 }
 
-fn form(n: u8) -> Form
+fn form(n: u64) -> Form
     ensures { λ r. ⌜ r ≡ formOf n ⌝ }
 {
     if n == 1 {
@@ -49,7 +49,7 @@ fn form(n: u8) -> Form
     Form::Definition
 }
 
-fn variant(n: u8) -> Variant
+fn variant(n: u64) -> Variant
     ensures { λ r. ⌜ r ≡ variantOf n ⌝ }
 {
     if n == 1 {

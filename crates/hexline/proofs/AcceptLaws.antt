@@ -6,7 +6,7 @@ use mathlib.Core.Path.{_≡_, refl, sym, ap, ap₂, _∙_}
 use Prim.Native.Nat.{ℕ, zero, suc, _+_, _≤_, _<_}
 use native.Mathlib.Numerals.{add-one}
 use native.Mathlib.Omega.{arith}
-use lib.Dec.{eqb, leb}
+use lib.Dec.{eqb, leb, ltb}
 use lib.ListN.{drop, length, replicate, take, length-drop, length-take}
 use lib.Seq.{getD-drop, getD-take, length-take-le, take-all, take-at}
 use borrow.Author.Tests.{eq-eqb, le-leb, le-ltb, lt-ltb}
@@ -21,7 +21,7 @@ use Rattle.label.proofs.LabelLaws.{equal-exact}
 use Rattle.frame.specs.Frame.{bodyFrom, bodyOf, framedOf}
 use Rattle.hexline.specs.Accept.{TextsAt, judgedOf, noEntry, partOf, textOk, valueByteOk}
 use Rattle.hexline.specs.Body.{byteAt, labelAt, labelSize, lineWords}
-use Rattle.hexline.specs.Entry.{atMost, entryFrom, isLetter, isNameByte, labelFrom, layoutOf, maxAbbreviation, maxName, nameByteAt, nameByteOk, nameOf, past, spanBytes, textByte, textFrom, validOf, valueFrom, valueOk, valueSize}
+use Rattle.hexline.specs.Entry.{abbreviationSize, atMost, entryFrom, isLetter, isNameByte, labelFrom, layoutOf, nameByteAt, nameByteOk, nameOf, nameSize, past, spanBytes, textByte, textFrom, validOf, valueFrom, valueOk, valueSize}
 use Rattle.hexline.specs.Line.{abbreviationIn, contentsOf, entryForm, entryIn, nameIn, readEntryOf}
 use Rattle.hexline.specs.declared.accept.Judged.{Judged}
 use Rattle.hexline.specs.declared.entry.Entry.{Entry}
@@ -49,7 +49,7 @@ value-judged w bs (suc (suc (suc (suc class)))) i small low high = absurd (omega
 
 -- ---- a text
 
-pub text-judged : (most : ℕ) (bs : List ℕ) (i n : ℕ) → n ≤ most → i + n ≤ length bs → nameOf (textFrom most bs i n) n ≡ textOk (take n (drop i bs))
+pub text-judged : (most : ℕ) (bs : List ℕ) (i n : ℕ) → n < most → i + n ≤ length bs → nameOf (textFrom most bs i n) n ≡ textOk (take n (drop i bs))
 unfolding nameOf nameByteOk textFrom textByte textOk
 text-judged most bs i n h room =
     ap₂ _&&_ begins (same-truth (every (nameByteAt xs n) (length xs)) (every (λ k. isNameByte (byteAt t k)) (length t)) to from)
@@ -76,8 +76,8 @@ text-judged most bs i n h room =
     first zero e = refl
     first (suc m) e = rw (e (omega arith))
 
-    begins : (leb n (length xs) && (eqb n 0 || isLetter (byteAt xs 0))) ≡ (eqb (length t) 0 || isLetter (byteAt t 0))
-    begins = rw (le-leb n (length xs) (omega (arith, size)), long) (first n (λ l. same 0 l))
+    begins : (ltb n (length xs) && (eqb n 0 || isLetter (byteAt xs 0))) ≡ (eqb (length t) 0 || isLetter (byteAt t 0))
+    begins = rw (lt-ltb n (length xs) (omega (arith, size)), long) (first n (λ l. same 0 l))
 
     to : every (nameByteAt xs n) (length xs) ≡ true → every (λ k. isNameByte (byteAt t k)) (length t) ≡ true
     to e =
@@ -128,8 +128,8 @@ body-judged bs small e =
     let at = abbreviation-at lineWords bs 1 in
     let d = length-drop (a .at) bs in
     ap₂ _&&_ (ap₂ _&&_ (ap (λ (v : Bool). v && leb 1 (n .length)) (value-judged lineWords bs (p .class) 2 small (f .low) (f .high)))
-    (text-judged maxName bs (n .at) (n .length) (f .name) (omega (arith, f .size))))
-    (text-judged maxAbbreviation bs (a .at) (a .length) (f .abbreviation) (omega (arith, f .size))
+    (text-judged nameSize bs (n .at) (n .length) (omega (arith, f .name)) (omega (arith, f .size))))
+    (text-judged abbreviationSize bs (a .at) (a .length) (omega (arith, f .abbreviation)) (omega (arith, f .size))
     ∙ ap textOk (take-all (a .length) (drop (a .at) bs) (omega (arith, f .size))))
 
 -- ---- a line
@@ -190,8 +190,8 @@ texts-at line out n e m p q form =
     let at = abbreviation-at lineWords (bodyOf line) 1 in
     let l = layoutOf lineWords (bodyOf line) 1 in
     record {
-      name-is = rw p (part-stands (bodyOf line) out n (l .name) e m h (omega (arith, f .size)) ∙ ap (spanBytes (bodyOf line)) (sym (at-most-all maxName (l .name) (f .name))) ∙ sym (name-stands line));
-      abbreviation-is = rw q (part-stands (bodyOf line) out n (l .abbreviation) e m h (omega (arith, f .size)) ∙ ap (spanBytes (bodyOf line)) (sym (at-most-all maxAbbreviation (l .abbreviation) (f .abbreviation))) ∙ sym (abbreviation-stands line));
+      name-is = rw p (part-stands (bodyOf line) out n (l .name) e m h (omega (arith, f .size)) ∙ ap (spanBytes (bodyOf line)) (sym (at-most-all nameSize (l .name) (omega (arith, f .name)))) ∙ sym (name-stands line));
+      abbreviation-is = rw q (part-stands (bodyOf line) out n (l .abbreviation) e m h (omega (arith, f .size)) ∙ ap (spanBytes (bodyOf line)) (sym (at-most-all abbreviationSize (l .abbreviation) (omega (arith, f .abbreviation)))) ∙ sym (abbreviation-stands line));
     }
 
 -- ---- what a line is judged to be

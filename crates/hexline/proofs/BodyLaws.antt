@@ -4,7 +4,7 @@ use mathlib.Core.List.{List, [], _∷_, _++_}
 use mathlib.Core.Logic.{⊎-elim}
 use mathlib.Core.Path.{_≡_, sym, ap, ap₂, _∙_}
 use Prim.Native.Nat.{ℕ, zero, suc, _+_, _*_, _/_, _%_, _^_, _≤_, _<_}
-use native.Mathlib.Nat.{add-zero, mod-eq-of-lt, mod-lt, zero-lt-suc}
+use native.Mathlib.Nat.{add-zero, mod-lt, zero-lt-suc}
 use native.Mathlib.Omega.{arith}
 use lib.Dec.{eqb}
 use lib.ListN.{drop, getD, length, take, length-append, length-drop, List·getD-append, List·getD-eq-default}
@@ -99,10 +99,10 @@ category-byte ws i =
 category-byte-small : (ws : List ℕ) (i : ℕ) → categoryByte ws i < 256
 category-byte-small ws i = rw category-byte (mod-lt (wordAt ws (i / 8) / 256 ^ (i % 8)) (zero-lt-suc 255))
 
-pub label-bytes : (w : ℕ) (l : Label) → Bytes (labelBytes w l)
+pub label-bytes : (w : ℕ) (l : Label) → Label.validOf l ≡ true → Bytes (labelBytes w l)
 unfolding labelBytes
-label-bytes w l zero = mod-lt (l .hierarchy) (zero-lt-suc 255)
-label-bytes w l (suc i) = bytes-tabulate (categoryByte (l .categories)) (8 * w) (category-byte-small (l .categories)) i
+label-bytes w l v zero = let s = valid-hierarchy l v in omega arith
+label-bytes w l v (suc i) = bytes-tabulate (categoryByte (l .categories)) (8 * w) (category-byte-small (l .categories)) i
 
 -- byte k of word j
 pub word-byte : (ws : List ℕ) (j k : ℕ) → k < 8 → categoryByte ws (8 * j + k) ≡ wordAt ws j / 256 ^ k % 256
@@ -131,18 +131,18 @@ label-typed w bs i small =
         (λ p. rw (word-from w bs (i + 1) j p) (number-bound 256 (byteAt bs) small (i + 1 + 8 * j) 8)) (le-or-lt w j)
 
 -- the bytes of a label read back as the label
-pub label-back : (w : ℕ) (bs : List ℕ) (i : ℕ) (l : Label) → Holds bs i (labelBytes w l) → Label.Typed l → Label.validOf l ≡ true → Within w l → labelAt w bs i ≡ l
+pub label-back : (w : ℕ) (bs : List ℕ) (i : ℕ) (l : Label) → Holds bs i (labelBytes w l) → Label.Typed l → Within w l → labelAt w bs i ≡ l
 unfolding labelBytes labelAt
-label-back w bs i l h t v within = ap₂ Label.labelOf first rest
+label-back w bs i l h t within = ap₂ Label.labelOf first rest
   where
     cats : List ℕ
     cats = l .categories
 
-    size : length (l .hierarchy % 256 ∷ tabulate (categoryByte cats) (8 * w)) ≡ labelSize w
+    size : length (l .hierarchy ∷ tabulate (categoryByte cats) (8 * w)) ≡ labelSize w
     size = let t = tabulate-length (categoryByte cats) (8 * w) in omega arith
 
     first : byteAt bs i ≡ l .hierarchy
-    first = ap (byteAt bs) (sym (add-zero i)) ∙ h 0 (omega (arith, size)) ∙ mod-eq-of-lt (let s = valid-hierarchy l v in omega arith)
+    first = ap (byteAt bs) (sym (add-zero i)) ∙ h 0 (omega (arith, size))
 
     digit : (j k : ℕ) → j < w → k < 8 → byteAt bs (i + 1 + 8 * j + k) ≡ wordAt cats j / 256 ^ k % 256
     digit j k lj lk =
@@ -169,8 +169,8 @@ label-forth w bs i small fits h =
     ws : List ℕ
     ws = tabulate (wordFrom w bs (i + 1)) words
 
-    at-index : (k : ℕ) → k < labelSize w → getD (byteAt bs i % 256 ∷ tabulate (categoryByte ws) (8 * w)) k 0 ≡ getD bs (i + k) 0
-    at-index zero p = mod-eq-of-lt (small i) ∙ ap (byteAt bs) (sym (add-zero i))
+    at-index : (k : ℕ) → k < labelSize w → getD (byteAt bs i ∷ tabulate (categoryByte ws) (8 * w)) k 0 ≡ getD bs (i + k) 0
+    at-index zero p = ap (byteAt bs) (sym (add-zero i))
     at-index (suc m) p =
         let q : m / 8 < w = omega arith in
         tabulate-at (categoryByte ws) (8 * w) m 0 (omega arith)
@@ -186,18 +186,18 @@ pub range-length : (w : ℕ) (x : Range) → length (rangeBytes w x) ≡ rangeSi
 unfolding rangeBytes
 range-length w x = length-append (labelBytes w (x .low)) (labelBytes w (x .high)) ∙ ap₂ _+_ (label-length w (x .low)) (label-length w (x .high))
 
-pub range-bytes : (w : ℕ) (x : Range) → Bytes (rangeBytes w x)
+pub range-bytes : (w : ℕ) (x : Range) → Range.validOf x ≡ true → Bytes (rangeBytes w x)
 unfolding rangeBytes
-range-bytes w x =
-    bytes-append (labelBytes w (x .low)) (labelBytes w (x .high)) (label-bytes w (x .low)) (label-bytes w (x .high))
-
-pub range-back : (w : ℕ) (bs : List ℕ) (i : ℕ) (x : Range) → Holds bs i (rangeBytes w x) → Range.TypedRange x → Range.validOf x ≡ true → Within w (x .low) → Within w (x .high) → rangeAt w bs i ≡ x
-unfolding rangeBytes rangeAt
-range-back w bs i x h t v wl wh =
+range-bytes w x v =
     let ends = valid-parts x v in
+    bytes-append (labelBytes w (x .low)) (labelBytes w (x .high)) (label-bytes w (x .low) (ends .low)) (label-bytes w (x .high) (ends .high))
+
+pub range-back : (w : ℕ) (bs : List ℕ) (i : ℕ) (x : Range) → Holds bs i (rangeBytes w x) → Range.TypedRange x → Within w (x .low) → Within w (x .high) → rangeAt w bs i ≡ x
+unfolding rangeBytes rangeAt
+range-back w bs i x h t wl wh =
     let n = label-length w (x .low) in
-    ap₂ Range.rangeOf (label-back w bs i (x .low) (holds-first bs i (labelBytes w (x .low)) (labelBytes w (x .high)) h) (t .low) (ends .low) wl)
-    (label-back w bs (i + labelSize w) (x .high) (holds-second bs i (i + labelSize w) (labelBytes w (x .low)) (labelBytes w (x .high)) (omega arith) h) (t .high) (ends .high) wh)
+    ap₂ Range.rangeOf (label-back w bs i (x .low) (holds-first bs i (labelBytes w (x .low)) (labelBytes w (x .high)) h) (t .low) wl)
+    (label-back w bs (i + labelSize w) (x .high) (holds-second bs i (i + labelSize w) (labelBytes w (x .low)) (labelBytes w (x .high)) (omega arith) h) (t .high) wh)
 
 -- two parts that stand side by side
 pub parts-join : (i m n : ℕ) (bs : List ℕ) → part i m bs ++ part (i + m) n bs ≡ part i (m + n) bs

@@ -84,11 +84,11 @@ word-more ws a b c i j p q =
 
 -- a label's bytes: the hierarchy, then all words of the set
 pub label-put : (before out : List ℕ) (at w j : ℕ) (l : Label) → at < length before → j ≡ w
-    → Appended (set before at (l .hierarchy % 256)) (at + 1) (tabulate (categoryByte (l .categories)) (8 * j)) (at + 1 + 8 * j) out
+    → Appended (set before at (l .hierarchy)) (at + 1) (tabulate (categoryByte (l .categories)) (8 * j)) (at + 1 + 8 * j) out
     → Appended before at (labelBytes w l) (at + 1 + 8 * j) out
 unfolding labelBytes
 label-put before out at w j l h e p =
-    let q = appended-both (appended-byte before at (l .hierarchy % 256) h) p in
+    let q = appended-both (appended-byte before at (l .hierarchy) h) p in
     rw (sym e) q
 
 -- ---- a label's bytes, copied out of a line's body

@@ -18,7 +18,7 @@ use Rattle.label.proofs.BoolLaws.{both}
 use Rattle.frame.specs.Frame.{readOf}
 use Rattle.frame.proofs.FrameLaws.{Bytes, bytes-append, bytes-take, cons-bytes}
 use Rattle.hexline.specs.Body.{byteAt, labelSize}
-use Rattle.hexline.specs.Entry.{TypedEntry, abbreviationText, classOf, entryBytes, entryFrom, entryOf, entrySize, layoutOf, maxAbbreviation, maxName, nameText, past, textBytes, textFrom, validOf, valueBytes, valueSize}
+use Rattle.hexline.specs.Entry.{TypedEntry, abbreviationSize, abbreviationText, classOf, entryBytes, entryFrom, entryOf, entrySize, layoutOf, maxAbbreviation, maxName, nameSize, nameText, past, textBytes, textFrom, validOf, valueBytes, valueSize}
 use Rattle.hexline.specs.Line.{contentsOf, entryBody, entryForm, entryIn, formOf, lineOf}
 use Rattle.hexline.specs.declared.entry.Entry.{Entry}
 use Rattle.hexline.specs.declared.entry.Layout.{Layout}
@@ -44,8 +44,8 @@ value-most w v = let n = value-size w v Label.zeroLabel in let l = value-length 
 
 -- a valid entry's name and abbreviation fit their arrays
 record Fits (e : Entry) : Type 0 where
-  named : e .name .length ≤ length (e .name .bytes)
-  short : e .abbreviation .length ≤ length (e .abbreviation .bytes)
+  named : e .name .length < length (e .name .bytes)
+  short : e .abbreviation .length < length (e .abbreviation .bytes)
 
 fits-of : (e : Entry) → validOf e ≡ true → Fits e
 fits-of e v =
@@ -95,8 +95,8 @@ body-parts kind w e fits =
     let front = holds-first bs 1 (c ∷ value ++ name) abbreviation all in
     let first = holds-first bs 1 (c ∷ value) name front in
     let v = value-size w (e .value) (e .label) in
-    let n = text-length (e .name .bytes) (e .name .length) (fits .named) in
-    let a = text-length (e .abbreviation .bytes) (e .abbreviation .length) (fits .short) in
+    let n = text-length (e .name .bytes) (e .name .length) (omega (arith, fits .named)) in
+    let a = text-length (e .abbreviation .bytes) (e .abbreviation .length) (omega (arith, fits .short)) in
     let l = length-append (c ∷ value) name in
     let m = length-append (c ∷ value ++ name) abbreviation in
     let i = 2 + valueSize w c in
@@ -152,10 +152,10 @@ module _ (kind w : ℕ) (bs : List ℕ) (e : Entry) (ty : TypedEntry e) (v : val
       let n = ty .name-size in
       let a = ty .abbreviation-size in
       let val = value-back w bs 2 (e .value) (e .label) (ty .label) within (x .value) (at .value) in
-      let name = text-back maxName bs i (e .name .length) (e .name .bytes) n (omega arith) (at .name) (name-zero (e .name .bytes) (e .name .length) (x .name)) in
-      let abbreviation = text-back maxAbbreviation bs j (e .abbreviation .length) (e .abbreviation .bytes) a (omega arith) (at .abbreviation) (name-zero (e .abbreviation .bytes) (e .abbreviation .length) (x .abbreviation)) in
+      let name = text-back nameSize bs i (e .name .length) (e .name .bytes) n (omega arith) (at .name) (name-zero (e .name .bytes) (e .name .length) (x .name)) in
+      let abbreviation = text-back abbreviationSize bs j (e .abbreviation .length) (e .abbreviation .bytes) a (omega arith) (at .abbreviation) (name-zero (e .abbreviation .bytes) (e .abbreviation .length) (x .abbreviation)) in
       ap (entryFrom w bs 2) (at .layout-of)
-      ∙ ap₂ (λ (y : Value) (l : Label). entryOf y l (nameText (textFrom maxName bs i (e .name .length)) (e .name .length)) (abbreviationText (textFrom maxAbbreviation bs j (e .abbreviation .length)) (e .abbreviation .length))) (val .0) (val .1)
+      ∙ ap₂ (λ (y : Value) (l : Label). entryOf y l (nameText (textFrom nameSize bs i (e .name .length)) (e .name .length)) (abbreviationText (textFrom abbreviationSize bs j (e .abbreviation .length)) (e .abbreviation .length))) (val .0) (val .1)
       ∙ ap₂ (λ (xs ys : List ℕ). entryOf (e .value) (e .label) (nameText xs (e .name .length)) (abbreviationText ys (e .abbreviation .length))) name abbreviation
 
 entry-bytes : (kind w : ℕ) (e : Entry) → kind < 256 → TypedEntry e → validOf e ≡ true → Bytes (entryBody kind w e)
@@ -190,8 +190,8 @@ entry-forth kind w bs fits small f =
     let a = byteAt bs j in
     let size = p .size in
     let val = value-forth w bs c 2 small fits (p .low) (p .high) (omega arith) in
-    let name = text-forth maxName bs i (p .name) (omega arith) in
-    let abbreviation = text-forth maxAbbreviation bs j (p .abbreviation) (omega arith) in
+    let name = text-forth nameSize bs i (omega (arith, p .name)) (omega arith) in
+    let abbreviation = text-forth abbreviationSize bs j (omega (arith, p .abbreviation)) (omega arith) in
     let class-part : c ∷ part 2 vs bs ≡ part 1 (1 + vs) bs = ap (λ (xs : List ℕ). xs ++ part 2 vs bs) (sym (one-part bs 1 (omega arith))) ∙ parts-join 1 1 vs bs in
     let i-is : i ≡ 1 + (1 + vs) = omega arith in
     let j-is : j ≡ 1 + (1 + vs + (1 + n)) = omega arith in
@@ -200,8 +200,8 @@ entry-forth kind w bs fits small f =
     ap (λ (k : ℕ). part 1 (1 + vs + (1 + n)) bs ++ part k (1 + a) bs) j-is ∙ parts-join 1 (1 + vs + (1 + n)) (1 + a) bs in
     first-part (1 + vs + (1 + n) + (1 + a)) bs (omega arith) ∙ ap₂ (λ (b : ℕ) (xs : List ℕ). b ∷ xs) (p .kind-is) (sym whole)
     ∙ ap₂ (λ (xs ys : List ℕ). kind ∷ xs ++ ys) (sym upto-name) (sym abbreviation)
-    ∙ ap₂ (λ (xs ys : List ℕ). kind ∷ (xs ++ ys ++ textBytes (textFrom maxAbbreviation bs (j + 1) a) a)) (sym class-part) (sym name)
-    ∙ ap₂ (λ (b : ℕ) (xs : List ℕ). kind ∷ (b ∷ xs ++ textBytes (textFrom maxName bs (i + 1) n) n ++ textBytes (textFrom maxAbbreviation bs (j + 1) a) a)) (sym (val .0)) (sym (val .1))
+    ∙ ap₂ (λ (xs ys : List ℕ). kind ∷ (xs ++ ys ++ textBytes (textFrom abbreviationSize bs (j + 1) a) a)) (sym class-part) (sym name)
+    ∙ ap₂ (λ (b : ℕ) (xs : List ℕ). kind ∷ (b ∷ xs ++ textBytes (textFrom nameSize bs (i + 1) n) n ++ textBytes (textFrom abbreviationSize bs (j + 1) a) a)) (sym (val .0)) (sym (val .1))
 
 pub entry-exact : (kind w : ℕ) → kind < 256 → w ≤ words → (e : Entry) → TypedEntry e → Within w (e .label) → (line : List ℕ)
     → (lineOf (validOf e) (entryBody kind w e) ≡ granted line) ↔ (readOf (contentsOf (entryForm kind w) (entryIn w) validOf) line ≡ granted e)

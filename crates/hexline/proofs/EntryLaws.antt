@@ -37,9 +37,6 @@ unfolding valueOk
 hierarchy-small h l e =
     valid-hierarchy (Label.labelOf h []) (first-true (Label.validOf (Label.labelOf h [])) (Label.equalOf l Label.zeroLabel) e)
 
-pub hierarchy-byte : (h : ℕ) (l : Label) → valueOk (Hierarchy h) l ≡ true → h < 256
-hierarchy-byte h l e = let s = hierarchy-small h l e in omega arith
-
 pub record Valid (e : Entry) : Type 0 where
   pub value : valueOk (e .value) (e .label) ≡ true
   pub named : 1 ≤ e .name .length
@@ -56,9 +53,10 @@ valid-parts e h =
     let t = three-true v l n (first-true (v && l && n) a h) in
     record { value = t .0; named = leb-true 1 (e .name .length) (t .1); name = t .2; abbreviation = second-true (v && l && n) a h }
 
-pub name-fits : (bs : List ℕ) (n : ℕ) → nameOf bs n ≡ true → n ≤ length bs
+-- a zero past it fits too
+pub name-fits : (bs : List ℕ) (n : ℕ) → nameOf bs n ≡ true → n < length bs
 unfolding nameOf
-name-fits bs n e = leb-true n (length bs) (three-true (leb n (length bs)) (eqb n 0 || isLetter (byteAt bs 0)) (every (nameByteAt bs n) (length bs)) e .0)
+name-fits bs n e = ltb-true n (length bs) (three-true (ltb n (length bs)) (eqb n 0 || isLetter (byteAt bs 0)) (every (nameByteAt bs n) (length bs)) e .0)
 
 -- ---- sizes
 
@@ -99,7 +97,7 @@ name-at : (bs : List ℕ) (n : ℕ) → nameOf bs n ≡ true → (k : ℕ) → k
 unfolding nameOf
 name-at bs n e k l =
     every-at (nameByteAt bs n) (length bs) k
-    (three-true (leb n (length bs)) (eqb n 0 || isLetter (byteAt bs 0)) (every (nameByteAt bs n) (length bs)) e .2) l
+    (three-true (ltb n (length bs)) (eqb n 0 || isLetter (byteAt bs 0)) (every (nameByteAt bs n) (length bs)) e .2) l
 
 -- the bytes of a name
 pub name-byte : (bs : List ℕ) (n : ℕ) → nameOf bs n ≡ true → (k : ℕ) → k < n → isNameByte (byteAt bs k) ≡ true
@@ -157,10 +155,10 @@ value-size w (Category c) l = refl
 value-size w WholeLabel l = sym (label-length w l)
 
 pub value-bytes : (w : ℕ) (v : Value) (l : Label) → Label.Typed l → valueOk v l ≡ true → Bytes (valueBytes w v l)
-unfolding valueBytes
+unfolding valueBytes valueOk
 value-bytes w (Hierarchy h) l t e = cons-bytes h [] (let s = hierarchy-small h l e in omega arith) (λ i. omega arith)
 value-bytes w (Category c) l t e = cons-bytes c [] (category-small c l e) (λ i. omega arith)
-value-bytes w WholeLabel l t e = label-bytes w l
+value-bytes w WholeLabel l t e = label-bytes w l e
 
 zero-typed : Label.Typed Label.zeroLabel
 zero-typed = record { hierarchy = omega arith; length-is = refl; word = word }
@@ -190,7 +188,7 @@ value-back w bs i (Hierarchy h) l t within e here =
     (ap Hierarchy (ap (byteAt bs) (sym (add-zero i)) ∙ here 0 (omega arith)), no-label l t (second-true (Label.validOf (Label.labelOf h [])) (Label.equalOf l Label.zeroLabel) e))
 value-back w bs i (Category c) l t within e here =
     (ap Category (ap (byteAt bs) (sym (add-zero i)) ∙ here 0 (omega arith)), no-label l t (second-true (ltb c 256) (Label.equalOf l Label.zeroLabel) e))
-value-back w bs i WholeLabel l t within e here = (refl, label-back w bs i l here t e within)
+value-back w bs i WholeLabel l t within e here = (refl, label-back w bs i l here t within)
 
 -- a value that is read is written as the bytes that it was read from
 pub value-forth : (w : ℕ) (bs : List ℕ) (class i : ℕ) → Bytes bs → w ≤ words → 1 ≤ class → class ≤ 3 → i + valueSize w class ≤ length bs

@@ -13,7 +13,7 @@ use Rattle.frame.specs.Frame.{bodyOf, bytesOf, checkOf, digitOf, digitsOf, fram
 use Rattle.octets.specs.Bytes.{ascii}
 use Rattle.hexline.specs.Body.{categoryByte, labelBytes, lineWords, numberOf}
 use Rattle.hexline.specs.Entry
-use Rattle.hexline.specs.Entry.{abbreviationText, entryBytes, entryFrom, entryOf, isLetter, isNameByte, labelFrom, layoutOf, maxAbbreviation, nameByteOk, nameOf, nameText, textByte, textFrom, valueBytes, valueFrom, valueOk, valueSize}
+use Rattle.hexline.specs.Entry.{abbreviationSize, abbreviationText, entryBytes, entryFrom, entryOf, isLetter, isNameByte, labelFrom, layoutOf, nameByteOk, nameOf, nameText, textByte, textFrom, valueBytes, valueFrom, valueOk, valueSize}
 use Rattle.hexline.specs.Line.{contentsOf, entryBody, entryForm, entryLineOf, formOf, kindOf, readEntryOf, readTupleOf, tupleForm}
 use Rattle.hexline.specs.Regions.{presentBelow}
 use Rattle.hexline.specs.declared.entry.Entry.{Entry}
@@ -25,7 +25,7 @@ lowLine = ascii "040114036c6f770092\n"
 
 low : Entry
 low =
-    entryOf (Hierarchy 20) zeroLabel (nameText (ascii "low" ++ replicate 28 0) 3) (abbreviationText (replicate maxAbbreviation 0) 0)
+    entryOf (Hierarchy 20) zeroLabel (nameText (ascii "low" ++ replicate 29 0) 3) (abbreviationText (replicate abbreviationSize 0) 0)
 
 -- "east", short "e", is category 7
 eastLine : List ℕ
@@ -33,7 +33,7 @@ eastLine = ascii "04020704656173740165dc\n"
 
 east : Entry
 east =
-    entryOf (Category 7) zeroLabel (nameText (ascii "east" ++ replicate 27 0) 4) (abbreviationText (ascii "e" ++ replicate 14 0) 1)
+    entryOf (Category 7) zeroLabel (nameText (ascii "east" ++ replicate 28 0) 4) (abbreviationText (ascii "e" ++ replicate 15 0) 1)
 
 -- the same with its sum one too high
 eastWrong : List ℕ

@@ -50,9 +50,9 @@ module _ (kind w : ℕ) (k : kind < 256) (fits : w ≤ words) where
   unfolding labelBody labelForm
   label-exact l t within =
       line-exact (labelForm kind w) (labelIn w) Label.validOf (labelBody kind w) l
-      (λ v. cons-bytes kind (labelBytes w l) k (label-bytes w l))
+      (λ v. cons-bytes kind (labelBytes w l) k (label-bytes w l v))
       (λ v. let n = label-length w l in form-of (kind ∷ labelBytes w l) (1 + labelSize w) kind (omega arith) refl)
-      (λ v. label-back w (kind ∷ labelBytes w l) 1 l (holds-second (kind ∷ labelBytes w l) 0 1 (kind ∷ []) (labelBytes w l) refl (holds-self (kind ∷ labelBytes w l))) t v within)
+      (λ v. label-back w (kind ∷ labelBytes w l) 1 l (holds-second (kind ∷ labelBytes w l) 0 1 (kind ∷ []) (labelBytes w l) refl (holds-self (kind ∷ labelBytes w l))) t within)
       (λ bs small f. let n = form-length bs (1 + labelSize w) kind f in
       kind-part bs (labelSize w) kind f ∙ ap (λ (xs : List ℕ). kind ∷ xs) (sym (label-forth w bs 1 small fits (omega arith))))
 
@@ -63,9 +63,9 @@ module _ (kind w : ℕ) (k : kind < 256) (fits : w ≤ words) where
   unfolding rangeBody rangeForm
   range-exact x t low high =
       line-exact (rangeForm kind w) (rangeIn w) Range.validOf (rangeBody kind w) x
-      (λ v. cons-bytes kind (rangeBytes w x) k (range-bytes w x))
+      (λ v. cons-bytes kind (rangeBytes w x) k (range-bytes w x v))
       (λ v. let n = range-length w x in form-of (kind ∷ rangeBytes w x) (1 + rangeSize w) kind (omega arith) refl)
-      (λ v. range-back w (kind ∷ rangeBytes w x) 1 x (holds-second (kind ∷ rangeBytes w x) 0 1 (kind ∷ []) (rangeBytes w x) refl (holds-self (kind ∷ rangeBytes w x))) t v low high)
+      (λ v. range-back w (kind ∷ rangeBytes w x) 1 x (holds-second (kind ∷ rangeBytes w x) 0 1 (kind ∷ []) (rangeBytes w x) refl (holds-self (kind ∷ rangeBytes w x))) t low high)
       (λ bs small f. let n = form-length bs (1 + rangeSize w) kind f in
       kind-part bs (rangeSize w) kind f ∙ ap (λ (xs : List ℕ). kind ∷ xs) (sym (range-forth w bs 1 small fits (omega arith))))
 
@@ -89,7 +89,7 @@ module _ (kind w : ℕ) (k : kind < 256) (fits : w ≤ words) where
       let body = kind ∷ presenceOf t ∷ regionsBytes w t regions in
       line-exact (tupleForm kind w) (tupleIn w) Tuple.validOf (tupleBody kind w) t
       (λ v. let p = presence-small t in
-      cons-bytes kind (presenceOf t ∷ regionsBytes w t regions) k (cons-bytes (presenceOf t) (regionsBytes w t regions) (omega arith) (regions-bytes w t regions (omega arith))))
+      cons-bytes kind (presenceOf t ∷ regionsBytes w t regions) k (cons-bytes (presenceOf t) (regionsBytes w t regions) (omega arith) (regions-bytes w t v regions (omega arith))))
       (λ v. let n = presence-size w t in
       both (lt-ltb (presenceOf t) 8 (presence-small t)) (form-of body (presentBelow (presenceOf t) regions * rangeSize w + 2) kind (omega arith) refl))
       (λ v. tuple-back w t body 2 ty within v (holds-second body 0 2 (kind ∷ presenceOf t ∷ []) (regionsBytes w t regions) refl (holds-self body)))

@@ -1,5 +1,5 @@
 -- The laws of lines by their kind, and the ways in which their readers and writers end. Assumes nothing.
-use mathlib.Core.Bool.{Bool, true, false, _&&_, true≢false}
+use mathlib.Core.Bool.{Bool, true, false, not, _&&_, true≢false}
 use mathlib.Core.List.{List}
 use mathlib.Core.Logic.{_↔_}
 use mathlib.Core.Option.{none}
@@ -8,14 +8,16 @@ use Prim.Native.Nat.{ℕ, _+_, _*_, _≤_, _<_}
 use native.Mathlib.Omega.{arith}
 use lib.Dec.{eqb, leb, ltb}
 use lib.ListN.{length}
-use borrow.Author.Tests.{eq-eqb, eqb-true, le-leb, leb-true, ltb-true}
+use borrow.Author.Tests.{eq-eqb, eqb-true, le-leb, leb-true, ltb-true, not-false, not-true}
 use Rattle.label.specs.Answer.{Answered, granted, isGranted, refused, require}
 use Rattle.label.specs.Buffer.{WrittenTo}
 use Rattle.label.specs.Region.{regions}
 use Rattle.label.specs.declared.answer.Outcome.the-variants.{Granted, Refused}
 use Rattle.label.specs.declared.answer.Written.{Written}
+use Rattle.label.specs.declared.answer.Written.the-variants.{Refused as RefusedWrite}
 use Rattle.label.specs.declared.errno.Errno.the-variants.{Invalid}
 use Rattle.label.proofs.AnswerLaws.{answers-grant, answers-refusal, grant-passed, grant-told, passed, stopped}
+use Rattle.label.proofs.BufferLaws.{writes-nothing}
 use Rattle.label.proofs.BoolLaws.{both, first-true, not-so, second-true, three-true}
 use Rattle.frame.specs.Frame.{bodyOf, frameAnswerOf, frameOf, framedOf, maxBody, readOf}
 use Rattle.frame.proofs.FrameLaws.{Bytes, frame-length, reads-back, reads-exactly}
@@ -160,12 +162,20 @@ entry-form-parts kind w bs e =
       high = leb-true (p .class) 3 (u .2);
     }
 
--- ---- how a writer ends that has put a body together
+-- ---- how a writer ends: it tests first, and then puts a body together
 
-pub writes-line : (r : Written) (before after bs body : List ℕ) {v valid : Bool} → v ≡ valid → bs ≡ body → length body ≤ maxBody
-    → WrittenTo r (require v 22 (frameAnswerOf bs)) before after → WrittenTo r (lineOf valid body) before after
-writes-line r before after bs body q e h w =
-    let fits : leb (length body) maxBody ≡ true = le-leb (length body) maxBody h in rw (q, e, fits) at w
+module _ {valid test : Bool} (e : test ≡ valid) where
+  pub refuses-line : (body before : List ℕ) → not test ≡ true → WrittenTo (RefusedWrite Invalid) (lineOf valid body) before before
+  refuses-line body before t = writes-nothing Invalid _ _ _ (stopped _ 22 _ (sym e ∙ not-true _ t)) refl
+
+  pub line-due : not test ≡ false → valid ≡ true
+  line-due t = sym e ∙ not-false _ t
+
+  pub writes-line : not test ≡ false → (r : Written) (body before after : List ℕ) {bs : List ℕ} → bs ≡ body → length body ≤ maxBody
+      → WrittenTo r (frameAnswerOf bs) before after → WrittenTo r (lineOf valid body) before after
+  writes-line t r body before after p h w =
+      let fits : leb (length body) maxBody ≡ true = le-leb (length body) maxBody h in
+      rw (line-due t) (rw (p, fits) at w)
 
 -- ---- the kind of a line
 

@@ -152,15 +152,19 @@ presence-size w t = presence-below w t regions (omega arith)
 abbrev pub WithinTuple : ℕ → Tuple → Type 0
 WithinTuple w t = (r : ℕ) → r < regions → Within w (Tuple.rangeAt t r .range .low) × Within w (Tuple.rangeAt t r .range .high)
 
-region-bytes : (w : ℕ) (e : RegionRange) → Bytes (regionBytes w e)
-region-bytes w e =
-    by-present (Tuple.isThere e) (λ h. rw (region-there w e h) (range-bytes w (e .range))) (λ h. rw (region-none w e h) (λ i. omega arith))
+region-bytes : (w : ℕ) (e : RegionRange) → (Tuple.isThere e ≡ true → Range.validOf (e .range) ≡ true) → Bytes (regionBytes w e)
+region-bytes w e v =
+    by-present (Tuple.isThere e) (λ h. rw (region-there w e h) (range-bytes w (e .range) (v h))) (λ h. rw (region-none w e h) (λ i. omega arith))
 
-pub regions-bytes : (w : ℕ) (t : Tuple) → (n : ℕ) → n ≤ regions → Bytes (regionsBytes w t n)
+-- the range of a region that is there is valid
+pub present-valid : (t : Tuple) → Tuple.validOf t ≡ true → (r : ℕ) → r < regions → Tuple.isThere (Tuple.rangeAt t r) ≡ true → Range.validOf (Tuple.rangeAt t r .range) ≡ true
+present-valid t v r l p = valid-placed r (Tuple.rangeAt t r) p (valid-region t v r l) .valid
+
+pub regions-bytes : (w : ℕ) (t : Tuple) → Tuple.validOf t ≡ true → (n : ℕ) → n ≤ regions → Bytes (regionsBytes w t n)
 unfolding regionsBytes
-regions-bytes w t zero h = λ i. omega arith
-regions-bytes w t (suc n) h =
-    bytes-append (regionsBytes w t n) (regionBytes w (Tuple.rangeAt t n)) (regions-bytes w t n (omega arith)) (region-bytes w (Tuple.rangeAt t n))
+regions-bytes w t v zero h = λ i. omega arith
+regions-bytes w t v (suc n) h =
+    bytes-append (regionsBytes w t n) (regionBytes w (Tuple.rangeAt t n)) (regions-bytes w t v n (omega arith)) (region-bytes w (Tuple.rangeAt t n) (present-valid t v n h))
 
 -- the regions below n stand first
 holds-below : (w : ℕ) (t : Tuple) (bs : List ℕ) (i m n : ℕ) → m ≤ n → Holds bs i (regionsBytes w t n) → Holds bs i (regionsBytes w t m)
@@ -188,7 +192,7 @@ module _ (w : ℕ) (t : Tuple) (bs : List ℕ) (i : ℕ) (ty : Tuple.TypedTuple 
 
       there : Tuple.isThere e ≡ true → regionAt w bs (presenceOf t) i r ≡ e
       there p =
-          let x = range-back w bs (i + presentBelow (presenceOf t) r * rangeSize w) (e .range) (rw (region-there w e p) at here) (ty .range r l) (valid-placed r e p (valid-region t valid r l) .valid) (within r l .0) (within r l .1) in
+          let x = range-back w bs (i + presentBelow (presenceOf t) r * rangeSize w) (e .range) (rw (region-there w e p) at here) (ty .range r l) (within r l .0) (within r l .1) in
           ap (λ (b : Bool). cond b (Tuple.present (rangeAt w bs (i + presentBelow (presenceOf t) r * rangeSize w))) Tuple.absent) (same ∙ p)
           ∙ ap₂ (λ (n : ℕ) (y : Range). record { present = n; range = y }) (sym (eqb-true (e .present) 1 p)) x
 

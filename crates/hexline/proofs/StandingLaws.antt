@@ -14,7 +14,7 @@ use Rattle.frame.specs.Frame.{bodyOf}
 use Rattle.frame.proofs.FrameLaws.{body-small}
 use Rattle.hexline.specs.Body.{byteAt, lineWords}
 use Rattle.hexline.specs.Entry
-use Rattle.hexline.specs.Entry.{TypedEntry, abbreviationBytes, atMost, entryFrom, isNameByte, layoutOf, maxAbbreviation, maxName, nameBytes, nameOf, spanBytes, textByte, textFrom}
+use Rattle.hexline.specs.Entry.{TypedEntry, abbreviationBytes, abbreviationSize, atMost, entryFrom, isNameByte, layoutOf, nameBytes, nameOf, nameSize, spanBytes, textByte, textFrom}
 use Rattle.hexline.specs.Line.{abbreviationIn, entryForm, entryIn, nameIn, readEntryOf, standingIn}
 use Rattle.hexline.specs.declared.entry.Entry.{Entry}
 use Rattle.hexline.specs.declared.entry.Span.{Span}
@@ -67,11 +67,11 @@ text-stands most bs s = ext-getD 0 xs (spanBytes bs (atMost most s)) (size ∙ s
 
 pub name-stands : (line : List ℕ) → nameBytes (standingIn line) ≡ spanBytes (bodyOf line) (nameIn line)
 unfolding standingIn nameIn entryFrom
-name-stands line = text-stands maxName (bodyOf line) (layoutOf lineWords (bodyOf line) 1 .name)
+name-stands line = text-stands nameSize (bodyOf line) (layoutOf lineWords (bodyOf line) 1 .name)
 
 pub abbreviation-stands : (line : List ℕ) → abbreviationBytes (standingIn line) ≡ spanBytes (bodyOf line) (abbreviationIn line)
 unfolding standingIn abbreviationIn entryFrom
-abbreviation-stands line = text-stands maxAbbreviation (bodyOf line) (layoutOf lineWords (bodyOf line) 1 .abbreviation)
+abbreviation-stands line = text-stands abbreviationSize (bodyOf line) (layoutOf lineWords (bodyOf line) 1 .abbreviation)
 
 -- ---- in any line, what stands there has what its type says
 
@@ -84,10 +84,10 @@ standing-typed line =
     let a = p .abbreviation in
     record {
       label = label-from-typed lineWords bs (p .class) 2 (body-small line);
-      name-size = tabulate-length (textByte bs (n .at) (n .length)) maxName;
-      name-byte = text-bytes bs (n .at) (n .length) maxName (body-small line);
-      abbreviation-size = tabulate-length (textByte bs (a .at) (a .length)) maxAbbreviation;
-      abbreviation-byte = text-bytes bs (a .at) (a .length) maxAbbreviation (body-small line);
+      name-size = tabulate-length (textByte bs (n .at) (n .length)) nameSize;
+      name-byte = text-bytes bs (n .at) (n .length) nameSize (body-small line);
+      abbreviation-size = tabulate-length (textByte bs (a .at) (a .length)) abbreviationSize;
+      abbreviation-byte = text-bytes bs (a .at) (a .length) abbreviationSize (body-small line);
     }
 
 -- ---- the texts of a valid entry
@@ -108,5 +108,5 @@ abbreviation-letters e v = text-letters (e .abbreviation .bytes) (e .abbreviatio
 
 -- ---- the name of an entry of the code's type, valid or not
 
-pub name-length : (e : Entry) → TypedEntry e → length (nameBytes e) ≤ maxName
+pub name-length : (e : Entry) → TypedEntry e → length (nameBytes e) ≤ nameSize
 name-length e t = let n = t .name-size in let l = length-take (e .name .length) (e .name .bytes) in omega arith

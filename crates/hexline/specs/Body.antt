@@ -3,7 +3,7 @@
 use mathlib.Core.Bool.{cond}
 use mathlib.Core.List.{List, _∷_, _++_}
 use mathlib.Core.Path.{_≡_}
-use Prim.Native.Nat.{ℕ, zero, suc, _+_, _*_, _%_}
+use Prim.Native.Nat.{ℕ, zero, suc, _+_, _*_}
 use lib.Dec.{ltb}
 use lib.ListN.{getD, length, take}
 use Rattle.label.specs.Index.{tabulate}
@@ -35,9 +35,9 @@ categoryBit ws c = cond (has ws c) 1 0
 unfoldable pub categoryByte : List ℕ → ℕ → ℕ
 categoryByte ws i = numberOf 2 (λ k. categoryBit ws (8 * i + k)) 0 8
 
--- the hierarchy as a byte, which a valid one is, then the categories, in the bytes of w words
+-- the hierarchy, then the categories, in the bytes of w words
 unfoldable pub labelBytes : ℕ → Label → List ℕ
-labelBytes w l = l .hierarchy % 256 ∷ tabulate (categoryByte (l .categories)) (8 * w)
+labelBytes w l = l .hierarchy ∷ tabulate (categoryByte (l .categories)) (8 * w)
 
 -- how many bytes that is
 abbrev pub labelSize : ℕ → ℕ

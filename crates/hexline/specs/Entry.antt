@@ -24,6 +24,13 @@ maxName = 31
 abbrev pub maxAbbreviation : ℕ
 maxAbbreviation = 15
 
+-- the bytes of the arrays that hold them: a zero always ends them
+abbrev pub nameSize : ℕ
+nameSize = maxName + 1
+
+abbrev pub abbreviationSize : ℕ
+abbreviationSize = maxAbbreviation + 1
+
 abbrev pub nameText : List ℕ → ℕ → Name
 nameText bs n = record { bytes = bs; length = n }
 
@@ -35,7 +42,7 @@ entryOf value label name abbreviation = record { value = value; label = label; n
 
 -- what stands beside a refusal
 abbrev pub zeroEntry : Entry
-zeroEntry = entryOf (Hierarchy 0) Label.zeroLabel (nameText (replicate maxName 0) 0) (abbreviationText (replicate maxAbbreviation 0) 0)
+zeroEntry = entryOf (Hierarchy 0) Label.zeroLabel (nameText (replicate nameSize 0) 0) (abbreviationText (replicate abbreviationSize 0) 0)
 
 -- ---- which entries are valid
 
@@ -54,9 +61,9 @@ nameByteOk n i c = cond (ltb i n) (isNameByte c) (eqb c 0)
 abbrev pub nameByteAt : List ℕ → ℕ → ℕ → Bool
 nameByteAt bs n i = nameByteOk n i (byteAt bs i)
 
--- the first n bytes are a name, which begins with a letter, or nothing, and the rest are zeros
+-- the first n bytes are a name, which begins with a letter, or nothing, and the rest are zeros, of which there is one at least
 unfoldable pub nameOf : List ℕ → ℕ → Bool
-nameOf bs n = leb n (length bs) && (eqb n 0 || isLetter (byteAt bs 0)) && every (nameByteAt bs n) (length bs)
+nameOf bs n = ltb n (length bs) && (eqb n 0 || isLetter (byteAt bs 0)) && every (nameByteAt bs n) (length bs)
 
 -- the value is one of its class: the hierarchy of a valid label, a category of one byte, a valid label. Where the class has no label, zeros
 -- are held there
@@ -135,8 +142,8 @@ textFrom most bs i n = tabulate (textByte bs i n) most
 unfoldable pub entryFrom : ℕ → List ℕ → ℕ → Layout → Entry
 entryFrom w bs i p =
     entryOf (valueFrom (p .class) (byteAt bs i)) (labelFrom w bs (p .class) i)
-    (nameText (textFrom maxName bs (p .name .at) (p .name .length)) (p .name .length))
-    (abbreviationText (textFrom maxAbbreviation bs (p .abbreviation .at) (p .abbreviation .length)) (p .abbreviation .length))
+    (nameText (textFrom nameSize bs (p .name .at) (p .name .length)) (p .name .length))
+    (abbreviationText (textFrom abbreviationSize bs (p .abbreviation .at) (p .abbreviation .length)) (p .abbreviation .length))
 
 -- ---- the texts of an entry, and where they stand in a body
 
@@ -157,7 +164,7 @@ spanBytes bs s = tabulate (λ k. byteAt bs (s .at + k)) (s .length)
 -- what every value of the code's type Entry has (`entry::typed` proves it)
 pub record TypedEntry (e : Entry) : Type 0 where
   pub label : Label.Typed (e .label)
-  pub name-size : length (e .name .bytes) ≡ maxName
+  pub name-size : length (e .name .bytes) ≡ nameSize
   pub name-byte : (i : ℕ) → byteAt (e .name .bytes) i < 2 ^ 8
-  pub abbreviation-size : length (e .abbreviation .bytes) ≡ maxAbbreviation
+  pub abbreviation-size : length (e .abbreviation .bytes) ≡ abbreviationSize
   pub abbreviation-byte : (i : ℕ) → byteAt (e .abbreviation .bytes) i < 2 ^ 8

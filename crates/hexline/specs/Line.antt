@@ -15,7 +15,7 @@ use Rattle.range.specs.declared.Range.{Range}
 use Rattle.range.specs.declared.tuple.Tuple.{Tuple}
 use Rattle.hexline.specs.Body.{byteAt, labelAt, labelBytes, labelSize, lineWords, rangeAt, rangeBytes, rangeSize}
 use Rattle.hexline.specs.Entry
-use Rattle.hexline.specs.Entry.{atMost, past, entryBytes, entryFrom, layoutOf, maxAbbreviation, maxName}
+use Rattle.hexline.specs.Entry.{abbreviationSize, atMost, entryBytes, entryFrom, layoutOf, maxAbbreviation, maxName, nameSize, past}
 use Rattle.frame.specs.Frame.{bodyOf, frameOf, framedOf, readOf}
 use Rattle.hexline.specs.Regions.{presenceOf, presentBelow, regionsBytes, tupleAt}
 use Rattle.hexline.specs.declared.entry.Entry.{Entry}
@@ -121,10 +121,10 @@ standingIn line = entryIn lineWords (bodyOf line)
 
 -- where its name and its abbreviation stand in the line's body
 unfoldable pub nameIn : List ℕ → Span
-nameIn line = atMost maxName (layoutOf lineWords (bodyOf line) 1 .name)
+nameIn line = atMost nameSize (layoutOf lineWords (bodyOf line) 1 .name)
 
 unfoldable pub abbreviationIn : List ℕ → Span
-abbreviationIn line = atMost maxAbbreviation (layoutOf lineWords (bodyOf line) 1 .abbreviation)
+abbreviationIn line = atMost abbreviationSize (layoutOf lineWords (bodyOf line) 1 .abbreviation)
 
 -- ---- any line
 

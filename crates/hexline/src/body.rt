@@ -3,10 +3,13 @@ use label::Label;
 use label::words::WORDS;
 use range::Range;
 ghost use mathlib.Core.Path.{_≡_};
+ghost use mathlib.Core.Bool.{true};
 ghost use Prim.Native.Nat.{_+_, _*_, _/_, _%_, _<_, _≤_, _^_};
 ghost use lib.ListN.{length};
 ghost use Rattle.label.specs.Index.{tabulate};
+ghost use Rattle.label.specs.Label as labels;
 ghost use Rattle.label.specs.Words.{words as setWords};
+ghost use Rattle.range.specs.Range as ranges;
 ghost use Rattle.frame.specs.Frame.{bodyOf};
 ghost use Rattle.hexline.specs.Body.{Appended, byteAt, labelAt, labelBytes, labelSize, numberOf, rangeAt, rangeBytes, rangeSize, wordFrom};
 
@@ -29,12 +32,12 @@ fn put_word(out: &mut [u8], at: usize, w: u64)
     }
 }
 
-// A label's bytes at index at, and the index past them.
+// A valid label's bytes at index at, and the index past them.
 pub(crate) fn put_label(out: &mut [u8], at: usize, l: Label, words: usize) -> usize
-    requires { ⌜ (words ≤ setWords) × (at + labelSize words ≤ length (now out)) ⌝ }
+    requires { ⌜ (words ≤ setWords) × (at + labelSize words ≤ length (now out)) × (labels.validOf l ≡ true) ⌝ }
     ensures { λ r. ⌜ Appended (now (out .entry)) at (labelBytes words l) r (now (out .exit)) ⌝ }
 {
-    out[at] = (l.hierarchy % 256) as u8;
+    out[at] = l.hierarchy as u8;
     let categories = l.categories;
     let mut j = 0;
     while j < words {
@@ -44,9 +47,9 @@ pub(crate) fn put_label(out: &mut [u8], at: usize, l: Label, words: usize) -> us
     at + 1 + 8 * j
 }
 
-// A range's bytes at index at, and the index past them.
+// A valid range's bytes at index at, and the index past them.
 pub(crate) fn put_range(out: &mut [u8], at: usize, x: Range, words: usize) -> usize
-    requires { ⌜ (words ≤ setWords) × (at + rangeSize words ≤ length (now out)) ⌝ }
+    requires { ⌜ (words ≤ setWords) × (at + rangeSize words ≤ length (now out)) × (ranges.validOf x ≡ true) ⌝ }
     ensures { λ r. ⌜ Appended (now (out .entry)) at (rangeBytes words x) r (now (out .exit)) ⌝ }
 {
     let next = put_label(out, at, x.low, words);

@@ -20,6 +20,11 @@ pub const MAX_NAME: usize = 31;
 
 pub const MAX_ABBREVIATION: usize = 15;
 
+// The arrays that hold them have room for a zero past the last byte, so that they are C strings.
+pub const NAME_BYTES: usize = MAX_NAME + 1;
+
+pub const ABBREVIATION_BYTES: usize = MAX_ABBREVIATION + 1;
+
 // What an alias stands for. A label stands beside it.
 pub enum Value {
     Hierarchy(u64),
@@ -29,13 +34,13 @@ pub enum Value {
 
 #[repr(C)]
 pub struct Name {
-    pub bytes: [u8; MAX_NAME],
+    pub bytes: [u8; NAME_BYTES],
     pub length: usize,
 }
 
 #[repr(C)]
 pub struct Abbreviation {
-    pub bytes: [u8; MAX_ABBREVIATION],
+    pub bytes: [u8; ABBREVIATION_BYTES],
     pub length: usize,
 }
 
@@ -57,11 +62,11 @@ pub fn zero() -> Entry
     ensures { λ r. ⌜ r ≡ zeroEntry ⌝ }
 {
     let name = Name {
-        bytes: [0u8; MAX_NAME],
+        bytes: [0u8; NAME_BYTES],
         length: 0,
     };
     let abbreviation = Abbreviation {
-        bytes: [0u8; MAX_ABBREVIATION],
+        bytes: [0u8; ABBREVIATION_BYTES],
         length: 0,
     };
     Entry {
@@ -117,11 +122,11 @@ fn first(bytes: &[u8]) -> u8
     0
 }
 
-// Whether the first n bytes are a name or nothing, and the rest are zeros.
+// Whether the first n bytes are a name or nothing, and the rest are zeros, of which there is one at least.
 fn is_name(bytes: &[u8], n: usize) -> bool
     ensures { λ r. ⌜ r ≡ nameOf (now (bytes .entry)) n ⌝ }
 {
-    (n <= bytes.len()) & ((n == 0) | is_letter(first(bytes))) & all_name_bytes(bytes, n)
+    (n < bytes.len()) & ((n == 0) | is_letter(first(bytes))) & all_name_bytes(bytes, n)
 }
 
 fn value_ok(v: Value, l: Label) -> bool
@@ -173,8 +178,8 @@ fn put_value(out: &mut [u8], at: usize, v: Value, l: Label, words: usize) -> usi
     ensures { λ r. ⌜ Appended (now (out .entry)) at (valueBytes words v l) r (now (out .exit)) ⌝ }
 {
     match v {
-        Value::Hierarchy(h) => put_byte(out, at, (h % 256) as u8),
-        Value::Category(c) => put_byte(out, at, (c % 256) as u8),
+        Value::Hierarchy(h) => put_byte(out, at, h as u8),
+        Value::Category(c) => put_byte(out, at, c as u8),
         Value::WholeLabel => put_label(out, at, l, words),
     }
 }
@@ -325,9 +330,9 @@ pub(crate) fn entry_from(line: &[u8], at: usize, p: Layout, words: usize) -> Ent
 {
     let name = p.name;
     let abbreviation = p.abbreviation;
-    let mut n = [0u8; MAX_NAME];
+    let mut n = [0u8; NAME_BYTES];
     copy_text(line, name.at, name.length, &mut n);
-    let mut a = [0u8; MAX_ABBREVIATION];
+    let mut a = [0u8; ABBREVIATION_BYTES];
     copy_text(line, abbreviation.at, abbreviation.length, &mut a);
     Entry {
         value: value_from(p.class, frame::byte(line, at)),

@@ -83,45 +83,51 @@ pub fn kind_of(line: &[u8]) -> Kind
     Kind::Refused(Errno::Invalid)
 }
 
-// The line of a body, the first n bytes, where its contents are valid.
-fn write_line(valid: bool, bytes: &[u8], n: usize, out: &mut [u8]) -> Written
-    ensures { λ r. ⌜ WrittenTo r (require valid 22 (frameAnswerOf (take n (now (bytes .entry))))) (now (out .entry)) (now (out .exit)) ⌝ }
+// The line of a body, the first n bytes.
+fn write_line(bytes: &[u8], n: usize, out: &mut [u8]) -> Written
+    ensures { λ r. ⌜ WrittenTo r (frameAnswerOf (take n (now (bytes .entry)))) (now (out .entry)) (now (out .exit)) ⌝ }
 {
-    if valid {
-        return frame::write(octets::front(bytes, n), out);
-    }
-    Written::Refused(Errno::Invalid)
+    frame::write(octets::front(bytes, n), out)
 }
 
 // The line of a label, kind 01.
 pub fn write_label(l: Label, out: &mut [u8]) -> Written
     ensures { λ r. ⌜ WrittenTo r (labelLineOf l) (now (out .entry)) (now (out .exit)) ⌝ }
 {
+    if !label::valid(l) {
+        return Written::Refused(Errno::Invalid);
+    }
     let mut bytes = [0u8; BODY_BYTES];
     bytes[0] = 1;
     let n = put_label(&mut bytes, 1, l, LINE_WORDS);
-    write_line(label::valid(l), &bytes, n, out)
+    write_line(&bytes, n, out)
 }
 
 // The line of a range, kind 02.
 pub fn write_range(x: Range, out: &mut [u8]) -> Written
     ensures { λ r. ⌜ WrittenTo r (rangeLineOf x) (now (out .entry)) (now (out .exit)) ⌝ }
 {
+    if !range::valid(x) {
+        return Written::Refused(Errno::Invalid);
+    }
     let mut bytes = [0u8; BODY_BYTES];
     bytes[0] = 2;
     let n = put_range(&mut bytes, 1, x, LINE_WORDS);
-    write_line(range::valid(x), &bytes, n, out)
+    write_line(&bytes, n, out)
 }
 
 // The line of a tuple, kind 03.
 pub fn write_tuple(t: Tuple, out: &mut [u8]) -> Written
     ensures { λ r. ⌜ WrittenTo r (tupleLineOf t) (now (out .entry)) (now (out .exit)) ⌝ }
 {
+    if !tuple::valid(t) {
+        return Written::Refused(Errno::Invalid);
+    }
     let mut bytes = [0u8; BODY_BYTES];
     bytes[0] = 3;
     bytes[1] = presence(t);
     let n = put_regions(&mut bytes, 2, t, LINE_WORDS);
-    write_line(tuple::valid(t), &bytes, n, out)
+    write_line(&bytes, n, out)
 }
 
 // The line of an alias entry, kind 04.
@@ -134,7 +140,7 @@ pub fn write_entry(e: Entry, out: &mut [u8]) -> Written
     let mut bytes = [0u8; BODY_BYTES];
     bytes[0] = 4;
     let n = put_entry(&mut bytes, 1, e, LINE_WORDS);
-    write_line(true, &bytes, n, out)
+    write_line(&bytes, n, out)
 }
 
 // Whether a line's body has that many bytes, and that kind.

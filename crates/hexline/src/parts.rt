@@ -1,8 +1,8 @@
 // The parts of the alias entry that stands in a line, read where they stand: for a table of lines that were tested, which is then walked without
 // making entries. These functions are total: in any bytes something stands.
 use crate::body::LINE_WORDS;
-use crate::entry::MAX_ABBREVIATION;
-use crate::entry::MAX_NAME;
+use crate::entry::ABBREVIATION_BYTES;
+use crate::entry::NAME_BYTES;
 use crate::entry::Span;
 use crate::entry::Value;
 use crate::entry::label_from;
@@ -11,7 +11,7 @@ use crate::entry::value_from;
 use label::Label;
 ghost use mathlib.Core.Path.{_≡_};
 ghost use Prim.Native.Nat.{_+_, _<_, _≤_};
-ghost use Rattle.hexline.specs.Entry.{atMost, maxAbbreviation, maxName};
+ghost use Rattle.hexline.specs.Entry.{abbreviationSize, atMost, nameSize};
 ghost use Rattle.hexline.specs.Line.{abbreviationIn, nameIn, standingIn};
 
 // Where the texts of an entry stand in its line's body.
@@ -48,7 +48,7 @@ pub fn name(line: &[u8]) -> Span
     ensures { λ r. ⌜ r .at + r .length < 1024 ⌝ }
 {
     let p = layout_at(line, 1, LINE_WORDS);
-    at_most(MAX_NAME, p.name)
+    at_most(NAME_BYTES, p.name)
 }
 
 // Where the abbreviation stands in the line's body.
@@ -57,17 +57,17 @@ pub fn abbreviation(line: &[u8]) -> Span
     ensures { λ r. ⌜ r .at + r .length < 1024 ⌝ }
 {
     let p = layout_at(line, 1, LINE_WORDS);
-    at_most(MAX_ABBREVIATION, p.abbreviation)
+    at_most(ABBREVIATION_BYTES, p.abbreviation)
 }
 
 // Both at once.
 pub fn texts(line: &[u8]) -> TextSpans
     ensures { λ r. ⌜ (r .name ≡ nameIn (now (line .entry))) × (r .abbreviation ≡ abbreviationIn (now (line .entry))) ⌝ }
-    ensures { λ r. ⌜ (r .name .at + r .name .length < 1024) × (r .name .length ≤ maxName) × (r .abbreviation .at + r .abbreviation .length < 1024) × (r .abbreviation .length ≤ maxAbbreviation) ⌝ }
+    ensures { λ r. ⌜ (r .name .at + r .name .length < 1024) × (r .name .length ≤ nameSize) × (r .abbreviation .at + r .abbreviation .length < 1024) × (r .abbreviation .length ≤ abbreviationSize) ⌝ }
 {
     let p = layout_at(line, 1, LINE_WORDS);
     TextSpans {
-        name: at_most(MAX_NAME, p.name),
-        abbreviation: at_most(MAX_ABBREVIATION, p.abbreviation),
+        name: at_most(NAME_BYTES, p.name),
+        abbreviation: at_most(ABBREVIATION_BYTES, p.abbreviation),
     }
 }

@@ -6,11 +6,13 @@ use range::tuple;
 use range::tuple::RegionRange;
 use range::tuple::Tuple;
 ghost use mathlib.Core.Path.{_≡_};
-ghost use mathlib.Core.Bool.{cond};
+ghost use mathlib.Core.Bool.{cond, true};
 ghost use Prim.Native.Nat.{_+_, _*_, _<_, _≤_, _^_};
 ghost use lib.ListN.{length};
 ghost use Rattle.label.specs.Region.{regions};
 ghost use Rattle.label.specs.Words.{bit, words as setWords};
+ghost use Rattle.range.specs.Range as ranges;
+ghost use Rattle.range.specs.Tuple as tuples;
 ghost use Rattle.frame.specs.Frame.{bodyOf};
 ghost use Rattle.hexline.specs.Body.{Appended, rangeSize};
 ghost use Rattle.hexline.specs.Regions.{presenceOf, presentAt, presentBelow, regionAt, regionBytes, regionsBytes, tupleAt};
@@ -35,8 +37,9 @@ pub(crate) fn presence(t: Tuple) -> u8
     p
 }
 
+// The bytes of a valid range where it is there, and the index past them.
 fn put_region(out: &mut [u8], at: usize, e: RegionRange, words: usize) -> usize
-    requires { ⌜ (words ≤ setWords) × (at + rangeSize words ≤ length (now out)) ⌝ }
+    requires { ⌜ (words ≤ setWords) × (at + rangeSize words ≤ length (now out)) × (tuples.isThere e ≡ true → ranges.validOf (e .range) ≡ true) ⌝ }
     ensures { λ r. ⌜ Appended (now (out .entry)) at (regionBytes words e) r (now (out .exit)) ⌝ }
 {
     if e.present == 1 {
@@ -45,9 +48,9 @@ fn put_region(out: &mut [u8], at: usize, e: RegionRange, words: usize) -> usize
     at
 }
 
-// The bytes of the ranges that are there, at index at, and the index past them.
+// The bytes of the ranges that are there in a valid tuple, at index at, and the index past them.
 pub(crate) fn put_regions(out: &mut [u8], at: usize, t: Tuple, words: usize) -> usize
-    requires { ⌜ (words ≤ setWords) × (at + regions * rangeSize words ≤ length (now out)) ⌝ }
+    requires { ⌜ (words ≤ setWords) × (at + regions * rangeSize words ≤ length (now out)) × (tuples.validOf t ≡ true) ⌝ }
     ensures { λ r. ⌜ Appended (now (out .entry)) at (regionsBytes words t regions) r (now (out .exit)) ⌝ }
 {
     let mut next = at;

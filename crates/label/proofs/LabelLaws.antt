@@ -1,19 +1,20 @@
 -- The laws of labels, with a set of any number of words. Assumes nothing.
-use mathlib.Core.Bool.{Bool, true, _&&_}
+use mathlib.Core.Bool.{Bool, true, _&&_, _||_}
 use mathlib.Core.Logic.{_↔_}
-use mathlib.Core.Path.{_≡_, refl, sym, ap₂, _∙_, subst}
-use Prim.Native.Nat.{ℕ, _≤_, max, min}
+use mathlib.Core.Path.{_≡_, refl, sym, ap, ap₂, _∙_, subst}
+use Prim.Native.Nat.{ℕ, _≤_, _<_, max, min}
 use native.Mathlib.Nat.{le-refl}
 use native.Mathlib.Omega.{arith}
 use lib.Bits.{or-lt}
-use lib.Dec.{eqb, leb}
+use lib.Dec.{eqb, leb, ltb}
 use lib.ListN.{length}
-use borrow.Author.Tests.{eqb-true, eq-eqb, leb-true, le-leb}
-use Rattle.label.specs.Label.{Typed, dominatesOf, equalOf, labelOf, lowerBoundOf, upperBoundOf, validOf}
-use Rattle.label.specs.Words.{includesOf, wordAt}
+use borrow.Author.Tests.{eqb-true, eq-eqb, leb-true, le-leb, ltb-true}
+use Rattle.label.specs.Label.{Typed, dominatesOf, equalOf, labelOf, lowerBoundOf, upperBoundOf, validOf, withCategoryOf}
+use Rattle.label.specs.Words.{categories, has, includesOf, singleOf, unionOf, wordAt}
 use Rattle.label.specs.declared.Label.{Label}
 use Rattle.label.proofs.BoolLaws.{both, exactly-both, first-true, second-true, swap-and}
-use Rattle.label.proofs.WordLaws.{includes-antisym, includes-intersection, includes-refl, includes-trans, same-equal, same-refl, union-at, union-includes, union-length}
+use Rattle.label.proofs.SingleLaws.{has-single, includes-single}
+use Rattle.label.proofs.WordLaws.{has-union, includes-antisym, includes-intersection, includes-refl, includes-trans, same-equal, same-refl, union-at, union-includes, union-length}
 
 -- ---- dominance, by its two parts
 
@@ -150,3 +151,20 @@ upper-typed a b s t =
       length-is = omega arith;
       word = λ i. rw union-at (or-lt 64 (wordAt (a .categories) i) (wordAt (b .categories) i) (s .word i) (t .word i));
     }
+
+-- ---- a label with one category more
+
+pub with-category : (a : Label) (c k : ℕ) → c < categories → has (withCategoryOf a c .categories) k ≡ (has (a .categories) k || eqb k c)
+unfolding withCategoryOf
+with-category a c k h = has-union (a .categories) (singleOf c) k ∙ ap (λ (b : Bool). has (a .categories) k || b) (has-single c k h)
+
+pub with-category-dominates : (a : Label) (c : ℕ) → dominatesOf (withCategoryOf a c) a ≡ true
+unfolding withCategoryOf dominatesOf
+with-category-dominates a c =
+    both (le-leb (a .hierarchy) (a .hierarchy) (le-refl (a .hierarchy)))
+    (first-true _ (includesOf (unionOf (a .categories) (singleOf c)) (singleOf c))
+    (sym (union-includes (a .categories) (singleOf c) (unionOf (a .categories) (singleOf c))) ∙ includes-refl (unionOf (a .categories) (singleOf c))))
+
+-- a category of a valid label is there if its set includes the category alone
+pub category-told : (a : Label) (c : ℕ) → (validOf a && ltb c categories) ≡ true → includesOf (a .categories) (singleOf c) ≡ has (a .categories) c
+category-told a c t = includes-single (a .categories) c (ltb-true c categories (second-true (validOf a) (ltb c categories) t))

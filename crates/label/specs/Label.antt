@@ -7,7 +7,7 @@ use Prim.Native.Nat.{ℕ, _<_, _^_, max, min}
 use lib.Dec.{eqb, leb}
 use lib.ListN.{length, replicate}
 use Rattle.label.specs.Answer.{Answer, granted, refusedBy}
-use Rattle.label.specs.Words.{includesOf, intersectionOf, sameOf, unionOf, wordAt, words}
+use Rattle.label.specs.Words.{includesOf, intersectionOf, sameOf, singleOf, unionOf, wordAt, words}
 use Rattle.label.specs.declared.Label.{Label}
 use Rattle.label.specs.declared.Next.{Next}
 use Rattle.label.specs.declared.Next.the-variants.{Category, Nothing, Refused}
@@ -37,6 +37,10 @@ upperBoundOf a b = labelOf (max (a .hierarchy) (b .hierarchy)) (unionOf (a .cate
 -- the smaller hierarchy, and the intersection
 unfoldable pub lowerBoundOf : Label → Label → Label
 lowerBoundOf a b = labelOf (min (a .hierarchy) (b .hierarchy)) (intersectionOf (a .categories) (b .categories))
+
+-- a with the category c
+unfoldable pub withCategoryOf : Label → ℕ → Label
+withCategoryOf a c = labelOf (a .hierarchy) (unionOf (a .categories) (singleOf c))
 
 -- what the enum Next says: the category, or that there is none
 abbrev pub nextAnswerOf : Next → Answer (Option ℕ)

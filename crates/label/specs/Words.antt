@@ -15,6 +15,10 @@ use Rattle.label.specs.declared.words.Found.the-variants.{At, Nothing}
 abbrev pub words : ℕ
 words = 4
 
+-- how many categories there are
+abbrev pub categories : ℕ
+categories = words * 64
+
 abbrev pub wordAt : List ℕ → ℕ → ℕ
 wordAt ws i = getD ws i 0
 

@@ -14,11 +14,12 @@ use crate::words::Found;
 use crate::words::WORDS;
 ghost use mathlib.Core.Path.{_≡_};
 ghost use mathlib.Core.Bool.{_&&_};
+ghost use lib.Dec.{ltb};
 ghost use lib.ListN.{length};
 ghost use Rattle.label.specs.Answer.{Answered, granted, require, testOf, numberAnswerOf};
-ghost use Rattle.label.specs.Label.{dominatesOf, equalOf, lowerBoundOf, nextAnswerOf, upperBoundOf, validOf, zeroLabel, Typed};
+ghost use Rattle.label.specs.Label.{dominatesOf, equalOf, lowerBoundOf, nextAnswerOf, upperBoundOf, validOf, withCategoryOf, zeroLabel, Typed};
 ghost use Rattle.label.specs.Region.{regionOf};
-ghost use Rattle.label.specs.Words.{membersOf, nextOf};
+ghost use Rattle.label.specs.Words.{categories, has, membersOf, nextOf};
 
 // The largest hierarchy number of a valid label.
 pub const MAX_HIERARCHY: u64 = 199;
@@ -145,6 +146,44 @@ pub fn category_count(a: Label) -> Number
         return Number::Value(words::count(x));
     }
     Number::Refused(Errno::Invalid)
+}
+
+// Whether a is valid, and c is a category.
+fn valid_with(a: Label, c: u64) -> bool
+    ensures { λ r. ⌜ r ≡ (validOf a && ltb c categories) ⌝ }
+{
+    valid(a) & (c < (WORDS * 64) as u64)
+}
+
+// Whether a has the category c.
+pub fn has_category(a: Label, c: u64) -> Test
+    ensures { λ r. ⌜ testOf r ≡ require (validOf a && ltb c categories) 22 (granted (has (a .categories) c)) ⌝ }
+{
+    if valid_with(a, c) {
+        let x = a.categories;
+        return Test::Holds(words::includes(x, words::single(c)));
+    }
+    Test::Refused(Errno::Invalid)
+}
+
+// a with the category c, which it may have already.
+pub fn with_category(a: Label, c: u64) -> LabelAnswer
+    ensures { λ r. ⌜ Answered (r .outcome) (r .label) zeroLabel (require (validOf a && ltb c categories) 22 (granted (withCategoryOf a c))) ⌝ }
+{
+    if valid_with(a, c) {
+        let x = a.categories;
+        return LabelAnswer {
+            outcome: Outcome::Granted,
+            label: Label {
+                hierarchy: a.hierarchy,
+                categories: words::union(x, words::single(c)),
+            },
+        };
+    }
+    LabelAnswer {
+        outcome: Outcome::Refused(Errno::Invalid),
+        label: zero(),
+    }
 }
 
 // The least category of a at or above from.

@@ -9,7 +9,7 @@ use lib.ListN.{length, length-append}
 use Rattle.label.specs.declared.Label.{Label}
 use Rattle.label.proofs.BoolLaws.{both}
 use Rattle.range.specs.declared.Range.{Range}
-use Rattle.hexline.specs.Entry.{maxName}
+use Rattle.hexline.specs.Entry.{nameSize}
 use Rattle.hexline.specs.declared.entry.Entry.{Entry}
 use Rattle.hexline.specs.declared.entry.Value.the-variants.{WholeLabel}
 use Rattle.alias.specs.Lookup.{lastOf}
@@ -66,13 +66,13 @@ module _ (es : List Entry) (style : Style) (x : Range) where
 -- ---- the alias form
 
 module _ (es : List Entry) (v : Variant) (l : Label) {r : Measure} where
-  pub alias-counted : {n : ℕ} → Counted (named es WholeLabel l) (nameFor es v WholeLabel l) maxName r → r ≡ Bytes n → Counted (namedIn es Alias l) (textIn es Alias v l) maxLabel r
+  pub alias-counted : {n : ℕ} → Counted (named es WholeLabel l) (nameFor es v WholeLabel l) nameSize r → r ≡ Bytes n → Counted (namedIn es Alias l) (textIn es Alias v l) maxLabel r
   unfolding namedIn textIn
   alias-counted {n} t e =
       let w = counted t e in
       rw (w .named) (record { measure = rw (w .named) at (t .measure); at-most = λ m f. let k = t .at-most m f in omega arith })
 
-  pub alias-missing : {s : Measure} → Counted (named es WholeLabel l) (nameFor es v WholeLabel l) maxName s → s ≡ Missing → Counted (definitionNamed es l) (definitionText es v l) maxLabel r
+  pub alias-missing : {s : Measure} → Counted (named es WholeLabel l) (nameFor es v WholeLabel l) nameSize s → s ≡ Missing → Counted (definitionNamed es l) (definitionText es v l) maxLabel r
       → Counted (namedIn es Alias l) (textIn es Alias v l) maxLabel r
   unfolding namedIn textIn
   alias-missing t e d = rw (missed t e) d

@@ -18,7 +18,7 @@ use Rattle.label.proofs.SearchLaws.{last-holds}
 use Rattle.octets.specs.Bytes.{Put}
 use Rattle.octets.proofs.ByteLaws.{nothing-put, put-same-length, then-put}
 use Rattle.frame.specs.Frame.{bodyOf}
-use Rattle.hexline.specs.Entry.{maxName, spanBytes}
+use Rattle.hexline.specs.Entry.{nameSize, spanBytes}
 use Rattle.hexline.specs.Line.{abbreviationIn, nameIn, standingIn}
 use Rattle.hexline.specs.declared.entry.Entry.{Entry}
 use Rattle.hexline.specs.declared.entry.Span.{Span}
@@ -48,12 +48,12 @@ written-stands Abbreviations line =
     pick true = refl
     pick false = refl
 
-pub written-small : (v : Variant) (line : List ℕ) → writtenIn v line .length ≤ maxName
+pub written-small : (v : Variant) (line : List ℕ) → writtenIn v line .length ≤ nameSize
 unfolding writtenIn nameIn abbreviationIn
 written-small Names line = omega arith
 written-small Abbreviations line = pick (leb 1 (abbreviationIn line .length))
   where
-    pick : (t : Bool) → cond t (abbreviationIn line) (nameIn line) .length ≤ maxName
+    pick : (t : Bool) → cond t (abbreviationIn line) (nameIn line) .length ≤ nameSize
     pick true = omega arith
     pick false = omega arith
 
@@ -111,12 +111,12 @@ module _ (bytes starts : List ℕ) (v : Variant) (value : Value) (l : Label) whe
     name-length = rw name-found (span-length (bodyOf line) (writtenIn v line))
 
     pub name-counted : {s : Span} → s ≡ writtenIn v line
-        → Counted (named (entriesBy bytes starts) value l) (nameFor (entriesBy bytes starts) v value l) maxName (Bytes (s .length))
+        → Counted (named (entriesBy bytes starts) value l) (nameFor (entriesBy bytes starts) v value l) nameSize (Bytes (s .length))
     unfolding named
     name-counted {s} g = rw g (counts (record { named = rw e; count = sym name-length; at-most = written-small v line }))
 
   module _ (e : lastOf (entriesBy bytes starts) value l ≡ none) where
-    pub name-missing : Counted (named (entriesBy bytes starts) value l) (nameFor (entriesBy bytes starts) v value l) maxName Missing
+    pub name-missing : Counted (named (entriesBy bytes starts) value l) (nameFor (entriesBy bytes starts) v value l) nameSize Missing
     unfolding named
     name-missing = misses (rw e)
 
@@ -199,7 +199,7 @@ pub record Measured (es : List Entry) (v : Variant) (ws : List ℕ) (total c : �
   pub within : c ≤ words * 64
   pub named : categoriesNamed es (membersBelow ws c) ≡ true
   pub count : total ≡ length (textBelow es v ws c)
-  pub small : total ≤ c * (1 + maxName)
+  pub small : total ≤ c * (1 + nameSize)
 
 module _ {es : List Entry} {v : Variant} {ws : List ℕ} where
   pub measured-none : length ws ≡ words → Measured es v ws 0 0
@@ -213,7 +213,7 @@ module _ {es : List Entry} {v : Variant} {ws : List ℕ} where
 
   module _ {total c : ℕ} (h : Measured es v ws total c) where
     module _ {k : ℕ} (e : nextOf ws c ≡ some k) where
-      pub measured-next : {n : ℕ} → Whole (named es (Category k) zeroLabel) (nameFor es v (Category k) zeroLabel) maxName n → Measured es v ws (total + (1 + n)) (k + 1)
+      pub measured-next : {n : ℕ} → Whole (named es (Category k) zeroLabel) (nameFor es v (Category k) zeroLabel) nameSize n → Measured es v ws (total + (1 + n)) (k + 1)
       measured-next {n} w =
           let s = h .size in
           let u = next-within ws c k e in

@@ -9,7 +9,7 @@ use lib.ListN.{length}
 use Rattle.label.specs.Answer.{Answer, granted, refused}
 use Rattle.label.specs.Words.{words}
 use Rattle.range.specs.declared.Range.{Range}
-use Rattle.hexline.specs.Entry.{maxName}
+use Rattle.hexline.specs.Entry.{nameSize}
 use Rattle.hexline.specs.Line.{abbreviationIn, nameIn}
 use Rattle.hexline.specs.declared.entry.Entry.{Entry}
 use Rattle.hexline.specs.declared.entry.Span.{Span}
@@ -35,12 +35,12 @@ unfoldable pub writtenIn : Variant → List ℕ → Span
 writtenIn Names line = nameIn line
 writtenIn Abbreviations line = cond (leb 1 (abbreviationIn line .length)) (abbreviationIn line) (nameIn line)
 
--- the most bytes of the names of categories with their marks, and of a label
+-- bounds on the bytes of the names of categories with their marks, and of a label: as many as their arrays have
 abbrev pub maxCategories : ℕ
-maxCategories = words * 64 * (1 + maxName)
+maxCategories = words * 64 * (1 + nameSize)
 
 abbrev pub maxLabel : ℕ
-maxLabel = maxName + maxCategories
+maxLabel = nameSize + maxCategories
 
 -- a range that is shown with both ends, or with the low end only: whether all names are there, its text, its status, and the most bytes
 abbrev pub highNamed : List Entry → Style → Range → Bool → Bool

@@ -10,7 +10,7 @@ ghost use mathlib.Core.Path.{_≡_};
 ghost use Prim.Native.Nat.{_+_, _<_, _≤_};
 ghost use lib.ListN.{length};
 ghost use Rattle.frame.specs.Frame.{bodyOf};
-ghost use Rattle.hexline.specs.Entry.{maxName, spanBytes};
+ghost use Rattle.hexline.specs.Entry.{nameSize, spanBytes};
 ghost use Rattle.octets.specs.Bytes.{Put};
 ghost use Rattle.alias.specs.Lines.{entriesBy};
 ghost use Rattle.text.specs.Measure.{Counted, writtenIn};
@@ -25,7 +25,7 @@ pub(crate) enum Measure {
 // Where the name that is written stands in the line of an entry. The second clause follows, and is stated for callers.
 fn written_in(line: &[u8], v: Variant) -> Span
     ensures { λ r. ⌜ r ≡ writtenIn v (now (line .entry)) ⌝ }
-    ensures { λ r. ⌜ (r .at + r .length < 1024) × (r .length ≤ maxName) ⌝ }
+    ensures { λ r. ⌜ (r .at + r .length < 1024) × (r .length ≤ nameSize) ⌝ }
 {
     let name = parts::name(line);
     match v {
@@ -57,7 +57,7 @@ pub(crate) fn measure_name(
     value: Value,
     l: Label,
 ) -> Measure
-    ensures { λ r. ⌜ Counted (named (entriesBy (now (table .entry)) (now (starts .entry))) value l) (nameFor (entriesBy (now (table .entry)) (now (starts .entry))) v value l) maxName r ⌝ }
+    ensures { λ r. ⌜ Counted (named (entriesBy (now (table .entry)) (now (starts .entry))) value l) (nameFor (entriesBy (now (table .entry)) (now (starts .entry))) v value l) nameSize r ⌝ }
 {
     let found = lookup::last(table, starts, value, l);
     match found {

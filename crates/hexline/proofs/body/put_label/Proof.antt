@@ -3,6 +3,7 @@ use Prim.Native.Nat.{_≤_, _+_, _*_, _-_}
 use native.Mathlib.Omega.{arith}
 use lib.ListN.{length-set}
 use Rattle.label.specs.Index.{tabulate}
+use Rattle.label.proofs.LabelLaws.{valid-hierarchy}
 use Rattle.hexline.specs.Body.{Appended, categoryByte}
 use Rattle.hexline.proofs.BodyLoops.{label-put, put-none, word-more}
 use Rattle.hexline.proofs.body.put_label.Statement.{statement}
@@ -14,6 +15,9 @@ Inv-loop out₀ at words categories j₀ out j =
 
 abbrev μ-loop : tie.MeasureT-loop
 μ-loop out₀ at words categories j₀ out j = words - j
+
+cast-out : tie.Need-cast-out Inv-loop μ-loop
+cast-out c = let s = valid-hierarchy (c .before .before .args .l) (c .before .before .pre .2) in record { fits = omega (arith, s) }
 
 loop-holds : tie.Need-loop-holds Inv-loop μ-loop
 loop-holds c = (search needs, put-none _ _ _)
@@ -39,5 +43,5 @@ returns c =
 
 pub put-label-spec : {M : Type 1} → statement M
 put-label-spec =
-    tie.close (tie.spec Inv-loop μ-loop (search needs) (search needs) loop-holds (search needs) (search needs) (search needs) (search needs) (search needs)
+    tie.close (tie.spec Inv-loop μ-loop cast-out (search needs) loop-holds (search needs) (search needs) (search needs) (search needs) (search needs)
     put-word-requires (search needs) (search needs) loop-again (search needs) (search needs) (search needs) same-length returns)

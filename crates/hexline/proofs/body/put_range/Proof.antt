@@ -1,10 +1,14 @@
 use borrow.Author.Needs.{needs}
 use native.Mathlib.Omega.{arith}
+use Rattle.range.proofs.RangeLaws.{valid-parts}
 use Rattle.hexline.specs.Body.{rangeBytes}
 use Rattle.hexline.proofs.BodyLaws.{label-length}
 use Rattle.hexline.proofs.BodyLoops.{appended-both}
 use Rattle.hexline.proofs.body.put_range.Statement.{statement}
 use Rattle.hexline.proofs.body.put_range.Tie as tie
+
+put-label-requires : tie.Need-put-label-requires
+put-label-requires c κs = (search needs, search needs, valid-parts (c .before .before .args .x) (c .before .before .pre .2) .low)
 
 put-label-requires-2 : tie.Need-put-label-requires-2
 put-label-requires-2 c κs =
@@ -13,7 +17,7 @@ put-label-requires-2 c κs =
     let n = label-length (start .args .words) (start .args .x .low) in
     let next = p .put-label .ensures .next in
     let size = p .put-label .ensures .size in
-    (search needs, omega arith)
+    (search needs, omega arith, valid-parts (start .args .x) (start .pre .2) .high)
 
 returns : tie.Need-returns
 unfolding rangeBytes
@@ -22,4 +26,4 @@ returns c =
     appended-both (q .before .before .before .before .put-label .ensures) (q .put-label2 .ensures)
 
 pub put-range-spec : {M : Type 1} → statement M
-put-range-spec = tie.close (tie.spec (search needs) put-label-requires-2 (search needs) returns)
+put-range-spec = tie.close (tie.spec put-label-requires put-label-requires-2 (search needs) returns)

@@ -3,13 +3,13 @@ use mathlib.Core.Path.{_≡_, sym}
 use Prim.Native.Nat.{_≤_}
 use native.Mathlib.Omega.{arith}
 use lib.ListN.{length}
-use Rattle.hexline.specs.Entry.{maxAbbreviation, maxName}
+use Rattle.hexline.specs.Entry.{abbreviationSize, maxAbbreviation, maxName, nameSize}
 use Rattle.hexline.proofs.EntryLaws.{entry-joined, name-fits, text-length, valid-parts, value-length}
 use Rattle.hexline.proofs.entry.put_entry.Statement.{statement}
 use Rattle.hexline.proofs.entry.put_entry.Tie as tie
 
 -- the arrays of an entry's texts are full, and the texts of a valid one fit
-sizes : (s : tie.Start) → (length (s .args .e .name .bytes) ≡ maxName) × (length (s .args .e .abbreviation .bytes) ≡ maxAbbreviation)
+sizes : (s : tie.Start) → (length (s .args .e .name .bytes) ≡ nameSize) × (length (s .args .e .abbreviation .bytes) ≡ abbreviationSize)
 sizes s = (search needs, search needs)
 
 texts : (s : tie.Start)
@@ -21,7 +21,7 @@ texts s =
     let v = valid-parts e (s .pre .2) in
     let n = name-fits (e .name .bytes) (e .name .length) (v .name) in
     let a = name-fits (e .abbreviation .bytes) (e .abbreviation .length) (v .abbreviation) in
-    let l = sizes s in (n, a, omega arith, omega arith)
+    let l = sizes s in (omega arith, omega arith, omega arith, omega arith)
 
 put-value-requires : tie.Need-put-value-requires
 put-value-requires c κs =

@@ -1,7 +1,7 @@
 use borrow.Author.Needs.{needs}
 use mathlib.Core.Path.{ap, _∙_}
 use native.Mathlib.Omega.{arith}
-use Rattle.hexline.specs.Entry.{atMost, maxAbbreviation}
+use Rattle.hexline.specs.Entry.{abbreviationSize, atMost}
 use Rattle.hexline.specs.Line.{abbreviationIn}
 use Rattle.hexline.specs.declared.entry.Layout.{Layout}
 use Rattle.hexline.proofs.parts.abbreviation.Statement.{statement}
@@ -11,7 +11,7 @@ returns : tie.Need-returns
 unfolding abbreviationIn
 returns c =
     let e = c .at-most .ensures in
-    (e ∙ ap (λ (p : Layout). atMost maxAbbreviation (p .abbreviation)) (c .before .layout-at .ensures .0), rw e (omega arith))
+    (e ∙ ap (λ (p : Layout). atMost abbreviationSize (p .abbreviation)) (c .before .layout-at .ensures .0), rw e (omega arith))
 
 pub abbreviation-spec : {M : Type 1} → statement M
 abbreviation-spec = tie.close (tie.spec (search needs) (search needs) returns)

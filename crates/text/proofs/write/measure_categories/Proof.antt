@@ -7,7 +7,7 @@ use lib.ListN.{length}
 use Rattle.label.specs.Label.{zeroLabel}
 use Rattle.label.specs.Words.{foundOf, nextOf, words}
 use Rattle.label.proofs.ListingLaws.{next-within}
-use Rattle.hexline.specs.Entry.{maxName}
+use Rattle.hexline.specs.Entry.{nameSize}
 use Rattle.hexline.specs.declared.entry.Value.the-variants.{Category}
 use Rattle.alias.specs.Lines.{entriesBy}
 use Rattle.text.specs.Write.{nameFor, named}
@@ -32,7 +32,7 @@ whole : (m : tie.After-m Inv-loop μ-loop)
     → let n = m .before .before .before .before .before in
     let a = n .before .before .before .before .before .before .before .args in
     let es = entriesBy (a .table .now) (a .starts .now) in
-    Whole (named es (Category (n .next2 .given .0 .0)) zeroLabel) (nameFor es (a .v) (Category (n .next2 .given .0 .0)) zeroLabel) maxName (m .m .given .0 .0)
+    Whole (named es (Category (n .next2 .given .0 .0)) zeroLabel) (nameFor es (a .v) (Category (n .next2 .given .0 .0)) zeroLabel) nameSize (m .m .given .0 .0)
 whole m = let x = m .before .before in counted (rw (x .before .zero .ensures) at (x .measure-name .ensures)) (m .m .given .1)
 
 loop-holds : tie.Need-loop-holds Inv-loop μ-loop

@@ -1,0 +1,105 @@
+// What a call on a state hands back.
+use crate::answer;
+use crate::answer::Answer;
+use label::Label;
+use segments::Change;
+use segments::Reply;
+use segments::SLOTS;
+use segments::Segment;
+use segments::SegmentTable;
+use segments::Slot;
+ghost use mathlib.Core.Path.{_≡_};
+ghost use Prim.Native.Nat.{_<_};
+ghost use Rattle.segments.specs.Replies.{applied};
+ghost use Rattle.segments.specs.Segments as core;
+ghost use Rattle.segments.specs.Segments.{withSegment, zeroSegment};
+ghost use Rattle.abi.specs.Outcome.{appliedTo, handedBack, replyAnswer, segmentBeside};
+
+// The state that a call leaves, its answer, and what a look shows: zeros beside any other.
+#[repr(C)]
+pub struct Outcome {
+    pub state: SegmentTable,
+    pub answer: Answer,
+    pub shown: Segment,
+}
+
+fn reply(r: Reply) -> Answer
+    ensures { λ a. ⌜ a ≡ replyAnswer r ⌝ }
+{
+    match r {
+        Reply::Done => answer::granted(0),
+        Reply::Opened(p) => answer::granted(p.0),
+        Reply::Shown(_) => answer::granted(0),
+        Reply::Refused(e) => answer::refused(e),
+    }
+}
+
+fn no_segment() -> Segment
+    ensures { λ r. ⌜ r ≡ zeroSegment ⌝ }
+{
+    Segment {
+        label: label::zero(),
+        pages: 0,
+        version: 0,
+    }
+}
+
+fn shown(r: Reply, label: Label) -> Segment
+    ensures { λ x. ⌜ x ≡ segmentBeside r label ⌝ }
+{
+    match r {
+        Reply::Shown(x) => Segment {
+            label,
+            pages: x.pages,
+            version: x.version,
+        },
+        Reply::Done => no_segment(),
+        Reply::Opened(_) => no_segment(),
+        Reply::Refused(_) => no_segment(),
+    }
+}
+
+// What a call of the state hands back.
+pub fn hand_back(o: segments::Outcome) -> Outcome
+    ensures { λ r. ⌜ r ≡ handedBack o ⌝ }
+{
+    let a = o.answer;
+    let r = a.reply;
+    let state = o.table;
+    Outcome {
+        state,
+        answer: reply(r),
+        shown: shown(r, a.label),
+    }
+}
+
+// The state with another segment in a slot.
+fn with_segment(s: SegmentTable, p: Slot, x: Segment) -> SegmentTable
+    requires { ⌜ p .0 < core.slots ⌝ }
+    ensures { λ r. ⌜ r ≡ withSegment s p x ⌝ }
+{
+    let mut next = s;
+    next.segments[p.0 as usize] = x;
+    next
+}
+
+// What a call hands back that changes the state so; no slot that is not there is changed.
+pub fn apply(state: SegmentTable, change: Change) -> Outcome
+    ensures { λ r. ⌜ r ≡ appliedTo state change ⌝ }
+    ensures { λ r. ⌜ (change .slot .0 < core.slots → r ≡ handedBack (applied state change)) ⌝ }
+{
+    let a = change.answer;
+    let r = a.reply;
+    if segments::refuses(r) | (SLOTS as u64 <= change.slot.0) {
+        return Outcome {
+            state,
+            answer: reply(r),
+            shown: shown(r, a.label),
+        };
+    }
+    Outcome {
+        state: with_segment(state, change.slot, change.segment),
+        answer: reply(r),
+        shown: shown(r, a.label),
+    }
+}

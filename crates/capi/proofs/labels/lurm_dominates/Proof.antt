@@ -1,9 +1,0 @@
-use borrow.Author.Needs.{needs}
-use Rattle.capi.proofs.labels.lurm_dominates.Statement.{statement}
-use Rattle.capi.proofs.labels.lurm_dominates.Tie as tie
-
-returns : tie.Need-returns
-returns c = rw (c .of-test .ensures, c .before .dominates .ensures)
-
-pub lurm-dominates-spec : {M : Type 1} → statement M
-lurm-dominates-spec = tie.close (tie.spec (search needs) (search needs) returns)

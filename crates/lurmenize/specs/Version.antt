@@ -1,0 +1,5 @@
+-- The version of the library, 0.2.0, as one number.
+use Prim.Native.Nat.{ℕ, _+_, _*_}
+
+abbrev pub version : ℕ
+version = 0 * 1000000 + 2 * 1000 + 0

@@ -1,0 +1,137 @@
+// Alias tables, and labels and ranges as text. Flags and style are tested before the table.
+use abi::answer;
+use abi::answer::Answer;
+use abi::answer::LabelAnswer;
+use abi::answer::RangeAnswer;
+use abi::answer::RangeWritten;
+use abi::style;
+use abi::style::Style;
+use abi::style::Subject;
+use label::Label;
+use label::answer::Outcome;
+use label::answer::Written;
+use label::errno::Errno;
+use range::Range;
+ghost use mathlib.Core.Path.{_≡_};
+ghost use mathlib.Core.Bool.{_&&_};
+ghost use Rattle.label.specs.Answer.{require};
+ghost use Rattle.alias.specs.Table.{checkOf};
+ghost use Rattle.text.specs.Read.{readLabelOf, readRangeOf};
+ghost use Rattle.text.specs.Subject.{withTable};
+ghost use Rattle.text.specs.Write.{writeLabelOf, writeRangeOf};
+ghost use Rattle.abi.specs.Answer.{RangeWrittenTo, WrittenTo, labelAnswer, numbered, rangeAnswer};
+ghost use Rattle.abi.specs.Flag as flags;
+ghost use Rattle.abi.specs.Style.{formedOf, styleOf, subjectFormed, subjectOf};
+ghost use Rattle.lurmenize.specs.Names.{askFormed, lineCount, writeFormed};
+
+// Whether the flags that every text is asked with are flags.
+fn ask_formed(more: u64, s: Subject) -> bool
+    ensures { λ r. ⌜ r ≡ askFormed more s ⌝ }
+{
+    (more <= 1) & style::subject_formed(s)
+}
+
+// The same, and the style is one.
+fn write_formed(more: u64, s: Subject, x: Style) -> bool
+    ensures { λ r. ⌜ r ≡ writeFormed more s x ⌝ }
+{
+    ask_formed(more, s) & style::formed(x)
+}
+
+#[no_mangle]
+pub extern "C" fn lurm_check_alias_table(aliases: &[u8], more: u64) -> Answer
+    ensures { λ r. ⌜ r ≡ numbered lineCount (require (flags.formedOf more) 22 (checkOf (flags.decodedOf more) (now (aliases .entry)))) ⌝ }
+{
+    if more <= 1 {
+        let t = alias::check(aliases, more == 1);
+        let outcome = t.outcome;
+        let lines = t.lines;
+        return answer::of_outcome(outcome, lines.count as u64);
+    }
+    answer::refused(Errno::Invalid)
+}
+
+#[no_mangle]
+pub extern "C" fn lurm_write_label_text(
+    aliases: &[u8],
+    more: u64,
+    subject: Subject,
+    style: Style,
+    label: Label,
+    out: &mut [u8],
+) -> Answer
+    ensures { λ r. ⌜ WrittenTo r (require (writeFormed more subject style) 22 (withTable (flags.decodedOf more) (now (aliases .entry)) (λ es. writeLabelOf es (subjectOf subject) (styleOf style) label))) (now (out .entry)) (now (out .exit)) ⌝ }
+{
+    if write_formed(more, subject, style) {
+        return answer::of_written(text::write::write_label(
+            aliases,
+            more == 1,
+            style::decode_subject(subject),
+            style::decode(style),
+            label,
+            out,
+        ));
+    }
+    answer::refused(Errno::Invalid)
+}
+
+#[no_mangle]
+pub extern "C" fn lurm_write_range_text(
+    aliases: &[u8],
+    more: u64,
+    subject: Subject,
+    style: Style,
+    range: Range,
+    out: &mut [u8],
+) -> RangeWritten
+    ensures { λ r. ⌜ RangeWrittenTo r (require (writeFormed more subject style) 22 (withTable (flags.decodedOf more) (now (aliases .entry)) (λ es. writeRangeOf es (subjectOf subject) (styleOf style) range))) (now (out .entry)) (now (out .exit)) ⌝ }
+{
+    if write_formed(more, subject, style) {
+        return answer::of_range_written(text::write::write_range(
+            aliases,
+            more == 1,
+            style::decode_subject(subject),
+            style::decode(style),
+            range,
+            out,
+        ));
+    }
+    answer::of_range_written(text::RangeWritten {
+        status: 0,
+        written: Written::Refused(Errno::Invalid),
+    })
+}
+
+#[no_mangle]
+pub extern "C" fn lurm_read_label_text(
+    aliases: &[u8],
+    more: u64,
+    subject: Subject,
+    text: &[u8],
+) -> LabelAnswer
+    ensures { λ r. ⌜ r ≡ labelAnswer (require (askFormed more subject) 22 (withTable (flags.decodedOf more) (now (aliases .entry)) (λ es. readLabelOf es (subjectOf subject) (now (text .entry))))) ⌝ }
+{
+    if ask_formed(more, subject) {
+        let x = text::read::read_label(aliases, more == 1, style::decode_subject(subject), text);
+        let outcome = x.outcome;
+        return answer::of_label(outcome, x.label);
+    }
+    answer::of_label(Outcome::Refused(Errno::Invalid), label::zero())
+}
+
+#[no_mangle]
+pub extern "C" fn lurm_read_range_text(
+    aliases: &[u8],
+    more: u64,
+    subject: Subject,
+    text: &[u8],
+) -> RangeAnswer
+    ensures { λ r. ⌜ r ≡ rangeAnswer (require (askFormed more subject) 22 (withTable (flags.decodedOf more) (now (aliases .entry)) (λ es. readRangeOf es (subjectOf subject) (now (text .entry))))) ⌝ }
+{
+    if ask_formed(more, subject) {
+        let x = text::read::read_range(aliases, more == 1, style::decode_subject(subject), text);
+        let outcome = x.outcome;
+        return answer::of_range(outcome, x.range);
+    }
+    answer::of_range(Outcome::Refused(Errno::Invalid), range::zero())
+}

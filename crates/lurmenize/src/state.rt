@@ -1,0 +1,150 @@
+// Calls on a state that is passed and handed back.
+use abi::answer;
+use abi::answer::Answer;
+use abi::outcome;
+use abi::outcome::Outcome;
+use label::Label;
+use range::tuple::Tuple;
+use segments::Action;
+use segments::Call;
+use segments::CloseCall;
+use segments::LookCall;
+use segments::OpenCall;
+use segments::PostCall;
+use segments::SegmentTable;
+use segments::SizeCall;
+use segments::Slot;
+use segments::TenantId;
+use segments::calls;
+use segments::operator;
+ghost use mathlib.Core.Path.{_≡_};
+ghost use Rattle.label.specs.Answer.{granted, require};
+ghost use Rattle.segments.specs.Calls.{callOf, closeCall, lookCall, openCall, postCall, sizeCall, stepOf};
+ghost use Rattle.segments.specs.Operator.{admitOf, makeOf, setCeilingOf};
+ghost use Rattle.segments.specs.Slots.{pagesOf};
+ghost use Rattle.segments.specs.Sound.{admitted, sound};
+ghost use Rattle.abi.specs.Answer.{numberAnswer, testAnswer};
+ghost use Rattle.abi.specs.Outcome.{stepOutcome};
+
+#[no_mangle]
+pub extern "C" fn lurm_make(pool: u64) -> Outcome
+    ensures { λ r. ⌜ r ≡ stepOutcome (makeOf pool) ⌝ }
+{
+    outcome::hand_back(operator::make(pool))
+}
+
+#[no_mangle]
+pub extern "C" fn lurm_admit(
+    state: SegmentTable,
+    tenant: TenantId,
+    ceiling: u64,
+    clearance: Tuple,
+) -> Outcome
+    ensures { λ r. ⌜ r ≡ stepOutcome (admitOf state tenant ceiling clearance) ⌝ }
+{
+    outcome::hand_back(operator::admit(state, tenant, ceiling, clearance))
+}
+
+#[no_mangle]
+pub extern "C" fn lurm_set_ceiling(state: SegmentTable, tenant: TenantId, ceiling: u64) -> Outcome
+    ensures { λ r. ⌜ r ≡ stepOutcome (setCeilingOf state tenant ceiling) ⌝ }
+{
+    outcome::hand_back(operator::set_ceiling(state, tenant, ceiling))
+}
+
+// A tenant's call: it is decided on the state, and the one slot that it changes is changed where the state is.
+fn act(state: SegmentTable, tenant: TenantId, label: Label, action: Action) -> Outcome
+    ensures { λ r. ⌜ r ≡ stepOutcome (stepOf state (callOf tenant label action)) ⌝ }
+{
+    let call = Call {
+        tenant,
+        label,
+        action,
+    };
+    outcome::apply(state, calls::decide(state, call))
+}
+
+#[no_mangle]
+pub extern "C" fn lurm_open(
+    state: SegmentTable,
+    tenant: TenantId,
+    label: Label,
+    pages: u64,
+) -> Outcome
+    ensures { λ r. ⌜ r ≡ stepOutcome (stepOf state (openCall tenant label pages)) ⌝ }
+{
+    let action = Action::Open(OpenCall { pages });
+    act(state, tenant, label, action)
+}
+
+#[no_mangle]
+pub extern "C" fn lurm_size(
+    state: SegmentTable,
+    tenant: TenantId,
+    label: Label,
+    slot: Slot,
+    pages: u64,
+) -> Outcome
+    ensures { λ r. ⌜ r ≡ stepOutcome (stepOf state (sizeCall tenant label slot pages)) ⌝ }
+{
+    let action = Action::Size(SizeCall { slot, pages });
+    act(state, tenant, label, action)
+}
+
+#[no_mangle]
+pub extern "C" fn lurm_post(
+    state: SegmentTable,
+    tenant: TenantId,
+    label: Label,
+    slot: Slot,
+    version: u64,
+) -> Outcome
+    ensures { λ r. ⌜ r ≡ stepOutcome (stepOf state (postCall tenant label slot version)) ⌝ }
+{
+    let action = Action::Post(PostCall { slot, version });
+    act(state, tenant, label, action)
+}
+
+#[no_mangle]
+pub extern "C" fn lurm_close(
+    state: SegmentTable,
+    tenant: TenantId,
+    label: Label,
+    slot: Slot,
+) -> Outcome
+    ensures { λ r. ⌜ r ≡ stepOutcome (stepOf state (closeCall tenant label slot)) ⌝ }
+{
+    let action = Action::Close(CloseCall { slot });
+    act(state, tenant, label, action)
+}
+
+#[no_mangle]
+pub extern "C" fn lurm_look(
+    state: SegmentTable,
+    tenant: TenantId,
+    label: Label,
+    slot: Slot,
+) -> Outcome
+    ensures { λ r. ⌜ r ≡ stepOutcome (stepOf state (lookCall tenant label slot)) ⌝ }
+{
+    let action = Action::Look(LookCall { slot });
+    act(state, tenant, label, action)
+}
+
+// Whether a state is sound.
+#[no_mangle]
+pub extern "C" fn lurm_sound(state: SegmentTable) -> Answer
+    ensures { λ r. ⌜ r ≡ testAnswer (granted (sound state)) ⌝ }
+{
+    if segments::state::sound(state) {
+        return answer::granted(1);
+    }
+    answer::granted(0)
+}
+
+#[no_mangle]
+pub extern "C" fn lurm_pages_in_use(state: SegmentTable, tenant: TenantId) -> Answer
+    ensures { λ r. ⌜ r ≡ numberAnswer (require (sound state) 22 (require (admitted state tenant) 22 (granted (pagesOf state tenant)))) ⌝ }
+{
+    answer::of_number(segments::state::pages_in_use(state, tenant))
+}
