@@ -72,7 +72,7 @@ uint64_t lurm_version(void);
 #define LURM_TENANTS 8
 #define LURM_SLOTS 64
 #define LURM_MAX_PAGES 1048576
-#define LURM_STACK_BYTES 32768  /* the most stack that a function takes */
+#define LURM_STACK_BYTES 24576  /* the most stack that a function takes */
 
 /* A compiler that can warns where an answer is not used. */
 #if defined(__GNUC__) || defined(__clang__)

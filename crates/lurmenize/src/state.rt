@@ -7,6 +7,7 @@ use label::Label;
 use range::tuple::Tuple;
 use segments::Action;
 use segments::Call;
+use segments::Change;
 use segments::CloseCall;
 use segments::LookCall;
 use segments::OpenCall;
@@ -19,7 +20,7 @@ use segments::calls;
 use segments::operator;
 ghost use mathlib.Core.Path.{_≡_};
 ghost use Rattle.label.specs.Answer.{granted, require};
-ghost use Rattle.segments.specs.Calls.{callOf, closeCall, lookCall, openCall, postCall, sizeCall, stepOf};
+ghost use Rattle.segments.specs.Calls.{Decides, callOf, closeCall, lookCall, openCall, postCall, sizeCall, stepOf};
 ghost use Rattle.segments.specs.Operator.{admitOf, makeOf, setCeilingOf};
 ghost use Rattle.segments.specs.Slots.{pagesOf};
 ghost use Rattle.segments.specs.Sound.{admitted, sound};
@@ -52,16 +53,16 @@ pub extern "C" fn lurm_set_ceiling(state: SegmentTable, tenant: TenantId, ceilin
     outcome::hand_back(operator::set_ceiling(state, tenant, ceiling))
 }
 
-// A tenant's call: it is decided on the state, and the one slot that it changes is changed where the state is.
-fn act(state: SegmentTable, tenant: TenantId, label: Label, action: Action) -> Outcome
-    ensures { λ r. ⌜ r ≡ stepOutcome (stepOf state (callOf tenant label action)) ⌝ }
+// What a tenant's call changes and answers. It hands back no state: each exported function makes the change to the one that it was passed.
+fn decided(state: SegmentTable, tenant: TenantId, label: Label, action: Action) -> Change
+    ensures { λ r. ⌜ Decides state (callOf tenant label action) r ⌝ }
 {
     let call = Call {
         tenant,
         label,
         action,
     };
-    outcome::apply(state, calls::decide(state, call))
+    calls::decide(state, call)
 }
 
 #[no_mangle]
@@ -74,7 +75,7 @@ pub extern "C" fn lurm_open(
     ensures { λ r. ⌜ r ≡ stepOutcome (stepOf state (openCall tenant label pages)) ⌝ }
 {
     let action = Action::Open(OpenCall { pages });
-    act(state, tenant, label, action)
+    outcome::apply(state, decided(state, tenant, label, action))
 }
 
 #[no_mangle]
@@ -88,7 +89,7 @@ pub extern "C" fn lurm_size(
     ensures { λ r. ⌜ r ≡ stepOutcome (stepOf state (sizeCall tenant label slot pages)) ⌝ }
 {
     let action = Action::Size(SizeCall { slot, pages });
-    act(state, tenant, label, action)
+    outcome::apply(state, decided(state, tenant, label, action))
 }
 
 #[no_mangle]
@@ -102,7 +103,7 @@ pub extern "C" fn lurm_post(
     ensures { λ r. ⌜ r ≡ stepOutcome (stepOf state (postCall tenant label slot version)) ⌝ }
 {
     let action = Action::Post(PostCall { slot, version });
-    act(state, tenant, label, action)
+    outcome::apply(state, decided(state, tenant, label, action))
 }
 
 #[no_mangle]
@@ -115,7 +116,7 @@ pub extern "C" fn lurm_close(
     ensures { λ r. ⌜ r ≡ stepOutcome (stepOf state (closeCall tenant label slot)) ⌝ }
 {
     let action = Action::Close(CloseCall { slot });
-    act(state, tenant, label, action)
+    outcome::apply(state, decided(state, tenant, label, action))
 }
 
 #[no_mangle]
@@ -128,7 +129,7 @@ pub extern "C" fn lurm_look(
     ensures { λ r. ⌜ r ≡ stepOutcome (stepOf state (lookCall tenant label slot)) ⌝ }
 {
     let action = Action::Look(LookCall { slot });
-    act(state, tenant, label, action)
+    outcome::apply(state, decided(state, tenant, label, action))
 }
 
 // Whether a state is sound.

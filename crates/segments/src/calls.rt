@@ -330,7 +330,7 @@ fn checked(table: SegmentTable, call: Call, v: View) -> Change
 pub fn decide(table: SegmentTable, call: Call) -> Change
     ensures { λ r. ⌜ Decides table call r ⌝ }
 {
-    if !state::sound(table) {
+    if !state::is_sound(table) {
         return refused(Errno::Invalid);
     }
     let tenant = call.tenant;

@@ -20,7 +20,7 @@ ghost use Rattle.range.specs.Tuple as tuples;
 ghost use Rattle.segments.specs.Operator.{admitOf, makeOf, setCeilingOf};
 ghost use Rattle.segments.specs.Parts.{poolAnswer};
 ghost use Rattle.segments.specs.Replies.{Results, leaving};
-ghost use Rattle.segments.specs.Segments.{emptyTable, tenants, withTenant};
+ghost use Rattle.segments.specs.Segments.{emptyTable, tenantAt, tenants, withTenant};
 ghost use Rattle.segments.specs.Sound.{sound};
 
 // The state with no tenants.
@@ -78,7 +78,7 @@ fn set_record(table: SegmentTable, tenant: TenantId, x: Tenant) -> Outcome
 pub fn admit(table: SegmentTable, tenant: TenantId, ceiling: u64, clearance: Tuple) -> Outcome
     ensures { λ r. ⌜ Results r (admitOf table tenant ceiling clearance) ⌝ }
 {
-    if !state::sound(table) {
+    if !state::is_sound(table) {
         return unlabeled(table, Reply::Refused(Errno::Invalid));
     }
     if !((tenant.0 < TENANTS as u64) & clearance_valid(clearance) & (1 <= ceiling)) {
@@ -91,11 +91,19 @@ pub fn admit(table: SegmentTable, tenant: TenantId, ceiling: u64, clearance: Tup
     set_record(table, tenant, admitted)
 }
 
+// A tenant's record.
+fn record_of(table: SegmentTable, tenant: TenantId) -> Tenant
+    requires { ⌜ tenant .0 < tenants ⌝ }
+    ensures { λ r. ⌜ r ≡ tenantAt table tenant ⌝ }
+{
+    table.tenants[tenant.0 as usize]
+}
+
 // Gives an admitted tenant another ceiling.
 pub fn set_ceiling(table: SegmentTable, tenant: TenantId, ceiling: u64) -> Outcome
     ensures { λ r. ⌜ Results r (setCeilingOf table tenant ceiling) ⌝ }
 {
-    if !state::sound(table) {
+    if !state::is_sound(table) {
         return unlabeled(table, Reply::Refused(Errno::Invalid));
     }
     if !(state::admitted(table, tenant) & (1 <= ceiling)) {
@@ -104,7 +112,7 @@ pub fn set_ceiling(table: SegmentTable, tenant: TenantId, ceiling: u64) -> Outco
     if !slots::kept(slots::pages_left(table, tenant, ceiling)) {
         return unlabeled(table, Reply::Refused(Errno::Busy));
     }
-    let old = table.tenants[tenant.0 as usize];
+    let old = record_of(table, tenant);
     let clearance = old.clearance;
     let changed = Tenant { ceiling, clearance };
     set_record(table, tenant, changed)

@@ -147,11 +147,18 @@ pub fn sound(s: SegmentTable) -> bool
     false
 }
 
+// The same, for functions that go on with the state: the copy that the test is handed is gone from the stack when it has answered.
+pub(crate) fn is_sound(s: SegmentTable) -> bool
+    ensures { λ r. ⌜ r ≡ rules.sound s ⌝ }
+{
+    sound(s)
+}
+
 // The pages that a tenant has in use, for an operator to see.
 pub fn pages_in_use(s: SegmentTable, t: TenantId) -> Number
     ensures { λ r. ⌜ numberAnswerOf r ≡ require (rules.sound s) 22 (require (rules.admitted s t) 22 (granted (pagesOf s t))) ⌝ }
 {
-    if !sound(s) {
+    if !is_sound(s) {
         return Number::Refused(Errno::Invalid);
     }
     if !admitted(s, t) {

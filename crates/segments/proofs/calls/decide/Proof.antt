@@ -15,7 +15,7 @@ use Rattle.segments.proofs.calls.decide.Statement.{statement}
 use Rattle.segments.proofs.calls.decide.Tie as tie
 
 is-sound : (c : tie.Else1) → sound (c .before .before .args .table) ≡ true
-is-sound c = told-true (c .before .sound .ensures) (c .if1 .left)
+is-sound c = told-true (c .before .is-sound .ensures) (c .if1 .left)
 
 -- the test of the bounds
 bounds : (c : tie.After-slot-valid) → let a = c .before .before .before .before .before .before .args .call in
@@ -25,7 +25,7 @@ bounds c =
     ap (λ (b : Bool). t && b) (c .slot-valid .ensures ∙ ap slotValid (c .before .before .named .ensures))
 
 returns : tie.Need-returns
-returns c = decides-refused _ _ Invalid (c .refused .ensures) (unsound _ _ (told-false (c .before .before .sound .ensures) (c .before .if1 .taken)))
+returns c = decides-refused _ _ Invalid (c .refused .ensures) (unsound _ _ (told-false (c .before .before .is-sound .ensures) (c .before .if1 .taken)))
 
 returns-2 : tie.Need-returns-2
 returns-2 c =

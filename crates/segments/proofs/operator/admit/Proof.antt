@@ -17,7 +17,7 @@ use Rattle.segments.proofs.operator.admit.Tie as tie
 
 -- what each test says
 is-sound : (c : tie.Else1) → sound (c .before .before .args .table) ≡ true
-is-sound c = told-true (c .before .sound .ensures) (c .if1 .left)
+is-sound c = told-true (c .before .is-sound .ensures) (c .if1 .left)
 
 tested : (c : tie.After-clearance-valid) → let a = c .before .before .before .before .args in
     (ltb (a .tenant .0) tenants && c .clearance-valid .result && leb 1 (a .ceiling))
@@ -45,7 +45,7 @@ returns : tie.Need-returns
 unfolding admitOf admitAnswer
 returns c =
     let k = c .before .before in
-    results-refused _ (k .before .args .table) _ _ Invalid (c .unlabeled .ensures) (rw (told-false (k .sound .ensures) (c .before .if1 .taken)))
+    results-refused _ (k .before .args .table) _ _ Invalid (c .unlabeled .ensures) (rw (told-false (k .is-sound .ensures) (c .before .if1 .taken)))
 
 returns-2 : tie.Need-returns-2
 unfolding admitOf admitAnswer

@@ -15,7 +15,7 @@ use Rattle.segments.proofs.state.pages_in_use.Statement.{statement}
 use Rattle.segments.proofs.state.pages_in_use.Tie as tie
 
 is-sound : (c : tie.Else1) → sound (c .before .before .args .t1) ≡ true
-is-sound c = told-true (c .before .sound .ensures) (c .if1 .left)
+is-sound c = told-true (c .before .is-sound .ensures) (c .if1 .left)
 
 is-admitted : (c : tie.Else2) → let a = c .before .before .before .before .args in admitted (a .t1) (a .t) ≡ true
 is-admitted c = told-true (c .before .admitted .ensures) (c .if2 .left)
@@ -27,7 +27,7 @@ in-ceiling : (c : tie.Else2) → let a = c .before .before .before .before .args
 in-ceiling c = sound-parts _ (is-sound (c .before .before)) .pages _ (inside c)
 
 returns : tie.Need-returns
-returns c = rw (told-false (c .before .sound .ensures) (c .if1 .taken))
+returns c = rw (told-false (c .before .is-sound .ensures) (c .if1 .taken))
 
 returns-2 : tie.Need-returns-2
 returns-2 c = rw (is-sound (c .before .before), told-false (c .before .admitted .ensures) (c .if2 .taken))
