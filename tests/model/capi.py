@@ -33,8 +33,8 @@ TENANT_SIZE = 1 + TUPLE_SIZE
 SEGMENT_SIZE = LABEL_SIZE + 2
 STATE_SIZE = 1 + len(TENANTS) * TENANT_SIZE + len(SLOTS) * SEGMENT_SIZE
 
-# What a tuple with another number than 0 or 1 for a presence is, and one with an absent range that is not zeros: one range
-# too few makes it invalid.
+# Stands for a tuple with a presence that is not 0 or 1, or with an absent range that is not zeros: it has too few ranges, and
+# so it is invalid.
 INVALID_TUPLE = Tuple(())
 
 
