@@ -1,15 +1,17 @@
 # The arguments of each exported function, case by case: a seed, a function's name and a number give one case.
 
 import random
+from dataclasses import replace
 
+from capi import ABBREVIATION_BYTES, NAME_BYTES, entry_numbers, label_numbers
 from capi import FUNCTIONS as MODELLED
-from capi import label_numbers
 from header import FUNCTIONS
 from monitor import FILE, FILE_KINDS, TYPES
 from monitor_cmd_cases import random_attribute_type, random_intents, random_object
 from pools import Pools, damaged_state
 from rules import Alias, Label, Range, Tuple, write
-from samples import ANY, WORD_BORDERS, any_category, any_label, any_range, any_tuple, at_times, range_around
+from samples import (ANY, LETTERS, WORD_BORDERS, any_alias, any_category, any_label, any_range, any_tuple, at_times,
+                     range_around)
 from segment_samples import any_caller, any_operator_call, any_tenant_call
 from segments import MOST_PAGES
 from text import FORMS, VARIANTS
@@ -19,6 +21,7 @@ from values import any_line, bent, flag, length_about, near_each_other, number, 
 
 assert list(FUNCTIONS) == list(MODELLED)
 NO_LABEL, NO_TUPLE = (0,) * 5, (0,) * 33
+ROOM = 200  # bytes, more than the longest line of an entry
 
 
 # Labels, ranges, tuples and lines
@@ -43,6 +46,15 @@ def to_write(kind):
         contents = ANY[kind](rng)
         return numbers_of(rng, contents), length_about(rng, len(write(contents)))
     return arguments
+
+
+def entry_to_write(rng, pools, at):
+    """An alias entry, at times with a name or an abbreviation of one byte too many, in the place of the zero after it."""
+    entry = any_alias(rng)
+    if not at_times(rng, 0.03):
+        return numbers_of(rng, entry), length_about(rng, len(write(entry)))
+    field, size = rng.choice((("name", NAME_BYTES), ("abbreviation", ABBREVIATION_BYTES)))
+    return entry_numbers(replace(entry, **{field: bytes(rng.choices(LETTERS, k=size))})), ROOM
 
 
 def to_read(kind):
@@ -127,8 +139,8 @@ def to_check(rng, pools, at):
     subject = any_label(rng)
     object_type, kind = rng.choice((TYPES[0], TYPES[1], rng.choice(TYPES))), rng.choice(FILE_KINDS)
     intents = random_intents(rng, object_type, kind) if at_times(rng, 0.9) else rng.randrange(rng.choice((64, 128)))
-    return (credentials(rng, subject), thing(rng, subject, object_type, kind), number(rng, intents, 0.02),
-            number(rng, random_attribute_type(rng), 0.04))
+    return (credentials(rng, subject), thing(rng, subject, object_type, kind), number(rng, intents),
+            number(rng, random_attribute_type(rng)))
 
 
 # Shared memory
@@ -151,7 +163,7 @@ def tenants_call(name):
     def arguments(rng, pools, at):
         state, numbers = some_state(rng, pools, at)
         call = call_of(rng, name, state, any_tenant_call)
-        tenant, *more = (number(rng, given, 0.02) for given in call.numbers)
+        tenant, *more = (number(rng, given) for given in call.numbers)
         return (numbers, tenant, numbers_of(rng, call.label, 0.03), *more)
     return arguments
 
@@ -160,7 +172,7 @@ def operators_call(name):
     def arguments(rng, pools, at):
         state, numbers = some_state(rng, pools, at)
         call = call_of(rng, name, state, any_operator_call)
-        return (numbers, *(number(rng, given, 0.02) for given in call.numbers),
+        return (numbers, *(number(rng, given) for given in call.numbers),
                 *(numbers_of(rng, clearance, 0.05) for clearance in call.operands))
     return arguments
 
@@ -176,7 +188,7 @@ def state_alone(rng, pools, at):
 
 def state_and_tenant(rng, pools, at):
     state, numbers = some_state(rng, pools, at)
-    return numbers, number(rng, any_caller(rng, state), 0.04)
+    return numbers, number(rng, any_caller(rng, state))
 
 
 CASES = {
@@ -200,7 +212,7 @@ CASES = {
     "write_label": to_write(Label),
     "write_range": to_write(Range),
     "write_tuple": to_write(Tuple),
-    "write_entry": to_write(Alias),
+    "write_entry": entry_to_write,
     "read_label": to_read(Label),
     "read_range": to_read(Range),
     "read_tuple": to_read(Tuple),
