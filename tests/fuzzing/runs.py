@@ -37,14 +37,20 @@ class Tally:
         self.found = self.found or (words, case)
 
 
+def one_turn(name, tally, one_case):
+    """Runs the next cases, just one where there are no others: of a function that takes nothing."""
+    end = time.monotonic() + TURN
+    while True:
+        one_case(name, tally.cases, tally)
+        tally.cases += 1
+        if time.monotonic() >= end or name in FUNCTIONS and not FUNCTIONS[name].parameters:
+            return
+
+
 def turns(tallies, one_case, deadline, ended=lambda name: None):
-    """Runs the next cases of each in turn."""
     while time.monotonic() < deadline:
         for name, tally in tallies.items():
-            end = time.monotonic() + TURN
-            while time.monotonic() < end:
-                one_case(name, tally.cases, tally)
-                tally.cases += 1
+            one_turn(name, tally, one_case)
             ended(name)
 
 
