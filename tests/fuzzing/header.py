@@ -12,44 +12,41 @@ NUMBERS = {"uint8_t": ctypes.c_uint8, "uint32_t": ctypes.c_uint32, "uint64_t": c
 CODES = {1: "B", 4: "I", 8: "Q"}  # of module struct, by size in bytes
 
 # What a function takes: `kind` is "number", "struct", "bytes" (read) or "buffer" (written to), and `layout` that of a struct.
+# A struct of one number is a "number" with a layout.
 Parameter = namedtuple("Parameter", "kind type layout")
 Function = namedtuple("Function", "parameters result")
 
 
-def places(kind, at=0):
-    """Where the numbers of a type are, in the order of declaration: offsets and sizes."""
+def numbers_in(kind, field=None):
+    """The numbers of a type, in the order of declaration: the field that each is in, and its size in bytes."""
     if issubclass(kind, ctypes.Structure):
-        for name, field in kind._fields_:
-            yield from places(field, at + getattr(kind, name).offset)
+        for name, inner in kind._fields_:
+            yield from numbers_in(inner, name)
     elif issubclass(kind, ctypes.Array):
-        for i in range(kind._length_):
-            yield from places(kind._type_, at + i * ctypes.sizeof(kind._type_))
+        for _ in range(kind._length_):
+            yield from numbers_in(kind._type_, field)
     else:
-        yield at, ctypes.sizeof(kind)
+        yield field, ctypes.sizeof(kind)
 
 
 class Layout:
-    """A struct and its numbers. The bytes between fields are not looked at, so anything may be put there."""
+    """A struct, or a number alone, and its numbers, which have no bytes between them."""
 
     def __init__(self, kind):
-        self.kind, self.size = kind, ctypes.sizeof(kind)
-        found = list(places(kind))
+        self.kind, found = kind, list(numbers_in(kind))
         self.bits = [8 * size for _, size in found]  # of each number
-        code, end, between = "<", 0, bytearray(b"\xff" * self.size)
-        for at, size in found:
-            code += f"{at - end}x{CODES[size]}"
-            end = at + size
-            between[at:end] = bytes(size)
-        self.packer = struct.Struct(f"{code}{self.size - end}x")
-        self.between = int.from_bytes(between, "little")
+        self.at = {}  # where the numbers of each field are
+        for at, (field, _) in enumerate(found):
+            self.at.setdefault(field, []).append(at)
+        self.packer = struct.Struct("<" + "".join(CODES[size] for _, size in found))
+        assert self.packer.size == ctypes.sizeof(kind), f"{kind.__name__} has padding"
 
-    def pack(self, numbers, filler):
-        """The struct, the bytes of a filler (a large number) between its fields."""
-        packed = int.from_bytes(self.packer.pack(*numbers), "little") | self.between & filler
-        return self.kind.from_buffer_copy(packed.to_bytes(self.size, "little"))
+    def pack(self, *numbers):
+        return self.kind.from_buffer_copy(self.packer.pack(*numbers))
 
     def unpack(self, value):
-        return self.packer.unpack(bytes(value))
+        """The numbers of what a call gives, which for a number alone is that number."""
+        return (value,) if isinstance(value, int) else self.packer.unpack(bytes(value))
 
 
 def field_type(types, name, count, sizes):
@@ -70,21 +67,24 @@ def structs(source):
 
 def parameters(text, layouts):
     """A pointer and the length after it are one parameter."""
-    taken = iter(part.strip() for part in text.split(","))
+    taken = iter(part.strip() for part in text.split(",") if part != "void")
     for part in taken:
+        name = part.split()[0]
         if "*" in part:
             assert next(taken).startswith("size_t ")
-            yield Parameter("bytes" if part.startswith("const ") else "buffer", ctypes.c_void_p, None)
+            yield Parameter("bytes" if name == "const" else "buffer", ctypes.c_void_p, None)
+        elif name in NUMBERS:
+            yield Parameter("number", NUMBERS[name], None)
         else:
-            name = part.split()[0]
-            yield (Parameter("number", NUMBERS[name], None) if name in NUMBERS
-                   else Parameter("struct", layouts[name].kind, layouts[name]))
+            layout = layouts[name]
+            yield Parameter("struct" if len(layout.bits) > 1 else "number", layout.kind, layout)
 
 
 def functions(source, layouts):
-    """The functions by name, without lurm_."""
-    found = re.findall(r"^(\w+) lurm_(\w+)\(([^)]*)\);", source, re.MULTILINE)
-    return {name: Function(list(parameters(taken, layouts)), layouts[result]) for result, name, taken in found}
+    """The functions that the library has, by name without lurm_. Inline ones have bodies, and are C and no part of it."""
+    found = re.findall(r"^(?:LURM_MUST_USE )?(\w+) lurm_(\w+)\(([^)]*)\);", source, re.MULTILINE)
+    return {name: Function(list(parameters(taken, layouts)), layouts.get(result) or Layout(NUMBERS[result]))
+            for result, name, taken in found}
 
 
 SOURCE = re.sub(r"/\*.*?\*/", "", HEADER.read_text(), flags=re.DOTALL)

@@ -8,9 +8,8 @@ import subprocess
 from capi import FILL
 from header import FUNCTIONS
 
-LANE = 2 ** 18  # bytes, more than the longest table
+LANE = 2 ** 18  # bytes, more than the longest alias table
 GUARD = b"\x5c" * 64
-FILLERS = [0, -1, int.from_bytes(b"\xa5" * 2 ** 13, "little")]  # for the bytes between the fields of a struct
 PROT_NONE = 0
 
 
@@ -77,20 +76,20 @@ class Library:
                                       else [ctypes.c_void_p, ctypes.c_size_t])]
         return call
 
-    def answer(self, name, arguments, way=0):
-        """The numbers that are handed back and the buffer, as capi.answer has them. `way` chooses what must not matter:
-        the bytes between the fields of structs, and what lies after a lent buffer."""
+    def answer(self, name, arguments, guarded=False):
+        """The numbers that are handed back and the buffer, as capi.answer has them. What lies after a lent buffer, which
+        must not matter, is guard bytes or the page that can't be touched."""
         free, lent, passed = iter(self.lanes), [], []
         for parameter, given in zip(FUNCTIONS[name].parameters, arguments, strict=True):
             if parameter.kind == "struct":
-                passed.append(parameter.layout.pack(given, FILLERS[way % len(FILLERS)]))
+                passed.append(parameter.layout.pack(*given))
             elif parameter.kind == "number":
-                passed.append(given)
+                passed.append(parameter.layout.pack(given) if parameter.layout else given)
             else:
                 data = given if parameter.kind == "bytes" else FILL * given
                 lane = next(free)
                 lent.append((parameter.kind, lane, data))
-                passed += [lane.lend(data, way % 2), len(data)]
+                passed += [lane.lend(data, guarded), len(data)]
         numbers = FUNCTIONS[name].result.unpack(self.calls[name](*passed))
         return numbers, written(lent)
 

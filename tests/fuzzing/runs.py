@@ -8,21 +8,22 @@ import signal
 import struct
 import time
 import traceback
-from collections import Counter
+from collections import Counter, namedtuple
 from mmap import mmap
 
 import capi
 import programs
 import shrink
 from functions import Cases
-from header import FUNCTIONS, LAYOUTS
+from header import FUNCTIONS
 from library import Fault
 
 TURN = 0.04  # seconds for one function or program at a time
 TIME_LIMIT = 60  # seconds for a case, a smaller one found too
-OUTCOME = len(LAYOUTS["lurm_table"].bits)  # where the answer is in what a call on a state hands back
-STATED = LAYOUTS["lurm_outcome"]
-REFUSED = re.compile(rb"^error ([0-9]+)", re.MULTILINE)
+REFUSED = re.compile(rb"^error ([0-9]+)( [0-9]+)?", re.MULTILINE)
+
+
+Refused = namedtuple("Refused", "number carries")  # a refusal, and whether it carries one more number
 
 
 class Tally:
@@ -36,14 +37,20 @@ class Tally:
         self.found = self.found or (words, case)
 
 
+def one_turn(name, tally, one_case):
+    """Runs the next cases, just one where there are no others: of a function that takes nothing."""
+    end = time.monotonic() + TURN
+    while True:
+        one_case(name, tally.cases, tally)
+        tally.cases += 1
+        if time.monotonic() >= end or name in FUNCTIONS and not FUNCTIONS[name].parameters:
+            return
+
+
 def turns(tallies, one_case, deadline, ended=lambda name: None):
-    """Runs the next cases of each in turn."""
     while time.monotonic() < deadline:
         for name, tally in tallies.items():
-            end = time.monotonic() + TURN
-            while time.monotonic() < end:
-                one_case(name, tally.cases, tally)
-                tally.cases += 1
+            one_turn(name, tally, one_case)
             ended(name)
 
 
@@ -59,19 +66,22 @@ def request_line(name, arguments):
     return " ".join((name, *words)).encode() + b"\n"
 
 
-def answered(library, name, arguments, way):
+def answered(library, name, arguments, guarded):
     """What the library answers, a fault that is seen in place of it, and what the model answers."""
     try:
-        given = library.answer(name, arguments, way)
+        given = library.answer(name, arguments, guarded)
     except Fault as fault:
         given = str(fault)
     return given, capi.answer(name, arguments)
 
 
 def kind_of_answer(name, numbers):
-    """The refusal's number, "granted", or "granted 0" where the grant has the value 0."""
-    refusal, value = numbers[OUTCOME:][:2] if FUNCTIONS[name].result is STATED else numbers[:2]
-    return refusal or ("granted" if value else "granted 0")
+    """The refusal, "granted", or "granted 0" where the grant has the value 0."""
+    at = FUNCTIONS[name].result.at
+    if "refusal" not in at:  # a number alone
+        return "granted"
+    refusal, carries, value = (numbers[at[field][0]] for field in ("refusal", "carries", "value"))
+    return Refused(refusal, carries) if refusal else "granted" if value else "granted 0"
 
 
 def told_apart(given, expected):
@@ -86,18 +96,18 @@ def told_apart(given, expected):
 
 def function_case(library, cases):
     def one_case(name, at, tally):
-        arguments = cases.arguments(name, at)
-        given, expected = answered(library, name, arguments, at)
+        arguments, guarded = cases.arguments(name, at), at % 2 == 1
+        given, expected = answered(library, name, arguments, guarded)
         tally.answers[kind_of_answer(name, expected[0])] += 1
         if given != expected:
             if tally.found is None:
-                arguments = shrink.smaller_arguments(arguments, lambda smaller: differs(library, name, smaller, at))
-            tally.differing(told_apart(*answered(library, name, arguments, at)), request_line(name, arguments))
+                arguments = shrink.smaller_arguments(arguments, lambda smaller: differs(library, name, smaller, guarded))
+            tally.differing(told_apart(*answered(library, name, arguments, guarded)), request_line(name, arguments))
     return one_case
 
 
-def differs(library, name, arguments, way):
-    given, expected = answered(library, name, arguments, way)
+def differs(library, name, arguments, guarded):
+    given, expected = answered(library, name, arguments, guarded)
     return given != expected
 
 
@@ -177,7 +187,7 @@ def program_case(seed):
     def one_case(name, at, tally):
         data = programs.program_input(seed, name, at)
         wrong, expected = programs.difference(name, data)
-        refused = Counter(int(number) for number in REFUSED.findall(expected))
+        refused = Counter(Refused(int(number), bool(more)) for number, more in REFUSED.findall(expected))
         tally.answers += refused
         tally.answers["granted"] += expected.count(b"\n") - refused.total()
         if wrong:

@@ -11,31 +11,39 @@ NUMBERS_OF = {Label: label_numbers, Range: range_numbers, Tuple: tuple_numbers, 
 STRUCT_OF = {Label: "lurm_label", Range: "lurm_range", Tuple: "lurm_tuple", Alias: "lurm_entry"}
 WRONG_LINES = [line for _, line in mac_cmd_cases.wrong_lines()]
 BODIES = (0, 1, 2, 5, 33, 34, 66, 67, 132, 133, 198, 199, 200, 255, 4000)  # bytes, about as long as those of lines
+CUTS = 8, 16, 32, 63  # bits: numbers that differ by 2 to one of these are the same once they are cut to so many
+BORDERS = 0, 1, 2, 3, 6, 15, 16, 31, 32, 63, 64, 199, 200, 255, 256, 2 ** 32 - 1, 2 ** 32, 2 ** 63, 2 ** 64 - 1
 ODD_BYTES = b"\0\n\r -#:,?0aAfFgG\x7f\x80\xff"
 
 
 # Numbers
 
-def other_number(rng, number, bits):
-    """A number of so many bits, near the one given, at a border, or anywhere."""
-    return rng.choice((0, 1, 2, 199, 200, number + 1, number - 1, number ^ 1 << rng.randrange(bits), rng.getrandbits(bits),
-                       2 ** bits - 1, 2 ** (bits - 1))) % 2 ** bits
+def other_number(rng, number, bits=64):
+    """Another number of so many bits: next to the one given, one that is cut to it, at a border, or anywhere."""
+    next_to = rng.choice((number + 1, number - 1, number ^ 1 << rng.randrange(bits)))
+    beyond, border = 2 ** min(rng.choice(CUTS), bits - 1), rng.choice(BORDERS)
+    return rng.choice((next_to, number + beyond, number - beyond, border, border + beyond, rng.getrandbits(bits))) % 2 ** bits
+
+
+def some_place(rng, layout, numbers):
+    """A number of a struct: one in use, or one of any field, so that a field of which there are few gets its turn."""
+    in_use = [at for at, number in enumerate(numbers) if number]
+    return rng.choice(in_use if in_use and at_times(rng, 0.3) else rng.choice(list(layout.at.values())))
 
 
 def off(rng, struct, numbers):
-    """A struct's numbers with some of them changed, most of the time one: one in use, a byte (a hierarchy, a flag) or a
-    larger one, so that those of which there are few get their turn."""
-    changed, bits = list(numbers), LAYOUTS[struct].bits
+    """A struct's numbers with some of them changed, most of the time one."""
+    changed, layout = list(numbers), LAYOUTS[struct]
     for _ in range(rng.choice((1, 1, 1, 2, 3))):
-        chosen = rng.choice((lambda at: changed[at] != 0, lambda at: bits[at] == 8, lambda at: bits[at] > 8))
-        at = rng.choice(list(filter(chosen, range(len(bits)))) or range(len(bits)))
-        changed[at] = other_number(rng, changed[at], bits[at])
+        at = some_place(rng, layout, changed)
+        changed[at] = other_number(rng, changed[at], layout.bits[at])
     return tuple(changed)
 
 
 def anything(rng, struct):
-    """A struct with any numbers."""
-    return tuple(rng.getrandbits(bits) for bits in LAYOUTS[struct].bits)
+    """A struct with any numbers, or any small ones, among which there are flags."""
+    most = rng.choice((1, 8, 64))
+    return tuple(rng.getrandbits(min(bits, most)) for bits in LAYOUTS[struct].bits)
 
 
 def bent(rng, struct, numbers, share=0.12):
@@ -51,14 +59,14 @@ def numbers_of(rng, contents, share=0.12):
     return bent(rng, STRUCT_OF[type(contents)], NUMBERS_OF[type(contents)](contents), share)
 
 
-def number(rng, good, bits=64, share=0.04):
+def number(rng, good, share=0.04):
     """A number that stands by itself, at times another one than is good."""
-    return other_number(rng, good, bits) if at_times(rng, share) else good
+    return other_number(rng, good) if at_times(rng, share) else good
 
 
 def flag(rng, share):
     """A flag, 1 for a share of the time, and now and then none at all."""
-    return number(rng, int(at_times(rng, share)), 8, 0.02)
+    return number(rng, int(at_times(rng, share)), 0.02)
 
 
 def near_each_other(rng, kinds):

@@ -6,17 +6,17 @@ from collections import namedtuple
 from rules import INVALID, NO_PRIVILEGE
 from segments import TENANTS, step
 
-Entry = namedtuple("Entry", "call table answer")  # a call, the table that it got and its answer
-Run = namedtuple("Run", "entries last")  # an entry for each call of a list, and the table after all of them
+Entry = namedtuple("Entry", "call state answer")  # a call, the state that it got and its answer
+Run = namedtuple("Run", "entries last")  # an entry for each call of a list, and the state after all of them
 
 
-def run(table, calls):
+def run(state, calls):
     entries = []
     for call in calls:
-        after, answer = step(table, call)
-        entries.append(Entry(call, table, answer))
-        table = after
-    return Run(entries, table)
+        after, answer = step(state, call)
+        entries.append(Entry(call, state, answer))
+        state = after
+    return Run(entries, state)
 
 
 def project(tenant, entries):
@@ -26,12 +26,12 @@ def project(tenant, entries):
 
 def looks_at_another(entry):
     """Whether an entry is a look at a slot that is not the caller's own."""
-    return entry.call.name == "look" and entry.call.slot not in entry.table.slots_of(entry.call.tenant)
+    return entry.call.name == "look" and entry.call.slot not in entry.state.slots_of(entry.call.tenant)
 
 
 def held(entry):
     """What the slot of a look held when it was looked at."""
-    return entry.table.segments[entry.call.slot]
+    return entry.state.segments[entry.call.slot]
 
 
 def seen(entry):
@@ -54,13 +54,13 @@ def agree(one, other):
     return one.answer == other.answer
 
 
-def faults_of_table(start, table):
-    """What of demand 3 does not hold for a table of a run from `start`."""
-    if table.pool != start.pool:
+def faults_of_state(start, state):
+    """What of demand 3 does not hold for a state of a run from `start`."""
+    if state.pool != start.pool:
         yield "pool"
-    if table.tenants != start.tenants:
+    if state.tenants != start.tenants:
         yield "clearances and ceilings"
-    if any(table.admitted(t) and table.pages_of(t) > table.tenants[t].ceiling for t in TENANTS):
+    if any(state.admitted(t) and state.pages_of(t) > state.tenants[t].ceiling for t in TENANTS):
         yield "pages over a ceiling"
 
 
@@ -73,12 +73,12 @@ def pairs(one, other):
 
 
 def faults(start, one, other):
-    """What of demand 3 does not hold for the runs, from a sound table, of two lists that mix the same calls."""
+    """What of demand 3 does not hold for the runs, from a sound state, of two lists that mix the same calls."""
     if one.last != other.last:
-        yield "last table"
+        yield "last state"
     for ours, theirs in pairs(one, other):
         if not agree(ours, theirs):
             yield f"answers to {ours.call}"
     for entries, last in (one, other):
-        for table in [start, *(entry.table for entry in entries), last]:
-            yield from faults_of_table(start, table)
+        for state in [start, *(entry.state for entry in entries), last]:
+            yield from faults_of_state(start, state)

@@ -15,7 +15,7 @@ SLOTS = range(SLOTS_EACH * len(TENANTS))  # place numbers
 VERSIONS = range(2 ** 64)
 
 
-remembered = functools.lru_cache(maxsize=2 ** 14)  # for what each call asks again of the whole table
+remembered = functools.lru_cache(maxsize=2 ** 14)  # for what each call asks again of the whole state
 
 
 def with_item(items, at, item):
@@ -48,9 +48,9 @@ class Segment:
 
 
 @dataclass(frozen=True)
-class SegmentTable:
-    """The board. None stands where document 01 has zeros. Each call gives the table that it leaves and what it answers,
-    None where that is nothing more than the grant; `make` alone takes no table."""
+class State:
+    """The state, which document 01 calls the board. None stands where it has zeros. Each call gives the state that it
+    leaves and what it answers, None where that is nothing more than the grant; `make` alone takes no state."""
 
     pool: int = 0
     tenants: tuple = (None,) * len(TENANTS)  # by tenant number, a Tenant or None
@@ -197,10 +197,10 @@ def tenant_call(name, *numbers, label):
     return Call(name, numbers, (label,))
 
 
-def step(table, call):
-    """The table that a call leaves, and its answer. A refusal leaves the table as it was."""
+def step(state, call):
+    """The state that a call leaves, and its answer. A refusal leaves the state as it was."""
     try:
-        after, grant = getattr(table, call.name)(*call.numbers, *call.operands)
+        after, grant = getattr(state, call.name)(*call.numbers, *call.operands)
     except Refusal as refusal:
-        return table, Answer(refusal.number, None)
+        return state, Answer(refusal.number, None)
     return after, Answer(None, grant)

@@ -4,14 +4,14 @@
 import protocol
 from protocol import Command
 from rules import INVALID, Label, Tuple, require
-from segments import SLOTS, TENANTS, SegmentTable
+from segments import SLOTS, TENANTS, State
 
 
 class Console:
-    """What the program keeps between requests: a table, which starts as zeros."""
+    """What the program keeps between requests: a state, which starts as zeros."""
 
     def __init__(self):
-        self.table = SegmentTable()
+        self.state = State()
 
 
 def ok(_):
@@ -27,15 +27,15 @@ def shown(segment):
 
 
 def calling(call, answered=ok):
-    """What a command does that makes a call: a granted one leaves its table in the place of the old one."""
+    """What a command does that makes a call: a granted one leaves its state in the place of the old one."""
     def make_call(console, *arguments):
-        console.table, grant = call(console.table, *arguments)
+        console.state, grant = call(console.state, *arguments)
         return answered(grant)
     return make_call
 
 
-def tenant_line(table, tenant):
-    return f"tenant {tenant} ceiling {table.tenants[tenant].ceiling} pages {table.pages_of(tenant)}"
+def tenant_line(state, tenant):
+    return f"tenant {tenant} ceiling {state.tenants[tenant].ceiling} pages {state.pages_of(tenant)}"
 
 
 def place_line(slot, segment):
@@ -45,23 +45,23 @@ def place_line(slot, segment):
 
 
 def show(console):
-    table = console.table
-    require(table.sound(), INVALID)
-    return [f"pool {table.pool}",
-            *(tenant_line(table, tenant) for tenant in TENANTS if table.admitted(tenant)),
-            *(place_line(slot, table.segments[slot]) for slot in SLOTS if table.segments[slot] is not None),
+    state = console.state
+    require(state.sound(), INVALID)
+    return [f"pool {state.pool}",
+            *(tenant_line(state, tenant) for tenant in TENANTS if state.admitted(tenant)),
+            *(place_line(slot, state.segments[slot]) for slot in SLOTS if state.segments[slot] is not None),
             "end"]
 
 
 COMMANDS = {
-    b"make": Command(1, [()], calling(lambda _, pool: SegmentTable.make(pool))),
-    b"admit": Command(2, [(Tuple,)], calling(SegmentTable.admit)),
-    b"ceiling": Command(2, [()], calling(SegmentTable.set_ceiling)),
-    b"open": Command(2, [(Label,)], calling(SegmentTable.open, place)),
-    b"size": Command(3, [(Label,)], calling(SegmentTable.size)),
-    b"post": Command(3, [(Label,)], calling(SegmentTable.post)),
-    b"look": Command(2, [(Label,)], calling(SegmentTable.look, shown)),
-    b"close": Command(2, [(Label,)], calling(SegmentTable.close)),
+    b"make": Command(1, [()], calling(lambda _, pool: State.make(pool))),
+    b"admit": Command(2, [(Tuple,)], calling(State.admit)),
+    b"ceiling": Command(2, [()], calling(State.set_ceiling)),
+    b"open": Command(2, [(Label,)], calling(State.open, place)),
+    b"size": Command(3, [(Label,)], calling(State.size)),
+    b"post": Command(3, [(Label,)], calling(State.post)),
+    b"look": Command(2, [(Label,)], calling(State.look, shown)),
+    b"close": Command(2, [(Label,)], calling(State.close)),
     b"show": Command(0, [()], show),
 }
 

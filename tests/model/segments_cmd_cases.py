@@ -1,5 +1,5 @@
 # The requests of segments_cmd's stored input that follow its worked run: document 01's example, each refusal and each
-# order of checks, boundaries, the protocol, tables that are full, then random calls and mixes of calls. A comment line in
+# order of checks, boundaries, the protocol, states that are full, then random calls and mixes of calls. A comment line in
 # the input says what each is about. `longer_runs` has more random calls, which are not stored, and calls before `make`.
 
 import itertools
@@ -13,11 +13,11 @@ from protocol import NUMBERS_END
 from rules import Range, Tuple
 from samples import (BORDER_HIERARCHIES, BORDER_LABELS, BORDER_TUPLES, FULL_TUPLE, LABEL, RANGE, TUPLE, label, tuple_of,
                      unchecked_line)
-from segment_samples import admitted, admitting_table, any_call, mixed, played
-from segments import MOST_PAGES, SLOTS, TENANTS, Call, SegmentTable, tenant_call
+from segment_samples import admitted, admitting_state, any_call, mixed, played
+from segments import MOST_PAGES, SLOTS, TENANTS, Call, State, tenant_call
 from segments_cmd import COMMANDS, answers
 
-RANDOM_TABLES = 6
+RANDOM_STATES = 6
 RANDOM_CALLS = 130  # on each
 MIXES = 3
 MIXED_CALLS = 60
@@ -54,13 +54,13 @@ def asked(name, *numbers, label=LABEL):
 
 
 def own_slots(tenant):
-    return SegmentTable().slots_of(tenant)
+    return State().slots_of(tenant)
 
 
-def admitting(table):
-    """The requests that make a table with no segments."""
-    records = ((tenant, table.tenants[tenant]) for tenant in admitted(table))
-    return make(table.pool) + b"".join(admit(tenant, record.ceiling, record.clearance) for tenant, record in records)
+def admitting(state):
+    """The requests that make a state with no segments."""
+    records = ((tenant, state.tenants[tenant]) for tenant in admitted(state))
+    return make(state.pool) + b"".join(admit(tenant, record.ceiling, record.clearance) for tenant, record in records)
 
 
 # One tenant with one segment, on which a good request of each command is granted.
@@ -89,7 +89,7 @@ def example():
 
 
 # Refusals. Each part of a request is chosen from a list, and each choice has the numbers of the checks that it fails on the
-# table below, so that a request fails what its parts do and gets the first of that.
+# state below, so that a request fails what its parts do and gets the first of that.
 
 ORDER = (22, 1, 13, 28, 16, 12)  # of a tenant's checks, and of the operator's
 ABOVE, BELOW = label(40, 1, 2), label(20, 1)  # of LABEL
@@ -101,8 +101,8 @@ def opening(tenant, *segments):
     return b"".join(asked("open", tenant, pages, label=at) for at, pages in segments)
 
 
-def refusing_table():
-    """The requests that make the table."""
+def refusing_state():
+    """The requests that make the state."""
     ceilings = {ROOM: CEILING_OF_ROOM, OTHER: 20, NO_PLACES: 20, NO_PAGES: 5, NEITHER: 8}
     assert sum(ceilings.values()) == PROMISED
     yield make(POOL)
@@ -174,7 +174,7 @@ def refusals():
 
 
 def each_refusal():
-    yield from refusing_table()
+    yield from refusing_state()
     yield SHOW
     for what, refused, _ in refusals():
         yield case(what, refused)
@@ -272,7 +272,7 @@ def clearances():
         yield SHOW
 
 
-# Tables that are full
+# States that are full
 
 def greedy():
     """One tenant after all that there is, and another that goes on after each of its calls."""
@@ -309,7 +309,7 @@ def full():
 # The protocol
 
 def between(requests):
-    """Requests after those of a small table, and what is left of it."""
+    """Requests after those of a small state, and what is left of it."""
     return itertools.chain([SMALL], requests, [SHOW])
 
 
@@ -343,10 +343,10 @@ def number_forms():
 # Random calls
 
 def random_calls(rng, count):
-    """The requests that make a table, and random calls on it."""
-    table = admitting_table(rng)
-    yield admitting(table)
-    for number, call in enumerate(played(rng, table, count, any_call)):
+    """The requests that make a state, and random calls on it."""
+    state = admitting_state(rng)
+    yield admitting(state)
+    for number, call in enumerate(played(rng, state, count, any_call)):
         operands = (cases.damaged_at_times(rng, cases.operand_line(operand), 0.01) for operand in call.operands)
         yield request(Call(call.name, call.numbers, tuple(operands)))
         if number % 20 == 0:
@@ -355,19 +355,19 @@ def random_calls(rng, count):
 
 
 def random_requests(rng):
-    yield case(f"{RANDOM_TABLES} tables with {RANDOM_CALLS} random calls each")
-    for _ in range(RANDOM_TABLES):
+    yield case(f"{RANDOM_STATES} tables with {RANDOM_CALLS} random calls each")
+    for _ in range(RANDOM_STATES):
         yield from random_calls(rng, RANDOM_CALLS)
 
 
 def two_runs(rng):
-    """A table with no segments, and runs of two mixes of the same calls from it, with looks that get different answers."""
+    """A state with no segments, and runs of two mixes of the same calls from it, with looks that get different answers."""
     while True:
-        table = admitting_table(rng)
-        calls = played(rng, table, MIXED_CALLS)
-        runs = [isolation.run(table, mix) for mix in (calls, mixed(rng, calls))]
+        state = admitting_state(rng)
+        calls = played(rng, state, MIXED_CALLS)
+        runs = [isolation.run(state, mix) for mix in (calls, mixed(rng, calls))]
         if sum(one.answer != other.answer for one, other in isolation.pairs(*runs)) >= 3:
-            return table, runs
+            return state, runs
 
 
 def last_shown(requests):
@@ -377,9 +377,9 @@ def last_shown(requests):
 def mixes(rng):
     """Two mixes of the same calls, of which demand 3 holds."""
     for number in range(1, MIXES + 1):
-        table, runs = two_runs(rng)
-        assert not list(isolation.faults(table, *runs))
-        one, other = [admitting(table) + b"".join(request(entry.call) for entry in run.entries) + SHOW for run in runs]
+        state, runs = two_runs(rng)
+        assert not list(isolation.faults(state, *runs))
+        one, other = [admitting(state) + b"".join(request(entry.call) for entry in run.entries) + SHOW for run in runs]
         assert last_shown(one) == last_shown(other)
         yield case(f"calls {number}, mixed in one way", one) + case(f"calls {number}, mixed in another way", other)
 

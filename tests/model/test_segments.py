@@ -1,5 +1,5 @@
 # Tests of segments.py, isolation.py and segments_cmd.py: document 01's example, each sentence on the board, demand 3 on
-# random tables and mixes of calls, and that what the stored input of segments_cmd has as refused is refused for the
+# random states and mixes of calls, and that what the stored input of segments_cmd has as refused is refused for the
 # reason that it is there for.
 # Run: python3 tests/model/test_segments.py
 
@@ -14,8 +14,8 @@ import segments_cmd
 import segments_cmd_cases
 from rules import Range, Tuple, write
 from samples import TUPLE, label, tuple_of
-from segment_samples import any_call, any_table, mixed, played
-from segments import MOST_PAGES, SLOTS, TENANTS, Call, Segment, SegmentTable, Tenant, step, tenant_call
+from segment_samples import any_call, any_state, mixed, played
+from segments import MOST_PAGES, SLOTS, TENANTS, Call, Segment, State, Tenant, step, tenant_call
 
 SEED = 1
 TABLES = 2000
@@ -24,57 +24,57 @@ CLEARED = tuple_of(user=Range(LOW, label(40, 1)))
 UPSIDE_DOWN = Tuple((None, Range(label(40), LOW), None))
 
 
-def done(table, *call, label=LOW):
-    """A tenant call: the table that it leaves, and its grant, or "E" and the number of its refusal."""
-    after, answer = step(table, tenant_call(*call, label=label))
+def done(state, *call, label=LOW):
+    """A tenant call: the state that it leaves, and its grant, or "E" and the number of its refusal."""
+    after, answer = step(state, tenant_call(*call, label=label))
     return after, answer.grant if answer.refusal is None else f"E{answer.refusal}"
 
 
-def operated(table, name, *numbers, operands=()):
+def operated(state, name, *numbers, operands=()):
     """The same for a call of the operator, whose grant is "ok"."""
-    after, answer = step(table, Call(name, numbers, operands))
+    after, answer = step(state, Call(name, numbers, operands))
     return after, "ok" if answer.refusal is None else f"E{answer.refusal}"
 
 
 def admitting(pool, *ceilings, clearance=CLEARED):
-    """A table with tenants 0, 1, .. that have these ceilings."""
-    table = SegmentTable(pool)
+    """A state with tenants 0, 1, .. that have these ceilings."""
+    state = State(pool)
     for tenant, ceiling in enumerate(ceilings):
-        table = table.with_tenant(tenant, Tenant(ceiling, clearance))
-    return table
+        state = state.with_tenant(tenant, Tenant(ceiling, clearance))
+    return state
 
 
 class CallsInOrder(unittest.TestCase):
-    def tried(self, table, *steps):
-        """Tries tenant calls in order, each with what it should answer; gives the table after them."""
+    def tried(self, state, *steps):
+        """Tries tenant calls in order, each with what it should answer; gives the state after them."""
         for call, expected in steps:
-            table, answer = done(table, *call)
+            state, answer = done(state, *call)
             self.assertEqual(answer, expected, call)
-        return table
+        return state
 
 
 class Example(CallsInOrder):
     """Document 01, "Examples": the board. All labels (20,{}), in every clearance."""
 
     def test_example(self):
-        table, _ = SegmentTable.make(100)
+        state, _ = State.make(100)
         clearance = tuple_of(user=Range(LOW, LOW))
         for tenant, ceiling, expected in ((0, 60, "ok"), (1, 40, "ok"), (2, 1, "E12")):
-            table, answer = operated(table, "admit", tenant, ceiling, operands=(clearance,))
+            state, answer = operated(state, "admit", tenant, ceiling, operands=(clearance,))
             self.assertEqual(answer, expected)
-        self.tried(table, (("open", 0, 60), 0), (("open", 0, 1), "E12"), (("open", 1, 40), 8),
+        self.tried(state, (("open", 0, 60), 0), (("open", 0, 1), "E12"), (("open", 1, 40), 8),
                     (("size", 0, 0, 59), None), (("open", 0, 1), 1))
 
 
-def sound_table():
+def sound_state():
     """Tenant 0 has 7 of 10 pages at two slots, tenant 1 has 5 of 5, tenant 7 nothing of 1."""
-    table = admitting(16, 10, 5).with_tenant(7, Tenant(1, CLEARED))
+    state = admitting(16, 10, 5).with_tenant(7, Tenant(1, CLEARED))
     for slot, segment in ((0, Segment(LOW, 3, 9)), (2, Segment(HIGH, 4, 0)), (8, Segment(HIGH, 5, 2 ** 64 - 1))):
-        table = table.with_segment(slot, segment)
-    return table
+        state = state.with_segment(slot, segment)
+    return state
 
 
-SOUND = sound_table()
+SOUND = sound_state()
 EVERY_CALL = [
     Call("admit", (2, 1), (CLEARED,)), Call("set_ceiling", (0, 10)), tenant_call("open", 0, 1, label=LOW),
     tenant_call("size", 0, 0, 1, label=LOW), tenant_call("post", 0, 0, 1, label=LOW), tenant_call("look", 0, 0, label=LOW),
@@ -91,7 +91,7 @@ def changed_segment(slot, **changes):
 
 
 UNSOUND = {
-    "zeros": SegmentTable(),
+    "zeros": State(),
     "no pages in the pool": replace(SOUND, pool=0),
     "too many pages in the pool": replace(SOUND, pool=MOST_PAGES + 1),
     "ceiling 0": changed_tenant(7, ceiling=0),
@@ -112,25 +112,25 @@ class Soundness(unittest.TestCase):
     """Document 01, "The board": what a sound board is, and that an unsound one is refused before all else."""
 
     def test_sound(self):
-        for table in (SOUND, SegmentTable(1), SegmentTable(MOST_PAGES), changed_segment(0, pages=6),
+        for state in (SOUND, State(1), State(MOST_PAGES), changed_segment(0, pages=6),
                       changed_segment(0, version=0), changed_segment(0, label=label(40, 1))):
-            self.assertTrue(table.sound())
-        for what, table in UNSOUND.items():
-            self.assertFalse(table.sound(), what)
+            self.assertTrue(state.sound())
+        for what, state in UNSOUND.items():
+            self.assertFalse(state.sound(), what)
 
     def test_refused(self):
         for call in EVERY_CALL:
             self.assertIn(step(SOUND, call)[1].refusal, {None, 12})
-            for what, table in UNSOUND.items():
-                self.assertEqual(step(table, call), (table, (22, None)), (what, call))
+            for what, state in UNSOUND.items():
+                self.assertEqual(step(state, call), (state, (22, None)), (what, call))
 
     def test_before_all_else(self):
-        """22 for an unsound table also where a call would get another number."""
-        table = UNSOUND["ceiling 0"]
-        self.assertEqual(operated(table, "admit", 0, 1, operands=(CLEARED,))[1], "E22")
-        self.assertEqual(operated(table, "set_ceiling", 0, 1)[1], "E22")
+        """22 for an unsound state also where a call would get another number."""
+        state = UNSOUND["ceiling 0"]
+        self.assertEqual(operated(state, "admit", 0, 1, operands=(CLEARED,))[1], "E22")
+        self.assertEqual(operated(state, "set_ceiling", 0, 1)[1], "E22")
         for call in (("open", 0, 9), ("size", 0, 0, 9), ("post", 0, 9, 1), ("look", 0, 9), ("close", 0, 9)):
-            self.assertEqual(done(table, *call)[1], "E22")
+            self.assertEqual(done(state, *call)[1], "E22")
 
     def test_ownership(self):
         """Tenant t owns places 8t to 8t+7."""
@@ -146,11 +146,11 @@ class Grants(CallsInOrder):
 
     def test_operator(self):
         roomy = replace(SOUND, pool=20)
-        for table, call, after in (
-                (SOUND, Call("make", (5,)), SegmentTable(5)),
+        for state, call, after in (
+                (SOUND, Call("make", (5,)), State(5)),
                 (roomy, Call("admit", (5, 4), (TUPLE,)), roomy.with_tenant(5, Tenant(4, TUPLE))),
                 (SOUND, Call("set_ceiling", (0, 7)), changed_tenant(0, ceiling=7))):
-            self.assertEqual(step(table, call), (after, (None, None)))
+            self.assertEqual(step(state, call), (after, (None, None)))
 
     def test_tenant(self):
         for call, at, after, answer in (
@@ -164,25 +164,25 @@ class Grants(CallsInOrder):
 
     def test_places(self):
         """The lowest empty place of its own; eight of them, then 28, before 12."""
-        table = admitting(100, 8, 8)
-        table = self.tried(table, *((("open", 1, 1), 8 + at) for at in range(8)), (("open", 1, 1), "E28"), (("open", 0, 1), 0))
-        self.tried(table, (("close", 1, 11), None), (("close", 1, 9), None), (("open", 1, 3), "E12"), (("open", 1, 1), 9),
+        state = admitting(100, 8, 8)
+        state = self.tried(state, *((("open", 1, 1), 8 + at) for at in range(8)), (("open", 1, 1), "E28"), (("open", 0, 1), 0))
+        self.tried(state, (("close", 1, 11), None), (("close", 1, 9), None), (("open", 1, 3), "E12"), (("open", 1, 1), 9),
                     (("open", 1, 1), 11), (("open", 1, 1), "E28"))
 
     def test_pages(self):
         """Against the ceiling, whatever is left of the pool."""
-        table = admitting(MOST_PAGES, 10, MOST_PAGES - 10)
-        self.tried(table, (("open", 0, 11), "E12"), (("open", 0, 10), 0), (("open", 0, 1), "E12"), (("size", 0, 0, 11), "E12"),
+        state = admitting(MOST_PAGES, 10, MOST_PAGES - 10)
+        self.tried(state, (("open", 0, 11), "E12"), (("open", 0, 10), 0), (("open", 0, 1), "E12"), (("size", 0, 0, 11), "E12"),
                     (("size", 0, 0, 10), None), (("size", 0, 0, 9), None), (("open", 0, 1), 1), (("size", 0, 0, 10), "E12"),
                     (("open", 1, MOST_PAGES - 10), 8))
 
     def test_bounds_of_pools(self):
         for pool, expected in ((0, "E22"), (1, "ok"), (MOST_PAGES, "ok"), (MOST_PAGES + 1, "E22")):
-            self.assertEqual(operated(SegmentTable(), "make", pool)[1], expected)
+            self.assertEqual(operated(State(), "make", pool)[1], expected)
 
 
 class RandomCalls(unittest.TestCase):
-    """Document 01, "The board", on random tables and calls."""
+    """Document 01, "The board", on random states and calls."""
 
     NUMBERS = {"make": {22}, "admit": {None, 22, 16, 12}, "set_ceiling": {None, 22, 16, 12},
                "open": {None, 22, 1, 28, 12}, "size": {None, 22, 1, 13, 12}, "post": {None, 22, 1, 13},
@@ -193,25 +193,25 @@ class RandomCalls(unittest.TestCase):
         self.rng = random.Random(SEED)
 
     def steps(self, count):
-        """Tables, calls on them, and what these leave and answer."""
+        """States, calls on them, and what these leave and answer."""
         for _ in range(count):
-            table = any_table(self.rng)
-            run = isolation.run(table, played(self.rng, table, 12, any_call))
-            tables = [*(entry.table for entry in run.entries), run.last]
-            yield from ((entry, after) for entry, after in zip(run.entries, tables[1:]))
+            state = any_state(self.rng)
+            run = isolation.run(state, played(self.rng, state, 12, any_call))
+            states = [*(entry.state for entry in run.entries), run.last]
+            yield from ((entry, after) for entry, after in zip(run.entries, states[1:]))
 
     def test_sound_and_no_more_changed(self):
-        """Every call leaves a sound table. It changes one slot of the caller's own, or one tenant, or nothing."""
+        """Every call leaves a sound state. It changes one slot of the caller's own, or one tenant, or nothing."""
         answers = set()
-        for (call, table, answer), after in self.steps(300):
+        for (call, state, answer), after in self.steps(300):
             self.assertTrue(after.sound())
-            slots = [slot for slot in SLOTS if table.segments[slot] != after.segments[slot]]
-            tenants = [tenant for tenant in TENANTS if table.tenants[tenant] != after.tenants[tenant]]
-            self.assertEqual(table.pool, after.pool)
-            self.assertIn(slots, [[], *([slot] for slot in table.slots_of(call.tenant))])
+            slots = [slot for slot in SLOTS if state.segments[slot] != after.segments[slot]]
+            tenants = [tenant for tenant in TENANTS if state.tenants[tenant] != after.tenants[tenant]]
+            self.assertEqual(state.pool, after.pool)
+            self.assertIn(slots, [[], *([slot] for slot in state.slots_of(call.tenant))])
             self.assertIn(tenants, [[], [call.tenant]])
             if answer.refusal is not None or call.name == "look":
-                self.assertEqual(table, after)
+                self.assertEqual(state, after)
             self.assertFalse(slots if call.name in ("admit", "set_ceiling", "make") else tenants)
             answers.add((call.name, answer.refusal))
         self.assertEqual(answers, self.POSSIBLE)
@@ -225,16 +225,16 @@ def compared(one, other):
 
 
 class Demand3(unittest.TestCase):
-    """Document 00, demand 3, on random sound tables and mixes of random calls."""
+    """Document 00, demand 3, on random sound states and mixes of random calls."""
 
     def test_mixes(self):
         rng = random.Random(SEED)
         looks = set()
         for _ in range(TABLES):
-            table = any_table(rng)
-            calls = played(rng, table, rng.randint(2, 12))
-            runs = [isolation.run(table, mix) for mix in (calls, mixed(rng, calls))]
-            self.assertEqual(list(isolation.faults(table, *runs)), [])
+            state = any_state(rng)
+            calls = played(rng, state, rng.randint(2, 12))
+            runs = [isolation.run(state, mix) for mix in (calls, mixed(rng, calls))]
+            self.assertEqual(list(isolation.faults(state, *runs)), [])
             looks.update(compared(*pair) for pair in isolation.pairs(*runs) if isolation.looks_at_another(pair[0]))
         self.assertEqual(set(looks), {
             (False, (), False), (False, (13,), False), (True, (13,), False), (True, (13,), True), (True, (), True),
@@ -300,7 +300,7 @@ class StoredCases(unittest.TestCase):
     """What the stored input takes for refused is so, and by the check that it says."""
 
     def test_refusals(self):
-        start = b"".join(segments_cmd_cases.refusing_table())
+        start = b"".join(segments_cmd_cases.refusing_state())
         made = segments_cmd.answers(start).splitlines()
         self.assertFalse([line for line in made if line.startswith(b"error")])
         refusals = list(segments_cmd_cases.refusals())
@@ -315,7 +315,7 @@ class StoredCases(unittest.TestCase):
         lines = segments_cmd.answers(requests).splitlines()
         counted = collections.Counter(line for line in lines if line.startswith(b"error"))
         self.assertEqual(set(counted), {b"error %d" % number for number in (1, 12, 13, 16, 22, 28)})
-        calls = segments_cmd_cases.RANDOM_TABLES * segments_cmd_cases.RANDOM_CALLS
+        calls = segments_cmd_cases.RANDOM_STATES * segments_cmd_cases.RANDOM_CALLS
         self.assertLess(sum(counted.values()), 0.7 * calls)
 
 
