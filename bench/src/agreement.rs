@@ -229,6 +229,12 @@ fn spoil_number(random: &mut Random, number: &mut u64) {
     }
 }
 
+/// Changes one of the numbers, now and then.
+fn spoil_one<const N: usize>(random: &mut Random, numbers: [&mut u64; N]) {
+    let chosen = random.below(N);
+    spoil_number(random, numbers[chosen]);
+}
+
 fn spoiled_label(random: &mut Random) -> raw::Label {
     let mut label = raw::Label::from(label(random));
     spoil_number(random, &mut label.hierarchy);
@@ -271,26 +277,34 @@ fn decisions_by_value() {
             &mut object.has_tuple,
             &mut object.label.hierarchy,
         ];
-        let chosen = random.below(numbers.len());
-        numbers.into_iter().skip(chosen).take(1).for_each(|number| spoil_number(random, number));
+        spoil_one(random, numbers);
         spoil_tuple(random, &mut object.tuple);
         let (intents, attribute) = (random.between(0, 65), random.between(0, 3));
         assert_eq!(by_value::check(credentials, object, intents, attribute), raw::lurm_check(credentials, object, intents, attribute));
     }
 }
 
+/// A state, and a filled slot of it where there is one.
+fn state_and_slot(random: &mut Random) -> (raw::State, usize) {
+    let board = board(random);
+    let filled: Vec<usize> = (0..PLACES).filter(|place| board.places[*place].is_some()).collect();
+    (raw::State::from(&board), if filled.is_empty() { 0 } else { random.pick(&filled) })
+}
+
 #[test]
 fn posts_by_value() {
     let random = &mut Random::new(8);
+    let mut granted = 0;
     for _ in 0..TURNS / 4 {
-        let mut state = raw::State::from(&board(random));
-        let held = random.below(PLACES);
+        let (mut state, held) = state_and_slot(random);
         let (mut tenant, mut slot, mut label) = (held as u64 / 8, held as u64, state.segments[held].label);
+        let numbers = [&mut state.segments[held].label.hierarchy, &mut tenant, &mut slot, &mut label.hierarchy];
+        spoil_one(random, numbers);
         spoil_tuple(random, &mut state.tenants[held / 8].clearance);
-        [&mut state.segments[held].label.hierarchy, &mut tenant, &mut slot, &mut label.hierarchy]
-            .into_iter()
-            .for_each(|number| spoil_number(random, number));
         let (tenant, slot, version) = (raw::TenantId::new(tenant), raw::Slot::new(slot), random.next());
-        assert!(by_value::post(state, tenant, label, slot, version) == raw::lurm_post(state, tenant, label, slot, version));
+        let proved = raw::lurm_post(state, tenant, label, slot, version);
+        assert!(by_value::post(state, tenant, label, slot, version) == proved);
+        granted += usize::from(proved.answer.refusal == 0);
     }
+    assert!(granted > TURNS / 100, "too few grants: {granted}");
 }

@@ -211,15 +211,17 @@ fn object(random: &mut Random, subject: &Label) -> Object {
     }
 }
 
-/// The object with a number that stands for no choice.
-fn odd_object(random: &mut Random, object: Object) -> Object {
+/// The object with a number that stands for no choice, in its tuple too.
+fn odd_object(random: &mut Random, mut object: Object) -> Object {
     let (class, kind, flag) = (random.wider(object.r#type), random.wider(object.kind), inputs::no_flag(random));
     match random.below(8) {
-        0 => Object { r#type: random.pick(&[6, 7, class]), ..object },
-        1 => Object { has_label: flag, ..object },
-        2 => Object { has_tuple: flag, ..object },
-        _ => Object { kind: random.pick(&[3, 7, kind]), ..object },
+        0 => object.r#type = random.pick(&[6, 7, class]),
+        1 => object.has_label = flag,
+        2 => object.has_tuple = flag,
+        3 | 4 => object.tuple.ranges[random.index(REGIONS)].present = flag,
+        _ => object.kind = random.pick(&[3, 7, kind]),
     }
+    object
 }
 
 pub fn monitor(random: &mut Random, cases: &mut Cases) {
