@@ -196,23 +196,29 @@ mod tests {
         }
     }
 
+    /// Every combination of some numbers.
+    fn odd_answers() -> impl Iterator<Item = raw::Answer> {
+        let refusals = [0, 1, 3, 7, 12, 22, 33, 34, u32::MAX];
+        let carrying = refusals.into_iter().flat_map(|refusal| [0, 1, 2, u32::MAX].map(|carries| (refusal, carries)));
+        carrying.flat_map(|(refusal, carries)| [0, 1, 5, u64::MAX].map(|value| answer(refusal, carries, value)))
+    }
+
     /// No answer stops a caller, and none but a grant as it should be is taken for one.
     #[test]
     fn answers_that_no_function_gives_are_unknown() {
-        let refusals = [0, 1, 3, 7, 12, 22, 33, 34, u32::MAX];
-        let carries = [0, 1, 2, u32::MAX];
-        let values = [0, 1, 5, u64::MAX];
-        for (refusal, carries) in refusals.into_iter().flat_map(|refusal| carries.map(|carries| (refusal, carries))) {
-            for given in values.map(|value| answer(refusal, carries, value)) {
-                let known = match (refusal, carries, given.value) {
-                    (0, 0, value) => Ok(value),
-                    (7 | 22, 1, value) => Err(Refusal::carrying(refusal, value as usize).unwrap()),
-                    (1 | 12 | 22 | 33, 0, 0) => Err(Refusal::plain(refusal).unwrap()),
-                    _ => unknown(given),
-                };
-                assert_eq!(given.number(), known);
-                assert!(known.is_ok() || known.map_err(Refusal::number) == Err(refusal));
-            }
+        for given in odd_answers() {
+            let known = match (given.refusal, given.carries, given.value) {
+                (0, 0, value) => Ok(value),
+                (7, 1, length) => Err(Refusal::TooBig(length as usize)),
+                (22, 1, line) => Err(Refusal::BadLine(line as usize)),
+                (1, 0, 0) => Err(Refusal::Perm),
+                (12, 0, 0) => Err(Refusal::NoMem),
+                (22, 0, 0) => Err(Refusal::Invalid),
+                (33, 0, 0) => Err(Refusal::Domain),
+                _ => unknown(given),
+            };
+            assert_eq!(given.number(), known);
+            assert!(known.is_ok() || known.map_err(Refusal::number) == Err(given.refusal));
         }
     }
 

@@ -88,12 +88,11 @@ fn tuples_come_back_as_they_were() {
 #[test]
 fn flags_of_tuples_are_not_dropped() {
     let given = raw::Tuple::from(&user());
-    for region in 0..raw::REGIONS {
-        for present in WIDE.into_iter().chain([2, 3]) {
-            let mut other = given;
-            other.ranges[region].present = present;
-            assert_eq!(Tuple::try_from(other), Err(Refusal::Invalid));
-        }
+    for present in WIDE.into_iter().chain([2, 3]) {
+        let (mut absent, mut there) = (given, given);
+        absent.ranges[0].present = present;
+        there.ranges[1].present = present;
+        assert_eq!([absent, there].map(Tuple::try_from), [Err(Refusal::Invalid); 2]);
     }
     let mut hidden = given;
     hidden.ranges[1].present = 0;
@@ -109,14 +108,16 @@ fn raw_entry(names: Named) -> raw::Entry {
 
 #[test]
 fn entries_come_back_as_they_were() {
-    let names = [Named::Hierarchy(20), Named::Hierarchy(u64::MAX), Named::Category(256), Named::Label(label(20)), Named::Label(label(300))];
-    for names in names {
-        for (name, short) in [(&b"east"[..], &b"e"[..]), (b"", b""), (b"a\0b", b"\0"), (b"\xff\xc3", b"\0\0"), (&[b'n'; 31], &[b's'; 15])] {
-            let entry = Entry::new(names, name, short);
-            let numbers = raw::Entry::try_from(&entry).unwrap();
-            assert_eq!((numbers.name.length, numbers.abbreviation.length), (name.len(), short.len()));
-            assert_eq!(Entry::try_from(numbers), Ok(entry));
-        }
+    for entry in [
+        Entry::new(Named::Hierarchy(20), "east", "e"),
+        Entry::new(Named::Hierarchy(u64::MAX), "", ""),
+        Entry::new(Named::Category(256), b"a\0b", b"\0"),
+        Entry::new(Named::Label(label(20)), b"\xff\xc3", b"\0\0"),
+        Entry::new(Named::Label(label(300)), [b'n'; 31], [b's'; 15]),
+    ] {
+        let numbers = raw::Entry::try_from(&entry).unwrap();
+        assert_eq!((numbers.name.length, numbers.abbreviation.length), (entry.name.len(), entry.abbreviation.len()));
+        assert_eq!(Entry::try_from(numbers), Ok(entry));
     }
 }
 
@@ -138,22 +139,44 @@ fn refuses(names: Named, change: impl Fn(&mut raw::Entry)) {
 }
 
 #[test]
-fn entries_that_cannot_be_are_refused() {
+fn entries_that_name_nothing_are_refused() {
     for names in [0, 4, 9].into_iter().chain(WIDE) {
         refuses(Named::Hierarchy(20), |entry| entry.names = names);
     }
     refuses(Named::Label(label(20)), |entry| entry.number = 1);
     refuses(Named::Hierarchy(20), |entry| entry.label.hierarchy = 1);
     refuses(Named::Category(7), |entry| entry.label.categories[3] = 1);
-    for length in [0, 3, 32, 33, 256 + 4, usize::MAX] {
-        refuses(Named::Category(7), |entry| entry.name.length = length);
-    }
-    for length in [0, 16, 17, 256 + 1, usize::MAX] {
-        refuses(Named::Category(7), |entry| entry.abbreviation.length = length);
+}
+
+#[test]
+fn lengths_that_are_not_those_of_the_bytes_are_refused() {
+    for (name, short) in [(0, 0), (3, 0), (32, 16), (33, 17), (256 + 4, 256 + 1), (usize::MAX, usize::MAX)] {
+        refuses(Named::Category(7), |entry| entry.name.length = name);
+        refuses(Named::Category(7), |entry| entry.abbreviation.length = short);
     }
     refuses(Named::Category(7), |entry| entry.name.bytes[31] = 1);
     refuses(Named::Category(7), |entry| entry.name.bytes = [b'n'; raw::NAME_BYTES]);
     refuses(Named::Category(7), |entry| entry.abbreviation.bytes[15] = 1);
+}
+
+/// An alias table with a name of 31 bytes for a hierarchy and for each category.
+fn longest_names() -> String {
+    let entry = |names, at: u16| Entry::new(names, format!("{:n<28}{at:03}", ""), "").to_line().unwrap();
+    (0..256).map(|category| entry(Named::Category(category.into()), category)).chain([entry(Named::Hierarchy(20), 256)]).collect()
+}
+
+/// 257 names with one byte between two, twice, and what stands before each.
+#[test]
+fn the_longest_texts_are_whole() {
+    let lines = longest_names();
+    let (aliases, label) = (AliasTable::new(lines.as_bytes()), Label::new(20, &(0..=255).collect::<Vec<u8>>()));
+    let (subject, range) = (Subject { label, read_override: false }, Range::new(label, label));
+    let text = aliases.label_text(&subject, Style::default(), &label).unwrap();
+    assert_eq!(text.len(), 257 * 31 + 256);
+    assert_eq!(aliases.read_label(&subject, text.as_bytes()), Ok(label));
+    let (both, ends) = aliases.range_text(&subject, Style::default(), &range).unwrap();
+    assert_eq!((both, ends), (format!("-L {text} -H {text}"), Ends::Both));
+    assert_eq!(aliases.write_label(&subject, Style::default(), &label, &mut []), Err(Refusal::TooBig(text.len())));
 }
 
 /// A state with a tenant and a segment.
