@@ -1,11 +1,10 @@
-//! Links the proved library, and libsepol where it is installed.
+//! Links libsepol where it is installed. The proved library is linked by the crate that declares it.
 
 use std::env;
 use std::path::{Path, PathBuf};
-use std::process::{exit, Command};
+use std::process::Command;
 
 fn main() {
-    link_library();
     println!("cargo:rustc-check-cfg=cfg(sepol)");
     if let Err(reason) = link_sepol() {
         println!("cargo:rustc-env=BENCH_NO_SEPOL={reason}");
@@ -14,21 +13,6 @@ fn main() {
         "cargo:rustc-env=BENCH_COMPILER={}",
         first_line(Command::new(env::var("RUSTC").unwrap()).arg("--version")).unwrap_or_default()
     );
-}
-
-/// libcapi.a, from LURMENIZE_LIB_DIR or where `rt staticlib` puts it.
-fn link_library() {
-    println!("cargo:rerun-if-env-changed=LURMENIZE_LIB_DIR");
-    let usual = || Path::new(env!("CARGO_MANIFEST_DIR")).join("../target/staticlib");
-    let directory = env::var_os("LURMENIZE_LIB_DIR").map_or_else(usual, PathBuf::from);
-    let archive = directory.join("libcapi.a");
-    println!("cargo:rerun-if-changed={}", archive.display());
-    if !archive.is_file() {
-        eprintln!("{} is not there: run `rt staticlib capi`, or set LURMENIZE_LIB_DIR to its directory", archive.display());
-        exit(1);
-    }
-    println!("cargo:rustc-link-search=native={}", directory.display());
-    println!("cargo:rustc-link-lib=static=capi");
 }
 
 /// Compiles sepol.c and links it with libsepol.a, or says why not.

@@ -1,6 +1,8 @@
 //! Both versions on odd inputs, which the timed ones leave out: what the one refuses, the other refuses alike.
 
+use crate::by_value;
 use crate::cases::names::NamedTable;
+use crate::convert::{answer, label_answer};
 use crate::ordinary::board::{Board, Place, Segment, Tenant, TenantId, PLACES, TENANTS};
 use crate::ordinary::label::{dominates, lower_bound, upper_bound, Label};
 use crate::ordinary::line::{read_label, write_label};
@@ -10,7 +12,7 @@ use crate::ordinary::table::check_table;
 use crate::ordinary::text::{read_label_text, write_label_text, Form, Style, Subject, Variant};
 use crate::ordinary::Refusal;
 use crate::random::Random;
-use crate::raw;
+use lurmenize::raw;
 
 const TURNS: usize = 20_000;
 
@@ -52,8 +54,8 @@ fn spoil(random: &mut Random, bytes: &mut [u8]) {
     }
 }
 
-fn answer(result: Result<usize, Refusal>) -> raw::Answer {
-    result.map(|value| value as u64).into()
+fn count_answer(result: Result<usize, Refusal>) -> raw::Answer {
+    answer(result.map(|value| value as u64))
 }
 
 #[test]
@@ -62,12 +64,9 @@ fn labels() {
     for _ in 0..TURNS {
         let (a, b) = (label(random), label(random));
         let (x, y) = (a.into(), b.into());
-        // SAFETY, here and below: the functions take any values, and pointers go with their lengths.
-        unsafe {
-            assert_eq!(raw::Answer::from(dominates(&a, &b).map(u64::from)), raw::lurm_dominates(x, y));
-            assert_eq!(raw::LabelAnswer::from(upper_bound(&a, &b)), raw::lurm_upper_bound(x, y));
-            assert_eq!(raw::LabelAnswer::from(lower_bound(&a, &b)), raw::lurm_lower_bound(x, y));
-        }
+        assert_eq!(answer(dominates(&a, &b).map(u64::from)), raw::lurm_dominates(x, y));
+        assert_eq!(label_answer(upper_bound(&a, &b)), raw::lurm_upper_bound(x, y));
+        assert_eq!(label_answer(lower_bound(&a, &b)), raw::lurm_lower_bound(x, y));
     }
 }
 
@@ -78,17 +77,18 @@ fn lines() {
         let label = label(random);
         let (mut ordinary, mut proved) = ([0xa5; 80], [0xa5; 80]);
         let length = random.between(65, 80) as usize;
-        let written = answer(write_label(&label, &mut ordinary[..length]));
+        let written = count_answer(write_label(&label, &mut ordinary[..length]));
+        // SAFETY, here and below: pointers go with their lengths.
         assert_eq!(written, unsafe { raw::lurm_write_label(label.into(), proved.as_mut_ptr(), length) });
         assert_eq!(ordinary, proved);
         let line = &mut ordinary[..random.pick(&[71, 71, 71, 70, 72, 0])];
         spoil(random, line);
-        let read = raw::LabelAnswer::from(read_label(line));
+        let read = label_answer(read_label(line));
         assert_eq!(read, unsafe { raw::lurm_read_label(line.as_ptr(), line.len()) });
     }
 }
 
-/// A table with a line too many, a spoiled byte, or neither.
+/// An alias table with a line too many, a spoiled byte, or neither.
 fn table(random: &mut Random) -> (NamedTable, Vec<u8>) {
     let table = NamedTable::new(random, 16);
     let mut bytes = table.bytes.clone();
@@ -108,7 +108,7 @@ fn texts() {
     for _ in 0..TURNS / 4 {
         let (names, table) = table(random);
         let (pointer, length, more) = (table.as_ptr(), table.len(), random.once_in(16));
-        assert_eq!(answer(check_table(&table, more)), unsafe { raw::lurm_check_table(pointer, length, more.into()) });
+        assert_eq!(count_answer(check_table(&table, more)), unsafe { raw::lurm_check_alias_table(pointer, length, more.into()) });
         let named = names.label(random);
         let subject = Subject { label: or_other(random, named), read_override: random.once_in(2) };
         let form = random.pick(&[Form::Definition, Form::Alias]);
@@ -118,38 +118,44 @@ fn texts() {
         let room = random.pick(&[128, 128, 20]);
         let wrote = write_label_text(&table, more, &subject, style, &written, &mut ordinary[..room]);
         let (who, how, what, out) = (subject.into(), style.into(), written.into(), proved.as_mut_ptr());
-        assert_eq!(answer(wrote), unsafe { raw::lurm_write_label_text(pointer, length, more.into(), who, how, what, out, room) });
+        assert_eq!(count_answer(wrote), unsafe { raw::lurm_write_label_text(pointer, length, more.into(), who, how, what, out, room) });
         assert_eq!(ordinary, proved);
         let text = &mut ordinary[..wrote.unwrap_or(9)];
         spoil(random, text);
-        let read = raw::LabelAnswer::from(read_label_text(&table, more, &subject, text));
+        let read = label_answer(read_label_text(&table, more, &subject, text));
         assert_eq!(read, unsafe { raw::lurm_read_label_text(pointer, length, more.into(), who, text.as_ptr(), text.len()) });
     }
+}
+
+/// A subject and an object, which often have the same label.
+fn request(random: &mut Random) -> (Credentials, Object) {
+    let files = [FileKind::Regular, FileKind::Directory, FileKind::Other].map(Class::File);
+    let others = [Class::Fifo, Class::Process, Class::MessageQueue, Class::SharedMemory, Class::Semaphore];
+    let range = range(random);
+    let credentials = Credentials {
+        label: or_other(random, range.high),
+        range,
+        read_override: random.once_in(2),
+        write_override: random.once_in(2),
+        relabel: random.once_in(2),
+    };
+    let label = or_other(random, credentials.label);
+    let object = Object {
+        class: if random.once_in(2) { random.pick(&files) } else { random.pick(&others) },
+        label: random.once_in(2).then_some(label),
+        tuple: random.once_in(2).then(|| tuple(random)),
+    };
+    (credentials, object)
 }
 
 #[test]
 fn decisions() {
     let random = &mut Random::new(4);
-    let files = [FileKind::Regular, FileKind::Directory, FileKind::Other].map(Class::File);
-    let others = [Class::Fifo, Class::Process, Class::MessageQueue, Class::SharedMemory, Class::Semaphore];
     for _ in 0..TURNS {
-        let range = range(random);
-        let credentials = Credentials {
-            label: or_other(random, range.high),
-            range,
-            read_override: random.once_in(2),
-            write_override: random.once_in(2),
-            relabel: random.once_in(2),
-        };
-        let label = or_other(random, credentials.label);
-        let object = Object {
-            class: if random.once_in(2) { random.pick(&files) } else { random.pick(&others) },
-            label: random.once_in(2).then_some(label),
-            tuple: random.once_in(2).then(|| tuple(random)),
-        };
+        let (credentials, object) = request(random);
         let (intents, attribute) = (random.between(0, 65), random.between(0, 3));
         let decided = check(&credentials, &object, intents, attribute).map(u64::from);
-        assert_eq!(raw::Answer::from(decided), unsafe { raw::lurm_check(credentials.into(), object.into(), intents, attribute) });
+        assert_eq!(answer(decided), raw::lurm_check(credentials.into(), object.into(), intents, attribute));
     }
 }
 
@@ -179,24 +185,23 @@ fn board(random: &mut Random) -> Board {
 }
 
 /// Some call on both, and what they answer.
-fn call(random: &mut Random, board: &mut Board, table: &mut raw::Table) -> (raw::Answer, raw::Answer) {
+fn call(random: &mut Random, board: &mut Board, state: &mut raw::State) -> (raw::Answer, raw::Answer) {
     let (tenant, place, number) = (random.between(0, 8), random.between(0, 64), random.between(0, 30));
     let (id, at, clearance) = (TenantId(tenant), Place(place), tuple(random));
+    let (tenant, slot) = (raw::TenantId::new(tenant), raw::Slot::new(place));
     let held = board.places.get(place as usize).copied().flatten().map_or(label(random), |held| held.label);
     let label = or_other(random, held);
-    let (result, outcome) = unsafe {
-        match random.below(7) {
-            0 => (board.open(id, &label, number).map(|place| place.0), raw::lurm_open(*table, tenant, label.into(), number)),
-            1 => (board.size(id, &label, at, number).map(|_| 0), raw::lurm_size(*table, tenant, label.into(), place, number)),
-            2 => (board.post(id, &label, at, number).map(|_| 0), raw::lurm_post(*table, tenant, label.into(), place, number)),
-            3 => (board.close(id, &label, at).map(|_| 0), raw::lurm_close(*table, tenant, label.into(), place)),
-            4 => (board.look(id, &label, at).map(|_| 0), raw::lurm_look(*table, tenant, label.into(), place)),
-            5 => (board.admit(id, number, &clearance).map(|_| 0), raw::lurm_admit(*table, tenant, number, clearance.into())),
-            _ => (board.set_ceiling(id, number).map(|_| 0), raw::lurm_set_ceiling(*table, tenant, number)),
-        }
+    let (result, outcome) = match random.below(7) {
+        0 => (board.open(id, &label, number).map(|place| place.0), raw::lurm_open(*state, tenant, label.into(), number)),
+        1 => (board.size(id, &label, at, number).map(|_| 0), raw::lurm_size(*state, tenant, label.into(), slot, number)),
+        2 => (board.post(id, &label, at, number).map(|_| 0), raw::lurm_post(*state, tenant, label.into(), slot, number)),
+        3 => (board.close(id, &label, at).map(|_| 0), raw::lurm_close(*state, tenant, label.into(), slot)),
+        4 => (board.look(id, &label, at).map(|_| 0), raw::lurm_look(*state, tenant, label.into(), slot)),
+        5 => (board.admit(id, number, &clearance).map(|_| 0), raw::lurm_admit(*state, tenant, number, clearance.into())),
+        _ => (board.set_ceiling(id, number).map(|_| 0), raw::lurm_set_ceiling(*state, tenant, number)),
     };
-    *table = outcome.table;
-    (result.into(), outcome.answer)
+    *state = outcome.state;
+    (answer(result), outcome.answer)
 }
 
 #[test]
@@ -205,14 +210,101 @@ fn boards() {
     let mut granted = 0;
     for _ in 0..TURNS / 40 {
         let mut board = board(random);
-        let mut table = raw::Table::from(&board);
-        assert_eq!(u64::from(board.is_sound()), unsafe { raw::lurm_sound(table) }.value);
+        let mut state = raw::State::from(&board);
+        assert_eq!(u64::from(board.is_sound()), raw::lurm_sound(state).value);
         for _ in 0..TENANTS * 4 {
-            let (ordinary, proved) = call(random, &mut board, &mut table);
+            let (ordinary, proved) = call(random, &mut board, &mut state);
             assert_eq!(ordinary, proved);
-            assert_eq!(raw::Table::from(&board), table);
+            assert_eq!(raw::State::from(&board), state);
             granted += usize::from(proved.refusal == 0);
         }
+    }
+    assert!(granted > TURNS / 100, "too few grants: {granted}");
+}
+
+/// Changes a number now and then: to one that is hardly right anywhere, or that differs in its high bits alone.
+fn spoil_number(random: &mut Random, number: &mut u64) {
+    if random.once_in(8) {
+        *number = random.pick(&[2, 7, 200, 255, *number + (1 << 8), *number + (1 << 32), u64::MAX]);
+    }
+}
+
+/// Changes one of the numbers, now and then.
+fn spoil_one<const N: usize>(random: &mut Random, numbers: [&mut u64; N]) {
+    let chosen = random.below(N);
+    spoil_number(random, numbers[chosen]);
+}
+
+fn spoiled_label(random: &mut Random) -> raw::Label {
+    let mut label = raw::Label::from(label(random));
+    spoil_number(random, &mut label.hierarchy);
+    label
+}
+
+#[test]
+fn labels_by_value() {
+    let random = &mut Random::new(6);
+    for _ in 0..TURNS {
+        let (a, b) = (spoiled_label(random), spoiled_label(random));
+        assert_eq!(by_value::dominates(a, b), raw::lurm_dominates(a, b));
+        assert_eq!(by_value::upper_bound(a, b), raw::lurm_upper_bound(a, b));
+        assert_eq!(by_value::lower_bound(a, b), raw::lurm_lower_bound(a, b));
+    }
+}
+
+/// Changes what a tuple says of a region, now and then.
+fn spoil_tuple(random: &mut Random, tuple: &mut raw::Tuple) {
+    let region = &mut tuple.ranges[random.below(3)];
+    spoil_number(random, &mut region.present);
+    spoil_number(random, &mut region.range.high.hierarchy);
+}
+
+#[test]
+fn decisions_by_value() {
+    let random = &mut Random::new(7);
+    for _ in 0..TURNS {
+        let (credentials, object) = request(random);
+        let (mut credentials, mut object) = (raw::Credentials::from(credentials), raw::Object::from(object));
+        let numbers = [
+            &mut credentials.label.hierarchy,
+            &mut credentials.range.low.hierarchy,
+            &mut credentials.read_override,
+            &mut credentials.write_override,
+            &mut credentials.relabel,
+            &mut object.r#type,
+            &mut object.kind,
+            &mut object.has_label,
+            &mut object.has_tuple,
+            &mut object.label.hierarchy,
+        ];
+        spoil_one(random, numbers);
+        spoil_tuple(random, &mut object.tuple);
+        let (intents, attribute) = (random.between(0, 65), random.between(0, 3));
+        assert_eq!(by_value::check(credentials, object, intents, attribute), raw::lurm_check(credentials, object, intents, attribute));
+    }
+}
+
+/// A state, and a filled slot of it where there is one.
+fn state_and_slot(random: &mut Random) -> (raw::State, usize) {
+    let board = board(random);
+    let filled: Vec<usize> = (0..PLACES).filter(|place| board.places[*place].is_some()).collect();
+    (raw::State::from(&board), if filled.is_empty() { 0 } else { random.pick(&filled) })
+}
+
+#[test]
+fn posts_by_value() {
+    let random = &mut Random::new(8);
+    let mut granted = 0;
+    for _ in 0..TURNS / 4 {
+        let (mut state, held) = state_and_slot(random);
+        let (mut tenant, mut slot, mut label) = (held as u64 / 8, held as u64, state.segments[held].label);
+        let numbers = [&mut state.segments[held].label.hierarchy, &mut tenant, &mut slot, &mut label.hierarchy];
+        spoil_one(random, numbers);
+        spoil_tuple(random, &mut state.tenants[held / 8].clearance);
+        let (tenant, slot, version) = (raw::TenantId::new(tenant), raw::Slot::new(slot), random.next());
+        let proved = raw::lurm_post(state, tenant, label, slot, version);
+        assert!(by_value::post(state, tenant, label, slot, version) == proved);
+        granted += usize::from(proved.answer.refusal == 0);
     }
     assert!(granted > TURNS / 100, "too few grants: {granted}");
 }

@@ -6,17 +6,11 @@ use crate::ordinary::monitor::{Class, Credentials, FileKind, Object};
 use crate::ordinary::range::{Range, Tuple};
 use crate::ordinary::text::{Style, Subject};
 use crate::ordinary::Refusal;
-use crate::raw;
+use lurmenize::raw;
 
 impl From<Label> for raw::Label {
     fn from(label: Label) -> raw::Label {
-        raw::Label { hierarchy: label.hierarchy, categories: label.categories }
-    }
-}
-
-impl From<raw::Label> for Label {
-    fn from(label: raw::Label) -> Label {
-        Label { hierarchy: label.hierarchy, categories: label.categories }
+        raw::Label { hierarchy: label.hierarchy.into(), categories: label.categories }
     }
 }
 
@@ -41,7 +35,7 @@ impl From<Subject> for raw::Subject {
 
 impl From<Style> for raw::Style {
     fn from(style: Style) -> raw::Style {
-        raw::Style { form: style.form as u8, variant: style.variant as u8 }
+        raw::Style { form: style.form as u64, variant: style.variant as u64 }
     }
 }
 
@@ -58,7 +52,7 @@ impl From<Credentials> for raw::Credentials {
 }
 
 /// The numbers of a class and, for a file, of its kind.
-fn class_numbers(class: Class) -> (u32, u32) {
+fn class_numbers(class: Class) -> (u64, u64) {
     match class {
         Class::File(FileKind::Regular) => (0, 0),
         Class::File(FileKind::Directory) => (0, 1),
@@ -75,7 +69,7 @@ impl From<Object> for raw::Object {
     fn from(object: Object) -> raw::Object {
         let (class, kind) = class_numbers(object.class);
         raw::Object {
-            class,
+            r#type: class,
             kind,
             has_label: object.label.is_some().into(),
             has_tuple: object.tuple.is_some().into(),
@@ -91,10 +85,10 @@ impl From<Segment> for raw::Segment {
     }
 }
 
-impl From<&Board> for raw::Table {
-    fn from(board: &Board) -> raw::Table {
+impl From<&Board> for raw::State {
+    fn from(board: &Board) -> raw::State {
         let tenant = |record: Tenant| raw::Tenant { ceiling: record.ceiling, clearance: record.clearance.into() };
-        raw::Table {
+        raw::State {
             pool: board.pool,
             tenants: board.tenants.map(|record| record.map(tenant).unwrap_or_default()),
             segments: board.places.map(|held| held.map(raw::Segment::from).unwrap_or_default()),
@@ -104,18 +98,17 @@ impl From<&Board> for raw::Table {
 
 impl From<Refusal> for raw::Answer {
     fn from(refusal: Refusal) -> raw::Answer {
-        raw::Answer { refusal: refusal.number(), value: refusal.detail() }
+        let carried = refusal.carried();
+        raw::Answer { refusal: refusal.number(), carries: carried.is_some().into(), value: carried.unwrap_or(0) as u64 }
     }
 }
 
-impl From<Result<u64, Refusal>> for raw::Answer {
-    fn from(result: Result<u64, Refusal>) -> raw::Answer {
-        result.map_or_else(raw::Answer::from, |value| raw::Answer { refusal: 0, value })
-    }
+/// What is granted, or the refusal.
+pub fn answer(result: Result<u64, Refusal>) -> raw::Answer {
+    result.map_or_else(raw::Answer::from, |value| raw::Answer { refusal: 0, carries: 0, value })
 }
 
-impl From<Result<Label, Refusal>> for raw::LabelAnswer {
-    fn from(result: Result<Label, Refusal>) -> raw::LabelAnswer {
-        raw::LabelAnswer { answer: result.map(|_| 0).into(), label: result.map(raw::Label::from).unwrap_or_default() }
-    }
+/// The same of a label.
+pub fn label_answer(result: Result<Label, Refusal>) -> raw::LabelAnswer {
+    raw::LabelAnswer { answer: answer(result.map(|_| 0)), label: result.map(raw::Label::from).unwrap_or_default() }
 }

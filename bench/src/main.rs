@@ -8,7 +8,6 @@ mod convert;
 mod harness;
 mod ordinary;
 mod random;
-mod raw;
 mod report;
 #[cfg(sepol)]
 mod sepol;

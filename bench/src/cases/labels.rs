@@ -2,11 +2,12 @@
 
 use super::{prepared, Case};
 use crate::by_value;
+use crate::convert::{answer, label_answer};
 use crate::harness::{side, Side, Sides};
 use crate::ordinary::label::{dominates, lower_bound, upper_bound, Label};
 use crate::ordinary::Refusal;
 use crate::random::Random;
-use crate::raw;
+use lurmenize::raw;
 
 const PAIRS: usize = 1024;
 
@@ -49,9 +50,8 @@ fn dominance(random: &mut Random) -> Sides<raw::Answer> {
     let pairs = pairs(random);
     let proved = raw_pairs(&pairs);
     let beside = libsepol(&pairs);
-    let ordinary = side((), pairs, |_, (a, b)| dominates(a, b), |_, result| result.map(u64::from).into());
-    // SAFETY: the function takes any labels.
-    let proved = side((), proved, |_, (a, b)| unsafe { raw::lurm_dominates(*a, *b) }, |_, answer| answer);
+    let ordinary = side((), pairs, |_, (a, b)| dominates(a, b), |_, result| answer(result.map(u64::from)));
+    let proved = side((), proved, |_, (a, b)| raw::lurm_dominates(*a, *b), |_, answer| answer);
     [ordinary, proved].into_iter().chain(beside).collect()
 }
 
@@ -59,7 +59,7 @@ fn dominance(random: &mut Random) -> Sides<raw::Answer> {
 fn libsepol(pairs: &[(Label, Label)]) -> Option<Box<dyn Side<raw::Answer>>> {
     use crate::sepol::Level;
     let levels = pairs.iter().map(|(first, second)| (Level::new(first), Level::new(second))).collect();
-    let view = |_: &(), value: bool| raw::Answer { refusal: 0, value: value.into() };
+    let view = |_: &(), value: bool| answer(Ok(value.into()));
     Some(side((), levels, |_, (a, b): &(Level, Level)| a.dominates(b), view))
 }
 
@@ -77,7 +77,7 @@ fn bound(
     let pairs = pairs(random);
     let raw_pairs = raw_pairs(&pairs);
     vec![
-        side((), pairs, move |_, (a, b)| ordinary(a, b), |_, result| result.into()),
+        side((), pairs, move |_, (a, b)| ordinary(a, b), |_, result| label_answer(result)),
         side((), raw_pairs, move |_, (a, b)| proved(*a, *b), |_, answer| answer),
     ]
 }
@@ -96,10 +96,9 @@ fn passed<A: 'static>(
 }
 
 pub fn cases() -> Vec<Case> {
-    // SAFETY: the functions take any labels.
-    let dominates = |a, b| unsafe { raw::lurm_dominates(a, b) };
-    let upper = |a, b| unsafe { raw::lurm_upper_bound(a, b) };
-    let lower = |a, b| unsafe { raw::lurm_lower_bound(a, b) };
+    let dominates = |a, b| raw::lurm_dominates(a, b);
+    let upper = |a, b| raw::lurm_upper_bound(a, b);
+    let lower = |a, b| raw::lurm_lower_bound(a, b);
     vec![
         Case::new("dominance", dominance),
         Case::new("upper bound", move |random| bound(random, upper_bound, upper)),

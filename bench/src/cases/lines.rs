@@ -2,11 +2,12 @@
 
 use super::labels::label;
 use super::{prepared, Case};
+use crate::convert::{answer, label_answer};
 use crate::harness::{side, Sides};
 use crate::ordinary::label::Label;
 use crate::ordinary::line::{read_label, write_label};
 use crate::random::Random;
-use crate::raw;
+use lurmenize::raw;
 
 const LINES: usize = 1024;
 /// Document 01's line buffer. It is not cleared between calls, for either version.
@@ -25,7 +26,7 @@ fn write(random: &mut Random) -> Sides<(raw::Answer, [u8; 512])> {
             BUFFER,
             labels,
             |buffer, label| write_label(label, buffer),
-            |buffer, result| (result.map(|length| length as u64).into(), *buffer),
+            |buffer, result| (answer(result.map(|length| length as u64)), *buffer),
         ),
         // SAFETY: pointer and length are those of the buffer.
         side(
@@ -45,7 +46,7 @@ fn read(random: &mut Random) -> Sides<raw::LabelAnswer> {
     };
     let lines: Vec<_> = labels(random).iter().map(line).collect();
     vec![
-        side((), lines.clone(), |_, line| read_label(line), |_, result| result.into()),
+        side((), lines.clone(), |_, line| read_label(line), |_, result| label_answer(result)),
         // SAFETY: pointer and length are those of the line.
         side((), lines, |_, line| unsafe { raw::lurm_read_label(line.as_ptr(), line.len()) }, |_, answer| answer),
     ]

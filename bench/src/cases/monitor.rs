@@ -1,14 +1,15 @@
 //! Decisions of the monitor: grants, grants by privilege and denials.
 
 use super::labels::{below, label, label_at};
-use crate::by_value;
 use super::{prepared, Case};
+use crate::by_value;
+use crate::convert::answer;
 use crate::harness::{side, Sides};
 use crate::ordinary::label::Label;
 use crate::ordinary::monitor::{check, intent, Class, Credentials, FileKind, Object};
 use crate::ordinary::range::{Range, Tuple};
 use crate::random::Random;
-use crate::raw;
+use lurmenize::raw;
 
 const REQUESTS: usize = 1024;
 
@@ -103,13 +104,12 @@ fn decision(random: &mut Random, make: fn(&mut Random) -> Request) -> Sides<raw:
             (),
             requests,
             |_, asked| check(&asked.credentials, &asked.object, asked.intents, asked.attribute),
-            |_, result| result.map(u64::from).into(),
+            |_, result| answer(result.map(u64::from)),
         ),
         side(
             (),
             raw_requests,
-            // SAFETY: the function takes any values.
-            |_, (credentials, object, intents, attribute)| unsafe { raw::lurm_check(*credentials, *object, *intents, *attribute) },
+            |_, (credentials, object, intents, attribute)| raw::lurm_check(*credentials, *object, *intents, *attribute),
             |_, answer| answer,
         ),
     ]
@@ -120,8 +120,7 @@ fn passed(random: &mut Random, make: fn(&mut Random) -> Request) -> Sides<raw::A
     let requests: Vec<RawRequest> = prepared(REQUESTS, random, make).iter().map(RawRequest::from).collect();
     vec![
         side((), requests.clone(), |_, (c, o, intents, attribute)| by_value::check(*c, *o, *intents, *attribute), |_, answer| answer),
-        // SAFETY: the function takes any values.
-        side((), requests, |_, (c, o, intents, attribute)| unsafe { raw::lurm_check(*c, *o, *intents, *attribute) }, |_, answer| answer),
+        side((), requests, |_, (c, o, intents, attribute)| raw::lurm_check(*c, *o, *intents, *attribute), |_, answer| answer),
     ]
 }
 

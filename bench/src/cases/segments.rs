@@ -5,13 +5,14 @@
 
 use super::{prepared, Case};
 use crate::by_value;
+use crate::convert::answer;
 use crate::harness::{side, side_with_undo, Side, Sides};
 use crate::ordinary::board::{Board, Place, Segment, Tenant, TenantId, PLACES, TENANTS};
 use crate::ordinary::label::Label;
 use crate::ordinary::range::{Range, Tuple};
 use crate::ordinary::Refusal;
 use crate::random::Random;
-use crate::raw;
+use lurmenize::raw;
 
 const CALLS: usize = 512;
 const POOL: u64 = 1_000_000;
@@ -20,7 +21,7 @@ const CEILING: u64 = 100_000;
 const MOST_PAGES: u64 = 5_000;
 
 /// What is compared: the answer, what is shown, and the board that is left.
-type Left = (raw::Answer, raw::Segment, raw::Table);
+type Left = (raw::Answer, raw::Segment, raw::State);
 
 /// A clearance in the user region.
 fn clearance(random: &mut Random) -> Tuple {
@@ -58,6 +59,17 @@ struct Call<L> {
     label: L,
     place: usize,
     number: u64,
+}
+
+/// The numbers in the header's types.
+impl Call<raw::Label> {
+    fn tenant(&self) -> raw::TenantId {
+        raw::TenantId::new(self.tenant)
+    }
+
+    fn slot(&self) -> raw::Slot {
+        raw::Slot::new(self.place as u64)
+    }
 }
 
 /// Calls at places of the tenant's own, under the label there.
@@ -113,7 +125,7 @@ impl Granted for Segment {
 fn left<T: Granted>(board: &Board, result: Result<T, Refusal>) -> Left {
     let seen = result.map(Granted::seen);
     let shown = seen.map_or_else(|_| raw::Segment::default(), |(_, shown)| shown);
-    (seen.map(|(value, _)| value).into(), shown, board.into())
+    (answer(seen.map(|(value, _)| value)), shown, board.into())
 }
 
 fn raw_call(call: &Call<Label>) -> Call<raw::Label> {
@@ -122,11 +134,11 @@ fn raw_call(call: &Call<Label>) -> Call<raw::Label> {
 
 /// A call whose state is stored where the one that was passed stands.
 fn stored(
-    call: impl Fn(&mut raw::Table, &Call<raw::Label>) -> raw::Outcome,
-) -> impl Fn(&mut raw::Table, &Call<raw::Label>) -> (raw::Answer, raw::Segment) {
-    move |table, asked| {
-        let outcome = call(table, asked);
-        *table = outcome.table;
+    call: impl Fn(&mut raw::State, &Call<raw::Label>) -> raw::Outcome,
+) -> impl Fn(&mut raw::State, &Call<raw::Label>) -> (raw::Answer, raw::Segment) {
+    move |state, asked| {
+        let outcome = call(state, asked);
+        *state = outcome.state;
         (outcome.answer, outcome.shown)
     }
 }
@@ -137,13 +149,13 @@ fn sides_with_undo<T: Granted + 'static>(
     calls: Vec<Call<Label>>,
     ordinary: impl Fn(&mut Board, &Call<Label>) -> Result<T, Refusal> + 'static,
     ordinary_undo: impl Fn(&mut Board, &Call<Label>) + 'static,
-    proved: impl Fn(&mut raw::Table, &Call<raw::Label>) -> raw::Outcome + 'static,
-    proved_undo: impl Fn(&mut raw::Table, &Call<raw::Label>) + 'static,
+    proved: impl Fn(&mut raw::State, &Call<raw::Label>) -> raw::Outcome + 'static,
+    proved_undo: impl Fn(&mut raw::State, &Call<raw::Label>) + 'static,
 ) -> Sides<Left> {
     let raw_calls = calls.iter().map(raw_call).collect();
     vec![
         side_with_undo(board.clone(), calls, ordinary, ordinary_undo, left),
-        side_with_undo(raw::Table::from(board), raw_calls, stored(proved), proved_undo, |table, (answer, shown)| (answer, shown, *table)),
+        side_with_undo(raw::State::from(board), raw_calls, stored(proved), proved_undo, |state, (answer, shown)| (answer, shown, *state)),
     ]
 }
 
@@ -151,12 +163,10 @@ fn sides<T: Granted + 'static>(
     board: &Board,
     calls: Vec<Call<Label>>,
     ordinary: impl Fn(&mut Board, &Call<Label>) -> Result<T, Refusal> + 'static,
-    proved: impl Fn(&mut raw::Table, &Call<raw::Label>) -> raw::Outcome + 'static,
+    proved: impl Fn(&mut raw::State, &Call<raw::Label>) -> raw::Outcome + 'static,
 ) -> Sides<Left> {
     sides_with_undo(board, calls, ordinary, |_, _| (), proved, |_, _| ())
 }
-
-// SAFETY, of all calls below: the functions take any values.
 
 /// Every place is filled, so that each open is refused with 28.
 fn open_refused(random: &mut Random) -> Sides<Left> {
@@ -165,7 +175,7 @@ fn open_refused(random: &mut Random) -> Sides<Left> {
         &board,
         cleared_calls(random, &board, false),
         |board, call| board.open(TenantId(call.tenant), &call.label, call.number),
-        |table, call| unsafe { raw::lurm_open(*table, call.tenant, call.label, call.number) },
+        |state, call| raw::lurm_open(*state, call.tenant(), call.label, call.number),
     )
 }
 
@@ -179,9 +189,9 @@ fn open_granted(random: &mut Random) -> Sides<Left> {
             board.places[call.place] = None;
             board.open(TenantId(call.tenant), &call.label, call.number)
         },
-        |table, call| {
-            table.segments[call.place] = raw::Segment::default();
-            unsafe { raw::lurm_open(*table, call.tenant, call.label, call.number) }
+        |state, call| {
+            state.segments[call.place] = raw::Segment::default();
+            raw::lurm_open(*state, call.tenant(), call.label, call.number)
         },
     )
 }
@@ -192,7 +202,7 @@ fn size(random: &mut Random) -> Sides<Left> {
         &board,
         own_calls(random, &board),
         |board, call| board.size(TenantId(call.tenant), &call.label, Place(call.place as u64), call.number),
-        |table, call| unsafe { raw::lurm_size(*table, call.tenant, call.label, call.place as u64, call.number) },
+        |state, call| raw::lurm_size(*state, call.tenant(), call.label, call.slot(), call.number),
     )
 }
 
@@ -202,21 +212,21 @@ fn post(random: &mut Random) -> Sides<Left> {
         &board,
         own_calls(random, &board),
         |board, call| board.post(TenantId(call.tenant), &call.label, Place(call.place as u64), call.number),
-        |table, call| unsafe { raw::lurm_post(*table, call.tenant, call.label, call.place as u64, call.number) },
+        |state, call| raw::lurm_post(*state, call.tenant(), call.label, call.slot(), call.number),
     )
 }
 
 /// The ordinary version behind the header's interface, and the proved one.
 fn post_passed(random: &mut Random) -> Sides<Left> {
     let board = full_board(random);
-    let table = raw::Table::from(&board);
+    let state = raw::State::from(&board);
     let calls: Vec<_> = own_calls(random, &board).iter().map(raw_call).collect();
-    let passed = |call: fn(raw::Table, &Call<raw::Label>) -> raw::Outcome, calls: Vec<Call<raw::Label>>| {
-        side(table, calls, stored(move |table, asked| call(*table, asked)), |table, (answer, shown)| (answer, shown, *table))
+    let passed = |call: fn(raw::State, &Call<raw::Label>) -> raw::Outcome, calls: Vec<Call<raw::Label>>| {
+        side(state, calls, stored(move |state, asked| call(*state, asked)), |state, (answer, shown)| (answer, shown, *state))
     };
     vec![
-        passed(|table, call| by_value::post(table, call.tenant, call.label, call.place as u64, call.number), calls.clone()),
-        passed(|table, call| unsafe { raw::lurm_post(table, call.tenant, call.label, call.place as u64, call.number) }, calls),
+        passed(|state, call| by_value::post(state, call.tenant(), call.label, call.slot(), call.number), calls.clone()),
+        passed(|state, call| raw::lurm_post(state, call.tenant(), call.label, call.slot(), call.number), calls),
     ]
 }
 
@@ -226,21 +236,21 @@ fn look(random: &mut Random) -> Sides<Left> {
         &board,
         cleared_calls(random, &board, true),
         |board, call| board.look(TenantId(call.tenant), &call.label, Place(call.place as u64)),
-        |table, call| unsafe { raw::lurm_look(*table, call.tenant, call.label, call.place as u64) },
+        |state, call| raw::lurm_look(*state, call.tenant(), call.label, call.slot()),
     )
 }
 
 /// The place is filled again by an assignment after each close.
 fn close(random: &mut Random) -> Sides<Left> {
     let board = full_board(random);
-    let (places, segments) = (board.places, raw::Table::from(&board).segments);
+    let (places, segments) = (board.places, raw::State::from(&board).segments);
     sides_with_undo(
         &board,
         own_calls(random, &board),
         |board, call| board.close(TenantId(call.tenant), &call.label, Place(call.place as u64)),
         move |board, call| board.places[call.place] = places[call.place],
-        |table, call| unsafe { raw::lurm_close(*table, call.tenant, call.label, call.place as u64) },
-        move |table, call| table.segments[call.place] = segments[call.place],
+        |state, call| raw::lurm_close(*state, call.tenant(), call.label, call.slot()),
+        move |state, call| state.segments[call.place] = segments[call.place],
     )
 }
 
@@ -257,8 +267,8 @@ fn admit(random: &mut Random) -> Sides<Left> {
         ceiling_calls(random, LAST..TENANTS),
         move |board, call| board.admit(TenantId(call.tenant), call.number, &clearance),
         |board, _| board.tenants[LAST] = None,
-        move |table, call| unsafe { raw::lurm_admit(*table, call.tenant, call.number, raw_clearance) },
-        |table, _| table.tenants[LAST] = raw::Tenant::default(),
+        move |state, call| raw::lurm_admit(*state, call.tenant(), call.number, raw_clearance),
+        |state, _| state.tenants[LAST] = raw::Tenant::default(),
     )
 }
 
@@ -268,17 +278,16 @@ fn set_ceiling(random: &mut Random) -> Sides<Left> {
         &board,
         ceiling_calls(random, 0..TENANTS),
         |board, call| board.set_ceiling(TenantId(call.tenant), call.number),
-        |table, call| unsafe { raw::lurm_set_ceiling(*table, call.tenant, call.number) },
+        |state, call| raw::lurm_set_ceiling(*state, call.tenant(), call.number),
     )
 }
 
 /// Sound boards, few enough for the processor's second cache.
 fn sound(random: &mut Random) -> Sides<raw::Answer> {
     let boards = prepared(16, random, full_board);
-    let tables: Vec<raw::Table> = boards.iter().map(raw::Table::from).collect();
-    let ordinary: Box<dyn Side<raw::Answer>> =
-        side((), boards, |_, board| board.is_sound(), |_, sound| raw::Answer { refusal: 0, value: sound.into() });
-    vec![ordinary, side((), tables, |_, table| unsafe { raw::lurm_sound(*table) }, |_, answer| answer)]
+    let states: Vec<raw::State> = boards.iter().map(raw::State::from).collect();
+    let ordinary: Box<dyn Side<raw::Answer>> = side((), boards, |_, board| board.is_sound(), |_, sound| answer(Ok(sound.into())));
+    vec![ordinary, side((), states, |_, state| raw::lurm_sound(*state), |_, answer| answer)]
 }
 
 pub fn cases() -> Vec<Case> {

@@ -1,14 +1,15 @@
-//! Tables tested, and labels written and read as text by them.
+//! Alias tables tested, and labels written and read as text by them.
 
 use super::labels::label;
 use super::names::NamedTable;
 use super::{prepared, Case};
+use crate::convert::{answer, label_answer};
 use crate::harness::{side, Sides};
 use crate::ordinary::label::Label;
 use crate::ordinary::table::check_table;
 use crate::ordinary::text::{read_label_text, write_label_text, Form, Style, Subject, Variant};
 use crate::random::Random;
-use crate::raw;
+use lurmenize::raw;
 use std::rc::Rc;
 
 const SIZES: [usize; 3] = [8, 64, 512];
@@ -24,9 +25,9 @@ fn tables(random: &mut Random, entries: usize) -> Vec<Vec<u8>> {
 fn check(random: &mut Random, entries: usize) -> Sides<raw::Answer> {
     let tables = tables(random, entries);
     vec![
-        side((), tables.clone(), |_, table| check_table(table, false), |_, result| result.map(|lines| lines as u64).into()),
+        side((), tables.clone(), |_, table| check_table(table, false), |_, result| answer(result.map(|lines| lines as u64))),
         // SAFETY: pointer and length are those of the table.
-        side((), tables, |_, table| unsafe { raw::lurm_check_table(table.as_ptr(), table.len(), 0) }, |_, answer| answer),
+        side((), tables, |_, table| unsafe { raw::lurm_check_alias_table(table.as_ptr(), table.len(), 0) }, |_, answer| answer),
     ]
 }
 
@@ -62,7 +63,7 @@ fn write(random: &mut Random, entries: usize) -> Sides<(raw::Answer, [u8; 256])>
             BUFFER,
             writings,
             move |buffer, (subject, style, label)| write_label_text(&bytes, false, subject, *style, label, buffer),
-            |buffer, result| (result.map(|length| length as u64).into(), *buffer),
+            |buffer, result| (answer(result.map(|length| length as u64)), *buffer),
         ),
         side(
             BUFFER,
@@ -94,7 +95,7 @@ fn read(random: &mut Random, entries: usize) -> Sides<raw::LabelAnswer> {
     let bytes: Rc<[u8]> = table.bytes.into();
     let raw_bytes = bytes.clone();
     vec![
-        side((), readings, move |_, (subject, text)| read_label_text(&bytes, false, subject, text), |_, result| result.into()),
+        side((), readings, move |_, (subject, text)| read_label_text(&bytes, false, subject, text), |_, result| label_answer(result)),
         side(
             (),
             raw_readings,

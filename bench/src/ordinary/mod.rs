@@ -45,11 +45,11 @@ impl Refusal {
     }
 
     /// The one more number that some refusals carry.
-    pub fn detail(self) -> u64 {
+    pub fn carried(self) -> Option<usize> {
         match self {
-            Refusal::BufferShort(length) => length as u64,
-            Refusal::BadLine(line) => line as u64,
-            _ => 0,
+            Refusal::BufferShort(length) => Some(length),
+            Refusal::BadLine(line) => Some(line),
+            _ => None,
         }
     }
 }

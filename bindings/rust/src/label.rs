@@ -3,6 +3,8 @@
 use crate::raw;
 pub use crate::raw::Label;
 use crate::Refusal;
+use std::fmt;
+use std::iter::FusedIterator;
 
 /// A part of the hierarchies.
 #[derive(Clone, Copy, Debug, PartialEq, Eq, Hash)]
@@ -15,7 +17,12 @@ pub enum Region {
     Administrative,
 }
 
-/// Every function that takes an invalid label refuses it with [`Refusal::Invalid`].
+impl Region {
+    /// By number.
+    const ALL: [Region; raw::REGIONS] = [Region::VirusPrevention, Region::User, Region::Administrative];
+}
+
+/// Every function that takes an invalid label refuses it with [`Refusal::Invalid`], but for [`categories`](Label::categories) and what displays it.
 ///
 /// ```
 /// use lurmenize::{Label, Refusal};
@@ -25,10 +32,11 @@ pub enum Region {
 /// assert_eq!(a.dominates(&b), Ok(true));
 /// assert_eq!(b.dominates(&a), Ok(false));
 /// assert_eq!(Label::new(250, &[]).dominates(&b), Err(Refusal::Invalid));
+/// assert_eq!(Label::new(256 + 30, &[1, 2]).dominates(&b), Err(Refusal::Invalid));
 /// ```
 impl Label {
-    /// The label with this hierarchy and these categories.
-    pub fn new(hierarchy: u8, categories: &[u8]) -> Label {
+    /// The label with this hierarchy, which may be invalid, and these categories.
+    pub fn new(hierarchy: u64, categories: &[u8]) -> Label {
         let mut words = [0; raw::WORDS];
         for category in categories {
             words[usize::from(category / 64)] |= 1 << (category % 64);
@@ -58,10 +66,84 @@ impl Label {
 
     /// The region of its hierarchy.
     pub fn region(&self) -> Result<Region, Refusal> {
-        raw::lurm_region_of(*self).number().map(|number| match number {
-            0 => Region::VirusPrevention,
-            1 => Region::User,
-            _ => Region::Administrative,
-        })
+        raw::lurm_region_of(*self).choice(&Region::ALL)
+    }
+
+    /// Whether it has the category. [`Refusal::Invalid`] where the category is above 255.
+    pub fn has_category(&self, category: u64) -> Result<bool, Refusal> {
+        raw::lurm_has_category(*self, category).test()
+    }
+
+    /// The label with the category, which it may have already. [`Refusal::Invalid`] where the category is above 255.
+    ///
+    /// ```
+    /// use lurmenize::{Label, Refusal};
+    ///
+    /// let with = |categories: &[u64]| categories.iter().try_fold(Label::new(20, &[]), |label, category| label.with_category(*category));
+    /// assert_eq!(with(&[1, 255]), Ok(Label::new(20, &[1, 255])));
+    /// assert_eq!(with(&[1, 256]), Err(Refusal::Invalid));
+    /// ```
+    pub fn with_category(&self, category: u64) -> Result<Label, Refusal> {
+        raw::lurm_with_category(*self, category).granted()
+    }
+
+    /// Its categories in rising order, also where its hierarchy is invalid.
+    ///
+    /// ```
+    /// use lurmenize::Label;
+    ///
+    /// let label = Label::new(20, &[255, 1, 64]);
+    /// assert_eq!(label.categories().len(), 3);
+    /// assert_eq!(label.categories().collect::<Vec<u8>>(), [1, 64, 255]);
+    /// ```
+    pub fn categories(&self) -> Categories {
+        Categories { left: self.categories }
+    }
+}
+
+/// The categories of a label in rising order, by [`Label::categories`]. It goes from one to the next, whatever lies between them.
+#[derive(Clone, Debug)]
+pub struct Categories {
+    /// The set of those that are still to come.
+    left: [u64; raw::WORDS],
+}
+
+impl Iterator for Categories {
+    type Item = u8;
+
+    fn next(&mut self) -> Option<u8> {
+        let (at, word) = (0..).zip(&mut self.left).find(|(_, word)| **word != 0)?;
+        let bit = word.trailing_zeros();
+        *word &= *word - 1;
+        u8::try_from(u64::BITS * at + bit).ok()
+    }
+
+    fn size_hint(&self) -> (usize, Option<usize>) {
+        let count = self.left.iter().map(|word| word.count_ones() as usize).sum();
+        (count, Some(count))
+    }
+}
+
+impl ExactSizeIterator for Categories {}
+
+impl FusedIterator for Categories {}
+
+/// The hierarchy and the categories, valid or not.
+///
+/// ```
+/// use lurmenize::Label;
+///
+/// assert_eq!(Label::new(20, &[2, 1]).to_string(), "(20,{1,2})");
+/// assert_eq!(Label::new(20, &[]).to_string(), "(20,{})");
+/// ```
+impl fmt::Display for Label {
+    fn fmt(&self, f: &mut fmt::Formatter<'_>) -> fmt::Result {
+        write!(f, "({},{{", self.hierarchy)?;
+        let mut between = "";
+        for category in self.categories() {
+            write!(f, "{between}{category}")?;
+            between = ",";
+        }
+        f.write_str("})")
     }
 }

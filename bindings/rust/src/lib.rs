@@ -1,16 +1,17 @@
 //! Labels for mandatory access control, a reference monitor, and an account of shared memory segments.
 //!
-//! The rules are written in Rattle, a verified language, and linked as `libcapi.a`; this crate has none of its own. It turns Rust's types into those
-//! of the C interface ([`raw`]) and back. `docs/LINKING.md` says how to build, and what is proved.
+//! The rules are written in Rattle, a verified language, and linked as `liblurmenize.a`; this crate has none of its own. It turns Rust's types into
+//! those of the C interface ([`raw`]) and back. `docs/LINKING.md` says how to build, and what is proved.
 //!
 //! - [`Label`], [`Range`], [`Tuple`]: what a label is, and what a set of labels is.
 //! - `write_line` and `read_line` of each, [`Entry`], [`line_kind`]: hex lines.
-//! - [`Table`]: labels and ranges as text, by the names of a table, for a [`Subject`].
+//! - [`AliasTable`]: labels and ranges as text, by the names of an alias table, for a [`Subject`].
 //! - [`check`]: the monitor's decision, for [`Credentials`], an [`Object`] and [`Intents`].
-//! - [`SegmentTable`]: tenants, their ceilings, and their segments.
+//! - [`State`]: tenants, their ceilings, and their segments.
 //!
 //! Types hold what is invalid too, so that input can be passed as it is: functions test it at each call, and no value stops them. What is refused is
-//! a [`Refusal`], never a value.
+//! a [`Refusal`], never a value. Nothing is cut on the way: what a type has no room for is refused where it is converted (`try_from`), and so are the
+//! numbers of an unsound state, so that a [`State`] is always sound.
 //!
 //! ```
 //! use lurmenize::{Label, Refusal};
@@ -25,7 +26,7 @@
 #![deny(unsafe_op_in_unsafe_fn)]
 
 #[cfg(not(all(target_arch = "x86_64", target_os = "linux")))]
-compile_error!("libcapi.a is for x86-64 Linux");
+compile_error!("liblurmenize.a is for x86-64 Linux");
 
 mod label;
 mod line;
@@ -36,13 +37,23 @@ mod refusal;
 mod segments;
 mod text;
 
-pub use label::{Label, Region};
+pub use label::{Categories, Label, Region};
 pub use line::{line_kind, Entry, LineKind, Named};
-pub use monitor::{check, Attribute, Class, Credentials, Decision, FileKind, Intents, Object};
+pub use monitor::{check, Class, Credentials, Decision, FileKind, Intents, Object};
 pub use range::{Range, Tuple};
 pub use refusal::Refusal;
-pub use segments::{Segment, SegmentTable, Slot, TenantId};
-pub use text::{Ends, Form, Style, Subject, Table, Variant};
+pub use segments::{Segment, Slot, State, TenantId};
+pub use text::{AliasTable, Ends, Form, Style, Subject, Variant};
+
+/// The version of the library that is linked: a million times the major number, a thousand times the minor one, and the patch. It should be
+/// [`raw::VERSION`], for which this crate is made.
+///
+/// ```
+/// assert_eq!(lurmenize::version(), lurmenize::raw::VERSION);
+/// ```
+pub fn version() -> u64 {
+    raw::lurm_version()
+}
 
 /// The Rust examples of the page are run.
 #[cfg(doctest)]

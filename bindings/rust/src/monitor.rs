@@ -60,8 +60,8 @@ pub enum Class {
 }
 
 impl Class {
-    /// The numbers of the class and of the kind, which matters for a file only.
-    fn numbers(self) -> (u32, u32) {
+    /// The numbers of the class and of the kind, which counts for a file only.
+    fn numbers(self) -> (u64, u64) {
         match self {
             Class::File(FileKind::Regular) => (raw::CLASS_FILE, raw::KIND_REGULAR),
             Class::File(FileKind::Directory) => (raw::CLASS_FILE, raw::KIND_DIRECTORY),
@@ -100,44 +100,44 @@ impl From<&Object> for raw::Object {
     }
 }
 
-/// What the subject intends, a sum of the constants. Any number can be held; 0 and sums of anything else are refused.
+/// What the subject intends: one of the constants, or several joined by `|`. Any numbers can be held; those that are no such sum are refused.
+///
+/// The intents about an attribute say which, and the others have none. One call is about one attribute: to get the one and set the other together is
+/// refused.
 #[derive(Clone, Copy, Debug, PartialEq, Eq, Hash, Default)]
-pub struct Intents(pub u64);
+pub struct Intents {
+    /// A sum of `INTENT_..` in [`raw`].
+    pub sum: u64,
+    /// One of `ATTRIBUTE_..` in [`raw`], or 0 where no intent is about an attribute.
+    pub attribute: u64,
+}
 
 impl Intents {
     /// To write.
-    pub const WRITE: Intents = Intents(raw::INTENT_WRITE);
+    pub const WRITE: Intents = Intents { sum: raw::INTENT_WRITE, attribute: 0 };
     /// To read.
-    pub const READ: Intents = Intents(raw::INTENT_READ);
+    pub const READ: Intents = Intents { sum: raw::INTENT_READ, attribute: 0 };
     /// To execute a regular file.
-    pub const EXECUTE: Intents = Intents(raw::INTENT_EXECUTE);
+    pub const EXECUTE: Intents = Intents { sum: raw::INTENT_EXECUTE, attribute: 0 };
     /// To search a directory.
-    pub const SEARCH: Intents = Intents(raw::INTENT_SEARCH);
-    /// To get an attribute.
-    pub const GET_ATTRIBUTE: Intents = Intents(raw::INTENT_GET_ATTRIBUTE);
-    /// To set an attribute.
-    pub const SET_ATTRIBUTE: Intents = Intents(raw::INTENT_SET_ATTRIBUTE);
+    pub const SEARCH: Intents = Intents { sum: raw::INTENT_SEARCH, attribute: 0 };
+    /// To get the label.
+    pub const GET_LABEL: Intents = Intents { sum: raw::INTENT_GET_ATTRIBUTE, attribute: raw::ATTRIBUTE_LABEL };
+    /// To set the label.
+    pub const SET_LABEL: Intents = Intents { sum: raw::INTENT_SET_ATTRIBUTE, attribute: raw::ATTRIBUTE_LABEL };
+    /// To get the tuple.
+    pub const GET_TUPLE: Intents = Intents { sum: raw::INTENT_GET_ATTRIBUTE, attribute: raw::ATTRIBUTE_TUPLE };
+    /// To set the tuple.
+    pub const SET_TUPLE: Intents = Intents { sum: raw::INTENT_SET_ATTRIBUTE, attribute: raw::ATTRIBUTE_TUPLE };
 }
 
+/// All that either intends.
 impl BitOr for Intents {
     type Output = Intents;
 
     fn bitor(self, other: Intents) -> Intents {
-        Intents(self.0 | other.0)
+        Intents { sum: self.sum | other.sum, attribute: self.attribute | other.attribute }
     }
-}
-
-/// Which attribute an attribute intent is about. Any number can be held; with an attribute intent all but `LABEL` and `TUPLE` are refused.
-#[derive(Clone, Copy, Debug, PartialEq, Eq, Hash, Default)]
-pub struct Attribute(pub u64);
-
-impl Attribute {
-    /// None, where no attribute is asked for.
-    pub const NONE: Attribute = Attribute(0);
-    /// The label.
-    pub const LABEL: Attribute = Attribute(raw::ATTRIBUTE_LABEL);
-    /// The tuple.
-    pub const TUPLE: Attribute = Attribute(raw::ATTRIBUTE_TUPLE);
 }
 
 /// How access was granted.
@@ -155,18 +155,29 @@ pub enum Decision {
 /// relabel.
 ///
 /// ```
-/// use lurmenize::{check, Attribute, Class, Credentials, Decision, FileKind, Intents, Label, Object, Range, Refusal};
+/// use lurmenize::{check, Class, Credentials, Decision, FileKind, Intents, Label, Object, Range, Refusal};
 ///
 /// let label = Label::new(30, &[1]);
 /// let subject = Credentials { label, range: Range::new(label, label), ..Credentials::default() };
 /// let file = Object { class: Class::File(FileKind::Regular), label: Some(Label::new(20, &[1])), tuple: None };
-/// assert_eq!(check(&subject, &file, Intents::READ, Attribute::NONE), Ok(Decision::Granted));
-/// assert_eq!(check(&subject, &file, Intents::READ | Intents::WRITE, Attribute::NONE), Err(Refusal::Access));
+/// assert_eq!(check(&subject, &file, Intents::READ), Ok(Decision::Granted));
+/// assert_eq!(check(&subject, &file, Intents::READ | Intents::WRITE), Err(Refusal::Access));
 ///
-/// let subject = Credentials { write_override: true, ..subject };
-/// assert_eq!(check(&subject, &file, Intents::READ | Intents::WRITE, Attribute::NONE), Ok(Decision::Privileged));
+/// let writer = Credentials { write_override: true, ..subject };
+/// assert_eq!(check(&writer, &file, Intents::READ | Intents::WRITE), Ok(Decision::Privileged));
 /// ```
-pub fn check(credentials: &Credentials, object: &Object, intents: Intents, attribute: Attribute) -> Result<Decision, Refusal> {
-    let answer = raw::lurm_check(credentials.into(), object.into(), intents.0, attribute.0);
-    Ok(if answer.test()? { Decision::Privileged } else { Decision::Granted })
+///
+/// Which attribute is asked for is part of the intent:
+///
+/// ```
+/// # use lurmenize::{check, Class, Credentials, Decision, FileKind, Intents, Label, Object, Range, Refusal};
+/// # let label = Label::new(30, &[1]);
+/// # let subject = Credentials { label, range: Range::new(label, label), ..Credentials::default() };
+/// let file = Object { class: Class::File(FileKind::Regular), label: Some(label), tuple: None };
+/// assert_eq!(check(&subject, &file, Intents::READ | Intents::GET_LABEL), Ok(Decision::Granted));
+/// assert_eq!(check(&subject, &file, Intents::SET_LABEL), Err(Refusal::Perm));
+/// assert_eq!(check(&subject, &file, Intents::GET_LABEL | Intents::GET_TUPLE), Err(Refusal::Invalid));
+/// ```
+pub fn check(credentials: &Credentials, object: &Object, intents: Intents) -> Result<Decision, Refusal> {
+    raw::lurm_check(credentials.into(), object.into(), intents.sum, intents.attribute).choice(&[Decision::Granted, Decision::Privileged])
 }

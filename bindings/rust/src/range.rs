@@ -3,6 +3,7 @@
 use crate::raw;
 pub use crate::raw::Range;
 use crate::{Label, Refusal};
+use std::fmt;
 
 /// Every function that takes an invalid range refuses it with [`Refusal::Invalid`].
 ///
@@ -35,6 +36,20 @@ impl Range {
     /// The tuple that has the same labels.
     pub fn split(&self) -> Result<Tuple, Refusal> {
         raw::lurm_range_split(*self).granted()
+    }
+}
+
+/// Its ends, valid or not.
+///
+/// ```
+/// use lurmenize::{Label, Range};
+///
+/// let range = Range::new(Label::new(20, &[]), Label::new(40, &[1]));
+/// assert_eq!(range.to_string(), "[(20,{}),(40,{1})]");
+/// ```
+impl fmt::Display for Range {
+    fn fmt(&self, f: &mut fmt::Formatter<'_>) -> fmt::Result {
+        write!(f, "[{},{}]", self.low, self.high)
     }
 }
 
@@ -78,14 +93,46 @@ impl Tuple {
     }
 }
 
+/// The ranges that it has, in the order of the regions, valid or not.
+///
+/// ```
+/// use lurmenize::{Label, Range, Tuple};
+///
+/// let tuple = Range::new(Label::new(10, &[]), Label::new(30, &[4])).split().unwrap();
+/// assert_eq!(tuple.to_string(), "[(10,{}),(19,{4})] [(20,{}),(30,{4})]");
+/// assert_eq!(Tuple::default().to_string(), "[]");
+/// ```
+impl fmt::Display for Tuple {
+    fn fmt(&self, f: &mut fmt::Formatter<'_>) -> fmt::Result {
+        let mut ranges = self.ranges.iter().flatten();
+        let Some(first) = ranges.next() else {
+            return f.write_str("[]");
+        };
+        write!(f, "{first}")?;
+        ranges.try_for_each(|range| write!(f, " {range}"))
+    }
+}
+
 impl From<&Tuple> for raw::Tuple {
     fn from(tuple: &Tuple) -> raw::Tuple {
         raw::Tuple { ranges: tuple.ranges.map(|range| raw::RegionRange { present: range.is_some().into(), range: range.unwrap_or_default() }) }
     }
 }
 
-impl From<raw::Tuple> for Tuple {
-    fn from(tuple: raw::Tuple) -> Tuple {
-        Tuple { ranges: tuple.ranges.map(|region| (region.present == 1).then_some(region.range)) }
+/// [`Refusal::Invalid`] where `present` is neither 0 nor 1, or where there is no range and not zeros. A range that is there is held as it is, valid
+/// or not.
+impl TryFrom<raw::Tuple> for Tuple {
+    type Error = Refusal;
+
+    fn try_from(tuple: raw::Tuple) -> Result<Tuple, Refusal> {
+        let mut ranges = [None; raw::REGIONS];
+        for (held, given) in ranges.iter_mut().zip(tuple.ranges) {
+            *held = match given.present {
+                0 if given.range == Range::default() => None,
+                1 => Some(given.range),
+                _ => return Err(Refusal::Invalid),
+            };
+        }
+        Ok(Tuple { ranges })
     }
 }

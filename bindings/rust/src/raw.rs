@@ -1,7 +1,15 @@
 //! The C interface, as `include/lurmenize.h` declares it: its structs, constants and functions under the same names, without `LURM_` and, for
-//! structs, in Rust's spelling (`lurm_region_range` is [`RegionRange`]). The header says what each means.
+//! structs, in Rust's spelling (`lurm_region_range` is [`RegionRange`]). The header says what each means. What is inline C there is not here:
+//! [`Refusal`](crate::Refusal) has the words of a refusal, and [`Entry::new`](crate::Entry::new) takes strings.
 //!
 //! This crate's tests compare every size, offset, type, number and signature here with the header, by the C compiler.
+//!
+//! What is handed back says whether a call was granted, so that the compiler warns where it is not used:
+//!
+//! ```compile_fail
+//! #![deny(unused_must_use)]
+//! lurmenize::raw::lurm_make(100);
+//! ```
 
 /// Declares constants of the header, and lists them for the test against it.
 macro_rules! constants {
@@ -12,7 +20,7 @@ macro_rules! constants {
         )*)*
 
         #[cfg(test)]
-        const CONSTANTS: &[(&str, u64)] = &[$($((stringify!($name), $value),)*)*];
+        const CONSTANTS: &[(&str, &str)] = &[$($((stringify!($name), stringify!($value)),)*)*];
     };
 }
 
@@ -22,7 +30,7 @@ macro_rules! structs {
         $(
             $(#[$about])*
             #[repr(C)]
-            #[derive(Clone, Copy, Debug, PartialEq, Eq)]
+            #[derive(Clone, Copy, Debug, PartialEq, Eq, Hash)]
             pub struct $name {
                 $($(#[$says])* pub $field: $type,)*
             }
@@ -49,6 +57,7 @@ macro_rules! functions {
         unsafe extern "C" {
             $(
                 #[doc = concat!("`", stringify!($name), "` of the header.")]
+                #[must_use]
                 pub $safety fn $name($($argument: $type),*) -> $answer;
             )*
         }
@@ -63,22 +72,24 @@ macro_rules! functions {
 }
 
 constants! {
+    &str {
+        VERSION_STRING = "0.2.0",
+    }
     u32 {
         EPERM = 1, ENOENT = 2, E2BIG = 7, ENOMEM = 12, EACCES = 13, EBUSY = 16, EINVAL = 22, ENOSPC = 28, EDOM = 33,
-        NAMES_HIERARCHY = 1, NAMES_CATEGORY = 2, NAMES_LABEL = 3,
-        CLASS_FILE = 0, CLASS_FIFO = 1, CLASS_PROCESS = 2, CLASS_MESSAGE_QUEUE = 3, CLASS_SHARED_MEMORY = 4, CLASS_SEMAPHORE = 5,
-        KIND_REGULAR = 0, KIND_DIRECTORY = 1, KIND_OTHER = 2,
     }
     usize {
-        WORDS = 4, REGIONS = 3, MAX_LINE = 403, MAX_NAME = 31, MAX_ABBREVIATION = 15, MAX_TABLE_LINES = 512, TENANTS = 8, SLOTS = 64,
-    }
-    u8 {
-        MAX_HIERARCHY = 199,
-        FORM_DEFINITION = 0, FORM_ALIAS = 1, VARIANT_NAMES = 0, VARIANT_ABBREVIATIONS = 1,
+        WORDS = 4, REGIONS = 3, MAX_LINE = 403, MAX_NAME = 31, MAX_ABBREVIATION = 15, NAME_BYTES = 32, ABBREVIATION_BYTES = 16,
+        MAX_TABLE_LINES = 512, TENANTS = 8, SLOTS = 64, STACK_BYTES = 32_768,
     }
     u64 {
-        MAX_PAGES = 1_048_576,
+        VERSION_MAJOR = 0, VERSION_MINOR = 2, VERSION_PATCH = 0, VERSION = 2_000,
+        CATEGORIES = 256, MAX_HIERARCHY = 199, MAX_PAGES = 1_048_576,
         LINE_LABEL = 1, LINE_RANGE = 2, LINE_TUPLE = 3, LINE_ENTRY = 4,
+        NAMES_HIERARCHY = 1, NAMES_CATEGORY = 2, NAMES_LABEL = 3,
+        FORM_DEFINITION = 0, FORM_ALIAS = 1, VARIANT_NAMES = 0, VARIANT_ABBREVIATIONS = 1,
+        CLASS_FILE = 0, CLASS_FIFO = 1, CLASS_PROCESS = 2, CLASS_MESSAGE_QUEUE = 3, CLASS_SHARED_MEMORY = 4, CLASS_SEMAPHORE = 5,
+        KIND_REGULAR = 0, KIND_DIRECTORY = 1, KIND_OTHER = 2,
         INTENT_WRITE = 1, INTENT_READ = 2, INTENT_EXECUTE = 4, INTENT_SEARCH = 8, INTENT_GET_ATTRIBUTE = 16, INTENT_SET_ATTRIBUTE = 32,
         ATTRIBUTE_LABEL = 1, ATTRIBUTE_TUPLE = 2,
     }
@@ -86,17 +97,17 @@ constants! {
 
 structs! {
     /// A label: a hierarchy and a set of categories. Any value can be held; functions refuse one with a hierarchy above 199.
-    #[derive(Hash, Default)]
+    #[derive(Default)]
     Label, 40 {
         /// 0 to 199 in a valid label.
-        hierarchy: u8, 0;
+        hierarchy: u64, 0;
         /// The set: category c, 0 to 255, is bit c % 64 of word c / 64.
         categories: [u64; WORDS], 8;
     }
 
     /// The labels that dominate `low` and that `high` dominates. Any value can be held; functions refuse one whose ends are not valid labels, or
     /// whose high end does not dominate its low end.
-    #[derive(Hash, Default)]
+    #[derive(Default)]
     Range, 80 {
         /// The label that all others dominate.
         low: Label, 0;
@@ -105,28 +116,34 @@ structs! {
     }
 
     /// The range of one region of a [`Tuple`].
+    #[derive(Default)]
     RegionRange, 88 {
         /// 1 where there is a range, else 0.
-        present: u8, 0;
+        present: u64, 0;
         /// Zeros where there is none.
         range: Range, 8;
     }
 
     /// A range or none for each region.
+    #[derive(Default)]
     Tuple, 264 {
         /// By region.
         ranges: [RegionRange; REGIONS], 0;
     }
 
     /// A refusal's number, or 0 and what a grant answers.
+    #[derive(Default)]
     Answer, 16 {
         /// 0 where granted.
         refusal: u32, 0;
-        /// What a grant answers, or what a refusal carries.
+        /// 1 where a refusal carries one more number, else 0.
+        carries: u32, 4;
+        /// What a grant answers, or what a refusal carries, else 0.
         value: u64, 8;
     }
 
     /// An answer with a label.
+    #[derive(Default)]
     LabelAnswer, 56 {
         /// Whether there is one.
         answer: Answer, 0;
@@ -135,6 +152,7 @@ structs! {
     }
 
     /// An answer with a range.
+    #[derive(Default)]
     RangeAnswer, 96 {
         /// Whether there is one.
         answer: Answer, 0;
@@ -143,6 +161,7 @@ structs! {
     }
 
     /// An answer with a tuple.
+    #[derive(Default)]
     TupleAnswer, 280 {
         /// Whether there is one.
         answer: Answer, 0;
@@ -151,25 +170,28 @@ structs! {
     }
 
     /// A name: some bytes, then zeros.
+    #[derive(Default)]
     Name, 40 {
-        /// The name at the front.
-        bytes: [u8; MAX_NAME], 0;
+        /// The name at the front. The last byte is always zero.
+        bytes: [u8; NAME_BYTES], 0;
         /// How many bytes it has.
         length: usize, 32;
     }
 
     /// An abbreviation: some bytes, then zeros.
+    #[derive(Default)]
     Abbreviation, 24 {
-        /// The abbreviation at the front.
-        bytes: [u8; MAX_ABBREVIATION], 0;
+        /// The abbreviation at the front. The last byte is always zero.
+        bytes: [u8; ABBREVIATION_BYTES], 0;
         /// How many bytes it has, 0 where there is none.
         length: usize, 16;
     }
 
     /// An alias entry.
+    #[derive(Default)]
     Entry, 120 {
         /// What it names: one of `NAMES_..`.
-        names: u32, 0;
+        names: u64, 0;
         /// The hierarchy or the category, 0 for a label.
         number: u64, 8;
         /// The label, else zeros.
@@ -181,6 +203,7 @@ structs! {
     }
 
     /// An answer with an alias entry.
+    #[derive(Default)]
     EntryAnswer, 136 {
         /// Whether there is one.
         answer: Answer, 0;
@@ -189,22 +212,25 @@ structs! {
     }
 
     /// Who writes or reads a text.
+    #[derive(Default)]
     Subject, 48 {
         /// The subject's label.
         label: Label, 0;
         /// 0 or 1.
-        read_override: u8, 40;
+        read_override: u64, 40;
     }
 
     /// How a text is written.
-    Style, 2 {
+    #[derive(Default)]
+    Style, 16 {
         /// One of `FORM_..`.
-        form: u8, 0;
+        form: u64, 0;
         /// One of `VARIANT_..`.
-        variant: u8, 1;
+        variant: u64, 8;
     }
 
     /// The answer to the writing of a range's text.
+    #[derive(Default)]
     RangeWritten, 24 {
         /// The text's length, or the refusal.
         answer: Answer, 0;
@@ -213,36 +239,53 @@ structs! {
     }
 
     /// A subject of the monitor.
-    Credentials, 128 {
+    #[derive(Default)]
+    Credentials, 144 {
         /// The subject's label.
         label: Label, 0;
         /// The range that the label has to be in.
         range: Range, 40;
         /// 0 or 1.
-        read_override: u8, 120;
+        read_override: u64, 120;
         /// 0 or 1.
-        write_override: u8, 121;
+        write_override: u64, 128;
         /// 0 or 1.
-        relabel: u8, 122;
+        relabel: u64, 136;
     }
 
     /// An object of the monitor.
-    Object, 320 {
+    #[derive(Default)]
+    Object, 336 {
         /// One of `CLASS_..`.
-        r#type: u32, 0;
-        /// One of `KIND_..`.
-        kind: u32, 4;
+        r#type: u64, 0;
+        /// One of `KIND_..` for a file; not looked at for another class.
+        kind: u64, 8;
         /// 0 or 1.
-        has_label: u8, 8;
+        has_label: u64, 16;
         /// 0 or 1.
-        has_tuple: u8, 9;
+        has_tuple: u64, 24;
         /// The label, where there is one.
-        label: Label, 16;
+        label: Label, 32;
         /// The tuple, where there is one.
-        tuple: Tuple, 56;
+        tuple: Tuple, 72;
     }
 
-    /// A tenant of a [`Table`]: zeros where it is not admitted.
+    /// The number of a tenant, 0 to 7 where there is one. Any number can be held.
+    #[derive(Default)]
+    TenantId, 8 {
+        /// The number.
+        number: u64, 0;
+    }
+
+    /// The number of a slot, 0 to 63 where there is one. Tenant t has the slots 8t to 8t + 7. Any number can be held.
+    #[derive(Default)]
+    Slot, 8 {
+        /// The number.
+        number: u64, 0;
+    }
+
+    /// A tenant of a [`State`]: zeros where it is not admitted.
+    #[derive(Default)]
     Tenant, 272 {
         /// The most pages that it may have in use.
         ceiling: u64, 0;
@@ -251,7 +294,7 @@ structs! {
     }
 
     /// A segment of shared memory: zeros where the slot is empty.
-    #[derive(Hash, Default)]
+    #[derive(Default)]
     Segment, 56 {
         /// The label of whoever opened it.
         label: Label, 0;
@@ -262,7 +305,7 @@ structs! {
     }
 
     /// The state of all segments.
-    Table, 5768 {
+    State, 5768 {
         /// The pages that there are for all tenants.
         pool: u64, 0;
         /// By number.
@@ -271,10 +314,10 @@ structs! {
         segments: [Segment; SLOTS], 2184;
     }
 
-    /// What a call on a [`Table`] leaves and answers.
+    /// What a call on a [`State`] leaves and answers.
     Outcome, 5840 {
         /// The state after the call.
-        table: Table, 0;
+        state: State, 0;
         /// The call's answer.
         answer: Answer, 5768;
         /// What a granted look shows, else zeros.
@@ -283,11 +326,16 @@ structs! {
 }
 
 functions! {
+    safe fn lurm_version() -> u64;
+
     safe fn lurm_dominates(a: Label, b: Label) -> Answer;
     safe fn lurm_equal(a: Label, b: Label) -> Answer;
     safe fn lurm_upper_bound(a: Label, b: Label) -> LabelAnswer;
     safe fn lurm_lower_bound(a: Label, b: Label) -> LabelAnswer;
     safe fn lurm_region_of(a: Label) -> Answer;
+    safe fn lurm_has_category(a: Label, category: u64) -> Answer;
+    safe fn lurm_with_category(a: Label, category: u64) -> LabelAnswer;
+    safe fn lurm_next_category(a: Label, from: u64) -> Answer;
 
     safe fn lurm_range_contains(x: Range, l: Label) -> Answer;
     safe fn lurm_range_meet(x: Range, y: Range) -> RangeAnswer;
@@ -307,28 +355,28 @@ functions! {
     unsafe fn lurm_read_tuple(line: *const u8, line_length: usize) -> TupleAnswer;
     unsafe fn lurm_read_entry(line: *const u8, line_length: usize) -> EntryAnswer;
 
-    unsafe fn lurm_check_table(table: *const u8, table_length: usize, more: u8) -> Answer;
-    unsafe fn lurm_write_label_text(table: *const u8, table_length: usize, more: u8, subject: Subject, style: Style, label: Label,
+    unsafe fn lurm_check_alias_table(aliases: *const u8, aliases_length: usize, more: u64) -> Answer;
+    unsafe fn lurm_write_label_text(aliases: *const u8, aliases_length: usize, more: u64, subject: Subject, style: Style, label: Label,
         out: *mut u8, out_length: usize) -> Answer;
-    unsafe fn lurm_write_range_text(table: *const u8, table_length: usize, more: u8, subject: Subject, style: Style, range: Range,
+    unsafe fn lurm_write_range_text(aliases: *const u8, aliases_length: usize, more: u64, subject: Subject, style: Style, range: Range,
         out: *mut u8, out_length: usize) -> RangeWritten;
-    unsafe fn lurm_read_label_text(table: *const u8, table_length: usize, more: u8, subject: Subject, text: *const u8,
+    unsafe fn lurm_read_label_text(aliases: *const u8, aliases_length: usize, more: u64, subject: Subject, text: *const u8,
         text_length: usize) -> LabelAnswer;
-    unsafe fn lurm_read_range_text(table: *const u8, table_length: usize, more: u8, subject: Subject, text: *const u8,
+    unsafe fn lurm_read_range_text(aliases: *const u8, aliases_length: usize, more: u64, subject: Subject, text: *const u8,
         text_length: usize) -> RangeAnswer;
 
     safe fn lurm_check(credentials: Credentials, object: Object, intents: u64, attribute: u64) -> Answer;
 
     safe fn lurm_make(pool: u64) -> Outcome;
-    safe fn lurm_admit(table: Table, tenant: u64, ceiling: u64, clearance: Tuple) -> Outcome;
-    safe fn lurm_set_ceiling(table: Table, tenant: u64, ceiling: u64) -> Outcome;
-    safe fn lurm_open(table: Table, tenant: u64, label: Label, pages: u64) -> Outcome;
-    safe fn lurm_size(table: Table, tenant: u64, label: Label, slot: u64, pages: u64) -> Outcome;
-    safe fn lurm_post(table: Table, tenant: u64, label: Label, slot: u64, version: u64) -> Outcome;
-    safe fn lurm_close(table: Table, tenant: u64, label: Label, slot: u64) -> Outcome;
-    safe fn lurm_look(table: Table, tenant: u64, label: Label, slot: u64) -> Outcome;
-    safe fn lurm_sound(table: Table) -> Answer;
-    safe fn lurm_pages_in_use(table: Table, tenant: u64) -> Answer;
+    safe fn lurm_admit(state: State, tenant: TenantId, ceiling: u64, clearance: Tuple) -> Outcome;
+    safe fn lurm_set_ceiling(state: State, tenant: TenantId, ceiling: u64) -> Outcome;
+    safe fn lurm_open(state: State, tenant: TenantId, label: Label, pages: u64) -> Outcome;
+    safe fn lurm_size(state: State, tenant: TenantId, label: Label, slot: Slot, pages: u64) -> Outcome;
+    safe fn lurm_post(state: State, tenant: TenantId, label: Label, slot: Slot, version: u64) -> Outcome;
+    safe fn lurm_close(state: State, tenant: TenantId, label: Label, slot: Slot) -> Outcome;
+    safe fn lurm_look(state: State, tenant: TenantId, label: Label, slot: Slot) -> Outcome;
+    safe fn lurm_sound(state: State) -> Answer;
+    safe fn lurm_pages_in_use(state: State, tenant: TenantId) -> Answer;
 }
 
 #[cfg(test)]

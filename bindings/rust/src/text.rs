@@ -1,4 +1,4 @@
-//! Labels and ranges as text, by the names of a table.
+//! Labels and ranges as text, by the names of an alias table.
 
 use crate::raw;
 use crate::{Label, Range, Refusal};
@@ -20,7 +20,7 @@ impl From<&Subject> for raw::Subject {
 
 /// What is named in a text.
 #[derive(Clone, Copy, Debug, PartialEq, Eq, Hash, Default)]
-#[repr(u8)]
+#[repr(u64)]
 pub enum Form {
     /// The hierarchy and the categories.
     #[default]
@@ -31,7 +31,7 @@ pub enum Form {
 
 /// By what it is named in a text.
 #[derive(Clone, Copy, Debug, PartialEq, Eq, Hash, Default)]
-#[repr(u8)]
+#[repr(u64)]
 pub enum Variant {
     /// By names.
     #[default]
@@ -51,7 +51,7 @@ pub struct Style {
 
 impl From<Style> for raw::Style {
     fn from(style: Style) -> raw::Style {
-        raw::Style { form: style.form as u8, variant: style.variant as u8 }
+        raw::Style { form: style.form as u64, variant: style.variant as u64 }
     }
 }
 
@@ -64,39 +64,65 @@ pub enum Ends {
     LowOnly,
 }
 
-/// A table of names: 0 to 512 lines of [`Entry`](crate::Entry), one after another. Any bytes can be held.
+/// An alias table: 0 to 512 lines of [`Entry`](crate::Entry), one after another. Any bytes can be held.
 ///
-/// Every function tests the table first. What a bad one is refused with is said at [`Refusal`].
+/// Every function tests the alias table first, and refuses a bad one with [`Refusal::BadLine`]; then the subject, and what else it is passed, and
+/// refuses what is invalid with [`Refusal::Invalid`].
 ///
 /// ```
-/// use lurmenize::{Label, Refusal, Style, Subject, Table};
+/// use lurmenize::{AliasTable, Label, Refusal, Style, Subject};
 ///
-/// let table = Table::new(b"040114036c6f770092\n04020704656173740165dc\n");
+/// let aliases = AliasTable::new(b"040114036c6f770092\n04020704656173740165dc\n");
 /// let label = Label::new(20, &[7]);
 /// let subject = Subject { label, read_override: false };
-/// assert_eq!(table.label_text(&subject, Style::default(), &label).unwrap(), "low:east");
-/// assert_eq!(table.read_label(&subject, b"low:e"), Ok(label));
-/// assert_eq!(table.write_label(&subject, Style::default(), &label, &mut [0; 7]), Err(Refusal::TooBig(8)));
+/// assert_eq!(aliases.label_text(&subject, Style::default(), &label).unwrap(), "low:east");
+/// assert_eq!(aliases.read_label(&subject, b"low:e"), Ok(label));
+/// assert_eq!(aliases.write_label(&subject, Style::default(), &label, &mut [0; 7]), Err(Refusal::TooBig(8)));
 /// ```
 #[derive(Clone, Copy, Debug, PartialEq, Eq, Hash, Default)]
-pub struct Table<'a> {
+pub struct AliasTable<'a> {
     /// The lines, each with its LF.
     pub lines: &'a [u8],
-    /// Whether the table was cut off here and more lines follow: it is then bad at the end.
+    /// Whether the alias table was cut off here and more lines follow: it is then bad at the end.
     pub more: bool,
 }
 
-impl<'a> Table<'a> {
-    /// The table that has these lines and no more.
-    pub fn new(lines: &'a [u8]) -> Table<'a> {
-        Table { lines, more: false }
+/// The longest text of a label: a hierarchy's name and those of all categories, with one byte between two.
+const LONGEST_LABEL: usize = (raw::MAX_NAME + 1) * (1 + raw::CATEGORIES as usize) - 1;
+/// The longest text of a range.
+const LONGEST_RANGE: usize = "-L ".len() + LONGEST_LABEL + " -H ".len() + LONGEST_LABEL;
+
+impl<'a> AliasTable<'a> {
+    /// The alias table that has these lines and no more.
+    pub fn new(lines: &'a [u8]) -> AliasTable<'a> {
+        AliasTable { lines, more: false }
     }
 
-    /// How many lines it has. [`Refusal::BadLine`] where it is bad.
+    /// How many lines it has.
     pub fn check(&self) -> Result<usize, Refusal> {
         // SAFETY: a slice's pointer is not null and has as many bytes as the slice's length.
-        let answer = unsafe { raw::lurm_check_table(self.lines.as_ptr(), self.lines.len(), self.more.into()) };
-        answer.length().map_err(|refusal| if refusal == Refusal::Invalid { Refusal::BadLine(0) } else { refusal })
+        unsafe { raw::lurm_check_alias_table(self.lines.as_ptr(), self.lines.len(), self.more.into()) }.count()
+    }
+
+    /// What the library answers where it is to write a label's text.
+    fn answer_label(&self, subject: &Subject, style: Style, label: &Label, out: &mut [u8]) -> raw::Answer {
+        let (lines, more) = (self.lines, self.more.into());
+        let (subject, style) = (subject.into(), style.into());
+        // SAFETY: a slice's pointer is not null and has as many bytes as the slice's length, and what is lent for writing overlaps no other.
+        unsafe { raw::lurm_write_label_text(lines.as_ptr(), lines.len(), more, subject, style, *label, out.as_mut_ptr(), out.len()) }
+    }
+
+    /// The same of a range, with the ends that it writes.
+    fn answer_range(&self, subject: &Subject, style: Style, range: &Range, out: &mut [u8]) -> Result<(raw::Answer, Ends), Refusal> {
+        let (lines, more) = (self.lines, self.more.into());
+        let (subject, style) = (subject.into(), style.into());
+        // SAFETY: as in `answer_label`.
+        let written = unsafe { raw::lurm_write_range_text(lines.as_ptr(), lines.len(), more, subject, style, *range, out.as_mut_ptr(), out.len()) };
+        match written.status {
+            0 => Ok((written.answer, Ends::Both)),
+            1 => Ok((written.answer, Ends::LowOnly)),
+            _ => Err(Refusal::Unknown(written.answer)),
+        }
     }
 
     /// Writes the text of a label to the front of `out` and gives its length. The bytes past it stay.
@@ -104,31 +130,26 @@ impl<'a> Table<'a> {
     /// [`Refusal::Access`] where the subject may not see the label, [`Refusal::NoEnt`] where a number has no name, [`Refusal::TooBig`] where `out`
     /// is too short; nothing is written then.
     pub fn write_label(&self, subject: &Subject, style: Style, label: &Label, out: &mut [u8]) -> Result<usize, Refusal> {
-        let (lines, more) = (self.lines, self.more.into());
-        let (subject, style) = (subject.into(), style.into());
-        // SAFETY: a slice's pointer is not null and has as many bytes as the slice's length, and what is lent for writing overlaps no other.
-        unsafe { raw::lurm_write_label_text(lines.as_ptr(), lines.len(), more, subject, style, *label, out.as_mut_ptr(), out.len()) }.length()
+        self.answer_label(subject, style, label, out).length_in(out)
     }
 
     /// The same of a range, with the ends that were written. [`Refusal::Access`] where the subject may not see the low end.
     pub fn write_range(&self, subject: &Subject, style: Style, range: &Range, out: &mut [u8]) -> Result<(usize, Ends), Refusal> {
-        let (lines, more) = (self.lines, self.more.into());
-        let (subject, style) = (subject.into(), style.into());
-        // SAFETY: as in `write_label`.
-        let written = unsafe { raw::lurm_write_range_text(lines.as_ptr(), lines.len(), more, subject, style, *range, out.as_mut_ptr(), out.len()) };
-        let ends = if written.status == 0 { Ends::Both } else { Ends::LowOnly };
-        Ok((written.answer.length()?, ends))
+        let (answer, ends) = self.answer_range(subject, style, range, out)?;
+        Ok((answer.length_in(out)?, ends))
     }
 
-    /// The text of a label, as [`write_label`](Table::write_label) writes it.
+    /// The text of a label, as [`write_label`](AliasTable::write_label) writes it.
     pub fn label_text(&self, subject: &Subject, style: Style, label: &Label) -> Result<String, Refusal> {
-        let (text, _) = whole(|out| Ok((self.write_label(subject, style, label, out)?, ())))?;
-        Ok(text)
+        let mut out = [0; LONGEST_LABEL];
+        self.answer_label(subject, style, label, &mut out).text_in(&out)
     }
 
-    /// The text of a range, as [`write_range`](Table::write_range) writes it.
+    /// The text of a range, as [`write_range`](AliasTable::write_range) writes it.
     pub fn range_text(&self, subject: &Subject, style: Style, range: &Range) -> Result<(String, Ends), Refusal> {
-        whole(|out| self.write_range(subject, style, range, out))
+        let mut out = [0; LONGEST_RANGE];
+        let (answer, ends) = self.answer_range(subject, style, range, &mut out)?;
+        Ok((answer.text_in(&out)?, ends))
     }
 
     /// The label that a text says. [`Refusal::Invalid`] where it is malformed, has an unknown name, or says a label that the subject may not see.
@@ -144,21 +165,4 @@ impl<'a> Table<'a> {
         // SAFETY: a slice's pointer is not null and has as many bytes as the slice's length.
         unsafe { raw::lurm_read_range_text(lines.as_ptr(), lines.len(), more, subject.into(), text.as_ptr(), text.len()) }.granted()
     }
-}
-
-/// What most texts fit.
-const USUAL_LENGTH: usize = 256;
-
-/// All that `write` writes, and what it says of it. It is asked again with as long a buffer as it needs.
-fn whole<T>(write: impl Fn(&mut [u8]) -> Result<(usize, T), Refusal>) -> Result<(String, T), Refusal> {
-    let mut text = vec![0; USUAL_LENGTH];
-    let written = match write(&mut text) {
-        Err(Refusal::TooBig(length)) => {
-            text = vec![0; length];
-            write(&mut text)
-        }
-        first => first,
-    };
-    let (length, said) = written?;
-    Ok((String::from_utf8_lossy(&text[..length]).into_owned(), said))
 }

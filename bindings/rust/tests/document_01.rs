@@ -6,7 +6,7 @@ fn range(low: Label, high: Label) -> Range {
     Range::new(low, high)
 }
 
-fn label(hierarchy: u8, categories: &[u8]) -> Label {
+fn label(hierarchy: u64, categories: &[u8]) -> Label {
     Label::new(hierarchy, categories)
 }
 
@@ -53,16 +53,16 @@ fn lines_and_hierarchies() {
 
 #[test]
 fn texts() {
-    let table = Table::new(b"040114036c6f770092\n04020704656173740165dc\n");
-    assert_eq!(table.check(), Ok(2));
+    let aliases = AliasTable::new(b"040114036c6f770092\n04020704656173740165dc\n");
+    assert_eq!(aliases.check(), Ok(2));
     let (low, east) = (label(20, &[]), label(20, &[7]));
     let subject = Subject { label: east, read_override: false };
-    assert_eq!(table.label_text(&subject, Style::default(), &east).unwrap(), "low:east");
+    assert_eq!(aliases.label_text(&subject, Style::default(), &east).unwrap(), "low:east");
     let mut buffer = [0xa5; 7];
-    assert_eq!(table.write_label(&subject, Style::default(), &east, &mut buffer), Err(Refusal::TooBig(8)));
+    assert_eq!(aliases.write_label(&subject, Style::default(), &east, &mut buffer), Err(Refusal::TooBig(8)));
     assert_eq!(buffer, [0xa5; 7]);
     let subject = Subject { label: low, read_override: false };
-    let text = table.range_text(&subject, Style::default(), &range(low, east)).unwrap();
+    let text = aliases.range_text(&subject, Style::default(), &range(low, east)).unwrap();
     assert_eq!(text, ("-L low -H ?".to_string(), Ends::LowOnly));
 }
 
@@ -70,20 +70,20 @@ fn texts() {
 fn pages() {
     let label = label(20, &[]);
     let clearance = range(label, label).split().unwrap();
-    let [first, second, third] = [TenantId(0), TenantId(1), TenantId(2)];
-    let mut state = SegmentTable::make(100).unwrap();
+    let [first, second, third] = [0, 1, 2].map(TenantId::new);
+    let mut state = State::make(100).unwrap();
     assert_eq!(state.admit(first, 60, &clearance), Ok(()));
     assert_eq!(state.admit(second, 40, &clearance), Ok(()));
     assert_eq!(state.admit(third, 1, &clearance), Err(Refusal::NoMem));
-    assert_eq!(state.open(first, &label, 60), Ok(Slot(0)));
+    assert_eq!(state.open(first, &label, 60), Ok(Slot::new(0)));
     let before = state.clone();
     assert_eq!(state.open(first, &label, 1), Err(Refusal::NoMem));
     assert_eq!(state, before);
-    assert_eq!(state.open(second, &label, 40), Ok(Slot(8)));
-    assert_eq!(state.size(first, &label, Slot(0), 59), Ok(()));
-    assert_eq!(state.open(first, &label, 1), Ok(Slot(1)));
+    assert_eq!(state.open(second, &label, 40), Ok(Slot::new(8)));
+    assert_eq!(state.size(first, &label, Slot::new(0), 59), Ok(()));
+    assert_eq!(state.open(first, &label, 1), Ok(Slot::new(1)));
     assert_eq!((state.pages_in_use(first), state.pages_in_use(second)), (Ok(60), Ok(40)));
-    assert!(state.sound());
+    assert_eq!(State::try_from(*state.as_raw()), Ok(state));
 }
 
 #[test]
@@ -92,15 +92,18 @@ fn decisions() {
     let subject = Credentials { label: high, range: range(low, high), ..Credentials::default() };
     let fifo = Object { class: Class::Fifo, label: Some(low), tuple: None };
     let queue = Object { class: Class::MessageQueue, ..fifo };
-    assert_eq!(check(&subject, &queue, Intents::READ, Attribute::NONE), Ok(Decision::Granted));
-    assert_eq!(check(&subject, &fifo, Intents::READ, Attribute::NONE), Err(Refusal::Access));
+    assert_eq!(check(&subject, &queue, Intents::READ), Ok(Decision::Granted));
+    assert_eq!(check(&subject, &fifo, Intents::READ), Err(Refusal::Access));
     let writer = Credentials { write_override: true, ..subject };
-    assert_eq!(check(&writer, &fifo, Intents::READ, Attribute::NONE), Ok(Decision::Privileged));
-    assert_eq!(check(&writer, &fifo, Intents::SET_ATTRIBUTE, Attribute::LABEL), Err(Refusal::Perm));
+    assert_eq!(check(&writer, &fifo, Intents::READ), Ok(Decision::Privileged));
+    assert_eq!(check(&writer, &fifo, Intents::SET_LABEL), Err(Refusal::Perm));
     let all = Credentials { relabel: true, ..writer };
-    assert_eq!(check(&all, &fifo, Intents::SET_ATTRIBUTE, Attribute::LABEL), Ok(Decision::Privileged));
-    assert_eq!(check(&all, &fifo, Intents::SET_ATTRIBUTE, Attribute::NONE), Err(Refusal::Invalid));
-    assert_eq!(check(&all, &fifo, Intents(64), Attribute::NONE), Err(Refusal::Invalid));
+    assert_eq!(check(&all, &fifo, Intents::SET_LABEL), Ok(Decision::Privileged));
+    assert_eq!(check(&all, &fifo, Intents::GET_TUPLE | Intents::SET_TUPLE), Ok(Decision::Privileged));
+    assert_eq!(check(&all, &fifo, Intents::GET_TUPLE | Intents::SET_LABEL), Err(Refusal::Invalid));
+    assert_eq!(check(&all, &fifo, Intents { attribute: 0, ..Intents::SET_LABEL }), Err(Refusal::Invalid));
+    assert_eq!(check(&all, &fifo, Intents { sum: 64, attribute: 0 }), Err(Refusal::Invalid));
+    assert_eq!(check(&all, &fifo, Intents::default()), Err(Refusal::Invalid));
 }
 
 #[test]
@@ -108,13 +111,26 @@ fn refusals_that_carry_a_number() {
     let (good, bad): (&[u8], &[u8]) = (b"040114036c6f770092\n", b"0300fd\n");
     let (first, second) = ([bad, good].concat(), [good, bad].concat());
     let subject = Subject::default();
-    assert_eq!(Table::new(&first).check(), Err(Refusal::BadLine(0)));
-    assert_eq!(Table::new(&second).check(), Err(Refusal::BadLine(1)));
-    assert_eq!(Table { lines: good, more: true }.check(), Err(Refusal::BadLine(1)));
-    assert_eq!(Table::new(&second).read_label(&subject, b"low"), Err(Refusal::BadLine(1)));
-    // What the interface does not tell apart.
-    assert_eq!(Table::new(&first).read_label(&subject, b"low"), Err(Refusal::Invalid));
-    assert_eq!(Table::new(good).read_label(&subject, b"?"), Err(Refusal::Invalid));
+    assert_eq!(AliasTable::new(&first).check(), Err(Refusal::BadLine(0)));
+    assert_eq!(AliasTable::new(&second).check(), Err(Refusal::BadLine(1)));
+    assert_eq!(AliasTable { lines: good, more: true }.check(), Err(Refusal::BadLine(1)));
+    assert_eq!(AliasTable::new(&second).read_label(&subject, b"low"), Err(Refusal::BadLine(1)));
+    assert_eq!(AliasTable::new(good).read_label(&subject, b"?"), Err(Refusal::Invalid));
+}
+
+/// A bad line 0 is told from what else is invalid by every function that takes an alias table.
+#[test]
+fn a_bad_first_line_is_no_invalid_argument() {
+    let (label, subject, style) = (label(20, &[]), Subject::default(), Style::default());
+    for (lines, refusal) in [(&b"0300fd\n"[..], Refusal::BadLine(0)), (b"", Refusal::Invalid)] {
+        let (aliases, invalid) = (AliasTable::new(lines), Label { hierarchy: 200, ..label });
+        assert_eq!(aliases.write_label(&subject, style, &invalid, &mut []), Err(refusal));
+        assert_eq!(aliases.label_text(&subject, style, &invalid), Err(refusal));
+        assert_eq!(aliases.write_range(&subject, style, &range(label, invalid), &mut []), Err(refusal));
+        assert_eq!(aliases.range_text(&subject, style, &range(label, invalid)), Err(refusal));
+        assert_eq!(aliases.read_label(&subject, b"low"), Err(refusal));
+        assert_eq!(aliases.read_range(&subject, b"-L low -H low"), Err(refusal));
+    }
 }
 
 #[test]

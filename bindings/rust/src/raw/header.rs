@@ -1,6 +1,6 @@
 //! Compares what `raw` declares with `include/lurmenize.h`: the C compiler is given a program that says the same in C.
 
-use super::{CONSTANTS, FUNCTIONS, STRUCTS};
+use super::{lurm_version, Answer, CONSTANTS, FUNCTIONS, STRUCTS, VERSION, VERSION_MAJOR, VERSION_MINOR, VERSION_PATCH, VERSION_STRING};
 use std::collections::BTreeSet;
 use std::fmt::Write as _;
 use std::io::Write as _;
@@ -67,26 +67,47 @@ fn field_in_c(name: &str) -> &str {
     name.trim_start_matches("r#")
 }
 
-/// The program: it compiles only if every number and type is the header's. A second declaration of a function has to agree with the first.
+/// The program compiles only if `condition` holds.
+fn assert_in_c(c: &mut String, condition: &str) {
+    writeln!(c, "_Static_assert({condition}, {condition:?});").unwrap();
+}
+
+/// A constant has the value that Rust has, a number or a string.
+fn constant(c: &mut String, name: &str, value: &str) {
+    if value.starts_with('"') {
+        assert_in_c(c, &format!("__builtin_strcmp(LURM_{name}, {value}) == 0"));
+    } else {
+        assert_in_c(c, &format!("LURM_{name} == {}", value.replace('_', "")));
+    }
+}
+
+/// A struct has the size and the fields that Rust has, and nothing between or after them.
+fn structure(c: &mut String, declared: &Struct) {
+    let (name, mut sum) = (struct_in_c(declared.name), String::from("0"));
+    for Field { name: field, declared, offset } in declared.fields {
+        let (field, pointer) = (field_in_c(field), pointer_in_c(declared));
+        assert_in_c(c, &format!("offsetof({name}, {field}) == {offset}"));
+        writeln!(c, "void look_at_{name}_{field}({name} *s);").unwrap();
+        writeln!(c, "void look_at_{name}_{field}({name} *s) {{ {pointer} = &s->{field}; (void)p; }}").unwrap();
+        write!(sum, " + sizeof((({name} *)0)->{field})").unwrap();
+    }
+    assert_in_c(c, &format!("sizeof({name}) == {}", declared.size));
+    assert_in_c(c, &format!("sizeof({name}) == {sum}"));
+}
+
+/// A function has the types that Rust has: a second declaration has to agree with the first.
+fn function(c: &mut String, declared: &Function) {
+    let arguments: Vec<String> = declared.arguments.iter().map(|argument| type_in_c(argument)).collect();
+    let arguments = if arguments.is_empty() { "void".into() } else { arguments.join(", ") };
+    writeln!(c, "{} {}({arguments});", type_in_c(declared.answer), declared.name).unwrap();
+}
+
+/// The program: it compiles only if every number and type is the header's.
 fn program() -> String {
     let mut c = String::from("#include \"lurmenize.h\"\n");
-    for (name, value) in CONSTANTS {
-        writeln!(c, "_Static_assert(LURM_{name} == {value}, \"LURM_{name}\");").unwrap();
-    }
-    for Struct { name, size, fields } in STRUCTS {
-        let name = struct_in_c(name);
-        writeln!(c, "_Static_assert(sizeof({name}) == {size}, \"{name}\");").unwrap();
-        for Field { name: field, declared, offset } in *fields {
-            let (field, pointer) = (field_in_c(field), pointer_in_c(declared));
-            writeln!(c, "_Static_assert(offsetof({name}, {field}) == {offset}, \"{name}.{field}\");").unwrap();
-            writeln!(c, "void look_at_{name}_{field}({name} *s);").unwrap();
-            writeln!(c, "void look_at_{name}_{field}({name} *s) {{ {pointer} = &s->{field}; (void)p; }}").unwrap();
-        }
-    }
-    for Function { name, arguments, answer } in FUNCTIONS {
-        let arguments: Vec<String> = arguments.iter().map(|argument| type_in_c(argument)).collect();
-        writeln!(c, "{} {name}({});", type_in_c(answer), arguments.join(", ")).unwrap();
-    }
+    CONSTANTS.iter().for_each(|(name, value)| constant(&mut c, name, value));
+    STRUCTS.iter().for_each(|declared| structure(&mut c, declared));
+    FUNCTIONS.iter().for_each(|declared| function(&mut c, declared));
     c
 }
 
@@ -96,6 +117,11 @@ fn declarations() -> String {
     let mut parts = header.split("/*");
     let before = parts.next().unwrap().to_string();
     parts.fold(before, |text, part| text + part.split_once("*/").unwrap().1)
+}
+
+/// The header without what is for the preprocessor.
+fn code_of(header: &str) -> String {
+    header.lines().filter(|line| !line.starts_with('#')).flat_map(|line| [line, "\n"]).collect()
 }
 
 /// What stands in `text` between `start` and the next `end`, each time.
@@ -111,12 +137,17 @@ fn structs_of(header: &str) -> BTreeSet<(String, usize)> {
         .collect()
 }
 
-fn functions_of(header: &str) -> BTreeSet<&str> {
-    header.lines().filter_map(|line| line.split_once('(')).filter_map(|(before, _)| before.split_once(" lurm_")).map(|(_, name)| name).collect()
+/// Each function of the header that is not inline, and whether the compiler warns where what it hands back is not used.
+fn functions_of(header: &str) -> BTreeSet<(&str, bool)> {
+    let statements = header.split([';', '}']).filter_map(|statement| statement.split_once('('));
+    let declared = statements.filter_map(|(before, _)| before.rsplit_once("lurm_")).filter(|(before, _)| !before.contains("inline"));
+    declared.map(|(before, name)| (name, before.contains("LURM_MUST_USE"))).collect()
 }
 
+/// What the header defines, but for what it tells compilers.
 fn constants_of(header: &str) -> BTreeSet<&str> {
-    between(header, "#define LURM_", " ").collect()
+    let defined = header.lines().filter_map(|line| line.strip_prefix("#define LURM_")?.split_whitespace().next());
+    defined.filter(|name| *name != "MUST_USE").collect()
 }
 
 #[test]
@@ -139,8 +170,33 @@ fn nothing_of_the_header_is_left_out() {
     let header = declarations();
     let structs = STRUCTS.iter().map(|declared| (struct_in_c(declared.name), declared.fields.len())).collect();
     assert_eq!(structs_of(&header), structs);
-    let functions = FUNCTIONS.iter().map(|function| function.name.trim_start_matches("lurm_")).collect();
-    assert_eq!(functions_of(&header), functions);
+    let answers = |function: &Function| function.answer != "u64";
+    let functions = FUNCTIONS.iter().map(|function| (function.name.trim_start_matches("lurm_"), answers(function))).collect();
+    assert_eq!(functions_of(&code_of(&header)), functions);
     let constants = CONSTANTS.iter().map(|(name, _)| *name).collect();
     assert_eq!(constants_of(&header), constants);
+}
+
+/// What is displayed of a refusal begins with what `lurm_strerror` says of its number.
+#[test]
+fn refusals_have_the_headers_words() {
+    let header = declarations();
+    let cases: Vec<_> = between(&header, "case LURM_", "\";").filter_map(|case| case.split_once(": return \"")).collect();
+    assert_eq!(cases.len(), between(&header, "#define LURM_E", " ").count());
+    for (name, words) in cases {
+        let (_, number) = CONSTANTS.iter().find(|(constant, _)| *constant == name).unwrap();
+        let carries = u32::from(name == "E2BIG");
+        let answer = Answer { refusal: number.parse().unwrap(), carries, value: carries.into() };
+        let refusal = answer.number().unwrap_err();
+        assert!(refusal.to_string().starts_with(words), "{refusal}, {words}");
+    }
+}
+
+/// The crate is of the same version as the header, whose numbers the constants are, and as the library.
+#[test]
+fn the_version_is_one() {
+    assert_eq!(VERSION_STRING, env!("CARGO_PKG_VERSION"));
+    assert_eq!(VERSION_STRING, format!("{VERSION_MAJOR}.{VERSION_MINOR}.{VERSION_PATCH}"));
+    assert_eq!(VERSION, VERSION_MAJOR * 1_000_000 + VERSION_MINOR * 1_000 + VERSION_PATCH);
+    assert_eq!(lurm_version(), VERSION);
 }

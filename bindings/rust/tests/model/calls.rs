@@ -15,6 +15,11 @@ pub fn labels(random: &mut Random, cases: &mut Cases) {
     call!(cases, lurm_upper_bound(a, b));
     call!(cases, lurm_lower_bound(a, b));
     call!(cases, lurm_region_of(a));
+    let any = random.number();
+    let category = random.pick(&[0, 1, 2, 63, 64, 127, 128, 254, 255, 256, 257, 256 + 64, (1 << 32) + 1, u64::MAX, any, any % 256, any % 256]);
+    call!(cases, lurm_has_category(a, category));
+    call!(cases, lurm_with_category(a, category));
+    call!(cases, lurm_next_category(a, category));
 }
 
 pub fn ranges(random: &mut Random, cases: &mut Cases) {
@@ -63,7 +68,7 @@ fn writes<A: Answered>(
 ) -> Vec<u8> {
     let mut empty = [];
     let needed = match write(empty.as_mut_ptr(), 0).answer() {
-        Answer { refusal: E2BIG, value } => value as usize,
+        Answer { refusal: E2BIG, value, .. } => value as usize,
         _ => 40,
     };
     let length = match random.below(8) {
@@ -102,15 +107,15 @@ pub fn hex_lines(random: &mut Random, cases: &mut Cases) {
     reads!(cases, lines::any(random), lurm_line_kind lurm_read_label lurm_read_range lurm_read_tuple lurm_read_entry);
 }
 
-pub fn check_table(cases: &mut Cases, table: &[u8], more: u8) {
+pub fn check_alias_table(cases: &mut Cases, aliases: &[u8], more: u64) {
     // SAFETY: the pointer and the length are a slice's.
-    let answered = unsafe { lurm_check_table(table.as_ptr(), table.len(), more) };
-    cases.add("lurm_check_table", &[bytes(table), value(&more)], &answered);
+    let answered = unsafe { lurm_check_alias_table(aliases.as_ptr(), aliases.len(), more) };
+    cases.add("lurm_check_alias_table", &[bytes(aliases), value(&more)], &answered);
 }
 
 /// Who asks for a text, and how.
 struct Asked {
-    more: u8,
+    more: u64,
     subject: Subject,
     style: Style,
     label: Label,
@@ -125,7 +130,7 @@ fn asked(random: &mut Random, names: &tables::Names) -> Asked {
 
 pub fn texts(random: &mut Random, cases: &mut Cases) {
     let names = tables::input(random);
-    check_table(cases, &names.lines, tables::more(random));
+    check_alias_table(cases, &names.lines, tables::more(random));
     texts_by(random, cases, &names);
 }
 
@@ -139,40 +144,40 @@ fn texts_by(random: &mut Random, cases: &mut Cases, names: &tables::Names) {
 
 /// Writes the label and the range, and gives the two texts; one that is refused is empty.
 fn write_texts(random: &mut Random, cases: &mut Cases, names: &tables::Names, asked: &Asked) -> (Vec<u8>, Vec<u8>) {
-    let (table, table_length) = (names.lines.as_ptr(), names.lines.len());
+    let (aliases, aliases_length) = (names.lines.as_ptr(), names.lines.len());
     let &Asked { more, subject, style, label, range } = asked;
     let before = [bytes(&names.lines), value(&more), value(&subject), value(&style)];
     let arguments = |last| [&before[..], &[last]].concat();
     // SAFETY: the first pointer and length are a slice's, and `writes` gives those of another that it alone has.
     let label_text = writes(random, cases, "lurm_write_label_text", &arguments(value(&label)), |out, length| unsafe {
-        lurm_write_label_text(table, table_length, more, subject, style, label, out, length)
+        lurm_write_label_text(aliases, aliases_length, more, subject, style, label, out, length)
     });
     // SAFETY: as above.
     let range_text = writes(random, cases, "lurm_write_range_text", &arguments(value(&range)), |out, length| unsafe {
-        lurm_write_range_text(table, table_length, more, subject, style, range, out, length)
+        lurm_write_range_text(aliases, aliases_length, more, subject, style, range, out, length)
     });
     (label_text, range_text)
 }
 
 fn read_texts(cases: &mut Cases, names: &tables::Names, asked: &Asked, text: &[u8], range_text: &[u8]) {
-    let (table, table_length) = (names.lines.as_ptr(), names.lines.len());
+    let (aliases, aliases_length) = (names.lines.as_ptr(), names.lines.len());
     let &Asked { more, subject, .. } = asked;
     let before = [bytes(&names.lines), value(&more), value(&subject)];
     let arguments = |text: &[u8]| [&before[..], &[bytes(text)]].concat();
     // SAFETY: the pointers and lengths are those of slices.
-    let answered = unsafe { lurm_read_label_text(table, table_length, more, subject, text.as_ptr(), text.len()) };
+    let answered = unsafe { lurm_read_label_text(aliases, aliases_length, more, subject, text.as_ptr(), text.len()) };
     cases.add("lurm_read_label_text", &arguments(text), &answered);
     // SAFETY: as above.
-    let answered = unsafe { lurm_read_range_text(table, table_length, more, subject, range_text.as_ptr(), range_text.len()) };
+    let answered = unsafe { lurm_read_range_text(aliases, aliases_length, more, subject, range_text.as_ptr(), range_text.len()) };
     cases.add("lurm_read_range_text", &arguments(range_text), &answered);
 }
 
-/// Tables of as many lines as there may be, and of one more.
-pub fn large_tables(random: &mut Random, cases: &mut Cases) {
+/// Alias tables of as many lines as there may be, and of one more.
+pub fn large_alias_tables(random: &mut Random, cases: &mut Cases) {
     for length in [MAX_TABLE_LINES - 1, MAX_TABLE_LINES, MAX_TABLE_LINES + 1] {
         let names = tables::good(random, length);
-        check_table(cases, &names.lines, 0);
-        check_table(cases, &names.lines, 1);
+        check_alias_table(cases, &names.lines, 0);
+        check_alias_table(cases, &names.lines, 1);
         texts_by(random, cases, &names);
     }
 }
@@ -180,8 +185,12 @@ pub fn large_tables(random: &mut Random, cases: &mut Cases) {
 fn credentials(random: &mut Random) -> Credentials {
     let range = inputs::range(random);
     let label = inputs::label_in(random, &range);
-    let flag = |random: &mut Random| random.below(2) as u8;
-    let credentials = Credentials { label, range, read_override: flag(random), write_override: flag(random), relabel: flag(random) };
+    let mut flag = || random.below(2);
+    let mut credentials = Credentials { label, range, read_override: flag(), write_override: flag(), relabel: flag() };
+    if random.once_in(40) {
+        let flags = [&mut credentials.read_override, &mut credentials.write_override, &mut credentials.relabel];
+        *flags[random.index(3)] = inputs::no_flag(random);
+    }
     inputs::as_input(random, credentials)
 }
 
@@ -189,26 +198,40 @@ fn object(random: &mut Random, subject: &Label) -> Object {
     let (has_label, has_tuple) = random.pick(&[(1, 0), (1, 0), (0, 1), (1, 1), (1, 1), (0, 0)]);
     let object = Object {
         r#type: random.pick(&[0, 0, 0, 1, 1, 2, 3, 4, 5]),
-        kind: random.below(3) as u32,
+        kind: random.below(3),
         has_label,
         has_tuple,
         label: if has_label == 1 { inputs::related(random, subject) } else { inputs::input_label(random) },
         tuple: if random.once_in(2) { inputs::tuple_with(random, subject) } else { inputs::tuple(random) },
     };
-    if has_tuple == 0 && random.once_in(3) {
-        return Object { tuple: inputs::input_tuple(random), ..object };
+    match random.below(8) {
+        0 | 1 if has_tuple == 0 => Object { tuple: inputs::input_tuple(random), ..object },
+        2 => odd_object(random, object),
+        _ => inputs::as_input(random, object),
     }
-    inputs::as_input(random, object)
+}
+
+/// The object with a number that stands for no choice, in its tuple too.
+fn odd_object(random: &mut Random, mut object: Object) -> Object {
+    let (class, kind, flag) = (random.wider(object.r#type), random.wider(object.kind), inputs::no_flag(random));
+    match random.below(8) {
+        0 => object.r#type = random.pick(&[6, 7, class]),
+        1 => object.has_label = flag,
+        2 => object.has_tuple = flag,
+        3 | 4 => object.tuple.ranges[random.index(REGIONS)].present = flag,
+        _ => object.kind = random.pick(&[3, 7, kind]),
+    }
+    object
 }
 
 pub fn monitor(random: &mut Random, cases: &mut Cases) {
     let credentials = credentials(random);
     let object = object(random, &credentials.label);
     let intents = match random.below(10) {
-        0 => random.pick(&[0, 12, 64, 65, u64::MAX]),
+        0 => random.pick(&[0, 12, 64, 65, 256 + 2, (1 << 32) + 2, u64::MAX]),
         1 | 2 => random.below(64),
         _ => 1 << random.below(6),
     };
-    let attribute = random.pick(&[1, 1, 1, 2, 2, 2, 0, 3, u64::MAX]);
+    let attribute = random.pick(&[1, 1, 1, 1, 2, 2, 2, 2, 0, 3, 256 + 1, (1 << 32) + 2, u64::MAX]);
     call!(cases, lurm_check(credentials, object, intents, attribute));
 }

@@ -5,8 +5,8 @@ use crate::random::Random;
 use lurmenize::raw::*;
 
 /// The first and the last hierarchy of each region.
-const REGION_ENDS: [(u8, u8); REGIONS] = [(0, 19), (20, 179), (180, 199)];
-const HIERARCHIES: [u8; 14] = [0, 1, 10, 19, 20, 21, 30, 40, 178, 179, 180, 181, 198, 199];
+const REGION_ENDS: [(u64, u64); REGIONS] = [(0, 19), (20, 179), (180, 199)];
+const HIERARCHIES: [u64; 14] = [0, 1, 10, 19, 20, 21, 30, 40, 178, 179, 180, 181, 198, 199];
 const EDGES: [u8; 8] = [0, 63, 64, 127, 128, 191, 192, 255];
 
 type Words = [u64; WORDS];
@@ -45,7 +45,7 @@ pub fn label(random: &mut Random) -> Label {
 }
 
 /// A label that `label` dominates, with a hierarchy from `first` on.
-fn under(random: &mut Random, label: &Label, first: u8) -> Label {
+fn under(random: &mut Random, label: &Label, first: u64) -> Label {
     let hierarchy = random.within(first.min(label.hierarchy), label.hierarchy);
     let mask = if random.once_in(3) { [u64::MAX; WORDS] } else { random_words(random) };
     Label { hierarchy, categories: combined(&label.categories, &mask, |a, b| a & b) }
@@ -81,13 +81,14 @@ pub fn as_input<T: Numbers>(random: &mut Random, value: T) -> T {
     }
 }
 
-/// A label as it may come in: some are invalid.
+/// A label as it may come in: some are invalid, by a hierarchy that is just too large or one that needs more bits.
 pub fn input_label(random: &mut Random) -> Label {
     let valid = label(random);
-    if random.once_in(10) {
-        return Label { hierarchy: random.within(MAX_HIERARCHY + 1, u8::MAX), ..valid };
+    match random.below(20) {
+        0 => Label { hierarchy: random.within(MAX_HIERARCHY + 1, 255), ..valid },
+        1 => Label { hierarchy: random.wider(valid.hierarchy), ..valid },
+        _ => as_input(random, valid),
     }
-    as_input(random, valid)
 }
 
 /// A valid range.
@@ -169,13 +170,21 @@ pub fn tuple_with(random: &mut Random, label: &Label) -> Tuple {
     with
 }
 
-/// A tuple as it may come in: a range may be in another region's place, or stand where none is said to be.
+/// A flag that is none.
+pub fn no_flag(random: &mut Random) -> u64 {
+    let flag = random.below(2);
+    let (wider, any) = (random.wider(flag), random.number());
+    random.pick(&[2, 3, 255, wider, wider, any])
+}
+
+/// A tuple as it may come in: a range may be in another region's place, or stand where none is said to be, or a flag may be none.
 pub fn input_tuple(random: &mut Random) -> Tuple {
     let mut valid = tuple(random);
+    let region = random.index(REGIONS);
     match random.below(12) {
         0 => valid.ranges.rotate_left(1),
-        1 => valid.ranges[random.index(REGIONS)].present ^= 1,
-        2 => valid.ranges[random.index(REGIONS)].present = random.number() as u8,
+        1 => valid.ranges[region].present ^= 1,
+        2 => valid.ranges[region].present = no_flag(random),
         _ => return as_input(random, valid),
     }
     valid
@@ -201,7 +210,7 @@ fn padded<const N: usize>(text: &[u8]) -> [u8; N] {
     std::array::from_fn(|at| text.get(at).copied().unwrap_or(0))
 }
 
-pub fn entry_of(names: u32, number: u64, label: Label, name: &[u8], abbreviation: &[u8]) -> Entry {
+pub fn entry_of(names: u64, number: u64, label: Label, name: &[u8], abbreviation: &[u8]) -> Entry {
     Entry {
         names,
         number,
@@ -223,7 +232,7 @@ pub fn entry(random: &mut Random) -> Entry {
     let length = random.pick(&[0, 1, MAX_ABBREVIATION]);
     let short = name(random, length);
     match random.below(3) {
-        0 => entry_of(NAMES_HIERARCHY, label(random).hierarchy.into(), ZERO, &name_bytes, &short),
+        0 => entry_of(NAMES_HIERARCHY, label(random).hierarchy, ZERO, &name_bytes, &short),
         1 => entry_of(NAMES_CATEGORY, random.pick(&EDGES).into(), ZERO, &name_bytes, &short),
         _ => entry_of(NAMES_LABEL, 0, label(random), &name_bytes, &short),
     }
@@ -232,14 +241,17 @@ pub fn entry(random: &mut Random) -> Entry {
 /// An entry as it may come in.
 pub fn input_entry(random: &mut Random) -> Entry {
     let mut given = entry(random);
-    match random.below(12) {
-        0 => given.names = random.below(6) as u32,
-        1 => given.number = random.pick(&[199, 200, 255, 256, u64::MAX]),
+    let (names, number) = (random.wider(given.names), random.wider(given.number));
+    match random.below(14) {
+        0 => given.names = random.pick(&[0, 1, 2, 3, 4, 5, names]),
+        1 => given.number = random.pick(&[199, 200, 255, 256, number, number]),
         2 => given.label = input_label(random),
-        3 => given.name.length = random.pick(&[0, 30, 32, usize::MAX]),
-        4 => given.abbreviation.length = random.pick(&[14, 16, usize::MAX]),
+        3 => given.name.length = random.pick(&[0, 30, 32, 33, 256 + given.name.length, usize::MAX]),
+        4 => given.abbreviation.length = random.pick(&[14, 16, 17, 256 + given.abbreviation.length, usize::MAX]),
         5 => given.name.bytes[0] = random.pick(b"0_-. :,@[`{\0\xc3"),
         6 => given.abbreviation.bytes[0] = random.pick(b"0_-. :,@[`{\0\xc3"),
+        7 => given.name = Name { bytes: [b'n'; NAME_BYTES], length: random.pick(&[MAX_NAME, NAME_BYTES]) },
+        8 => given.abbreviation = Abbreviation { bytes: [b's'; ABBREVIATION_BYTES], length: random.pick(&[MAX_ABBREVIATION, ABBREVIATION_BYTES]) },
         _ => return as_input(random, given),
     }
     given

@@ -11,9 +11,10 @@ fn sealed(frame: &[u8]) -> Vec<u8> {
     (digits + "\n").into_bytes()
 }
 
+/// A hierarchy that needs more bits than a line has for it is cut.
 fn label_body(label: &Label) -> Vec<u8> {
     let words = label.categories.map(u64::to_le_bytes);
-    [&[label.hierarchy], words.concat().as_slice()].concat()
+    [&[label.hierarchy as u8], words.concat().as_slice()].concat()
 }
 
 fn range_body(range: &Range) -> Vec<u8> {

@@ -24,47 +24,64 @@ const RUNS: usize = 100;
 const RUN_LENGTH: usize = 100;
 const MOST_SHOWN: usize = 5;
 
-const YES_OR_NO: &[u64] = &[0, 1];
-const INVALID: &[u32] = &[EINVAL];
-const OWN_SLOT: &[u32] = &[EPERM, EACCES, EINVAL];
+/// A refusal's number, and whether it carries one more.
+type Refused = (u32, u32);
 
-/// Each function, some values that its grants have to reach, and all its refusals: just these have to be reached.
-const FUNCTIONS: [(&str, &[u64], &[u32]); 37] = [
+const SHORT: Refused = (E2BIG, 1);
+const BAD_ALIASES: Refused = (EINVAL, 1);
+
+const fn plain(refusal: u32) -> Refused {
+    (refusal, 0)
+}
+
+const YES_OR_NO: &[u64] = &[0, 1];
+const INVALID: &[Refused] = &[plain(EINVAL)];
+const WRITES: &[Refused] = &[SHORT, plain(EINVAL)];
+const WRITES_TEXT: &[Refused] = &[plain(ENOENT), SHORT, plain(EACCES), plain(EINVAL), BAD_ALIASES];
+const READS_TEXT: &[Refused] = &[plain(EINVAL), BAD_ALIASES];
+const ACCESS: &[Refused] = &[plain(EPERM), plain(EACCES), plain(EINVAL)];
+const CEILINGS: &[Refused] = &[plain(ENOMEM), plain(EBUSY), plain(EINVAL)];
+
+/// Each function that answers, some values that its grants have to reach, and all its refusals: just these have to be reached.
+const FUNCTIONS: [(&str, &[u64], &[Refused]); 40] = [
     ("dominates", YES_OR_NO, INVALID),
     ("equal", YES_OR_NO, INVALID),
     ("upper_bound", &[0], INVALID),
     ("lower_bound", &[0], INVALID),
     ("region_of", &[0, 1, 2], INVALID),
+    ("has_category", YES_OR_NO, INVALID),
+    ("with_category", &[0], INVALID),
+    ("next_category", &[0, 63, 64, 128, 255, CATEGORIES], INVALID),
     ("range_contains", YES_OR_NO, INVALID),
-    ("range_meet", &[0], &[EINVAL, EDOM]),
+    ("range_meet", &[0], &[plain(EINVAL), plain(EDOM)]),
     ("range_split", &[0], INVALID),
     ("tuple_is_empty", YES_OR_NO, INVALID),
     ("tuple_contains", YES_OR_NO, INVALID),
     ("tuple_within", YES_OR_NO, INVALID),
     ("tuple_meet", &[0], INVALID),
     ("line_kind", &[LINE_LABEL, LINE_RANGE, LINE_TUPLE, LINE_ENTRY], INVALID),
-    ("write_label", &[71], &[E2BIG, EINVAL]),
-    ("write_range", &[137], &[E2BIG, EINVAL]),
-    ("write_tuple", &[7, MAX_LINE as u64], &[E2BIG, EINVAL]),
-    ("write_entry", &[], &[E2BIG, EINVAL]),
+    ("write_label", &[71], WRITES),
+    ("write_range", &[137], WRITES),
+    ("write_tuple", &[7, MAX_LINE as u64], WRITES),
+    ("write_entry", &[], WRITES),
     ("read_label", &[0], INVALID),
     ("read_range", &[0], INVALID),
     ("read_tuple", &[0], INVALID),
     ("read_entry", &[0], INVALID),
-    ("check_table", &[0, 1, MAX_TABLE_LINES as u64], INVALID),
-    ("write_label_text", &[], &[ENOENT, E2BIG, EACCES, EINVAL]),
-    ("write_range_text", &[], &[ENOENT, E2BIG, EACCES, EINVAL]),
-    ("read_label_text", &[0], INVALID),
-    ("read_range_text", &[0], INVALID),
-    ("check", YES_OR_NO, &[EPERM, EACCES, EINVAL]),
+    ("check_alias_table", &[0, 1, MAX_TABLE_LINES as u64], READS_TEXT),
+    ("write_label_text", &[], WRITES_TEXT),
+    ("write_range_text", &[], WRITES_TEXT),
+    ("read_label_text", &[0], READS_TEXT),
+    ("read_range_text", &[0], READS_TEXT),
+    ("check", YES_OR_NO, ACCESS),
     ("make", &[0], INVALID),
-    ("admit", &[0], &[ENOMEM, EBUSY, EINVAL]),
-    ("set_ceiling", &[0], &[ENOMEM, EBUSY, EINVAL]),
-    ("open", &[0, 7, 8, 15], &[EPERM, ENOMEM, EINVAL, ENOSPC]),
-    ("size", &[0], &[EPERM, ENOMEM, EACCES, EINVAL]),
-    ("post", &[0], OWN_SLOT),
-    ("close", &[0], OWN_SLOT),
-    ("look", &[0], OWN_SLOT),
+    ("admit", &[0], CEILINGS),
+    ("set_ceiling", &[0], CEILINGS),
+    ("open", &[0, 7, 8, 15], &[plain(EPERM), plain(ENOMEM), plain(EINVAL), plain(ENOSPC)]),
+    ("size", &[0], &[plain(EPERM), plain(ENOMEM), plain(EACCES), plain(EINVAL)]),
+    ("post", &[0], ACCESS),
+    ("close", &[0], ACCESS),
+    ("look", &[0], ACCESS),
     ("sound", YES_OR_NO, &[]),
     ("pages_in_use", &[0, 1], INVALID),
 ];
@@ -79,7 +96,7 @@ fn all_cases() -> Vec<Case> {
         calls::texts(&mut random, &mut cases);
         (0..4).for_each(|_| calls::monitor(&mut random, &mut cases));
     }
-    calls::large_tables(&mut random, &mut cases);
+    calls::large_alias_tables(&mut random, &mut cases);
     for _ in 0..RUNS {
         states::run(&mut random, &mut cases, RUN_LENGTH);
     }
@@ -127,7 +144,9 @@ fn every_kind_of_answer_is_reached() {
         println!("{name}: {} granted, {} refused", granted.len(), refused.len());
         let reached: BTreeSet<u64> = granted.iter().map(|answer| answer.value).collect();
         assert!(!granted.is_empty() && values.iter().all(|value| reached.contains(value)), "{name}: grants {reached:?}");
-        let numbers: BTreeSet<u32> = refused.iter().map(|answer| answer.refusal).collect();
+        let numbers: BTreeSet<Refused> = refused.iter().map(|answer| (answer.refusal, answer.carries)).collect();
         assert_eq!(numbers, refusals.iter().copied().collect(), "{name}: refusals");
+        let bad_first_line = refused.contains(&Answer { refusal: EINVAL, carries: 1, value: 0 });
+        assert_eq!(bad_first_line, refusals.contains(&BAD_ALIASES), "{name}: a bad line 0");
     }
 }

@@ -55,7 +55,7 @@ structs! {
     Range { low high }
     RegionRange { present range }
     Tuple { ranges }
-    Answer { refusal value }
+    Answer { refusal carries value }
     LabelAnswer { answer label }
     RangeAnswer { answer range }
     TupleAnswer { answer tuple }
@@ -68,10 +68,12 @@ structs! {
     RangeWritten { answer status }
     Credentials { label range read_override write_override relabel }
     Object { r#type kind has_label has_tuple label tuple }
+    TenantId { number }
+    Slot { number }
     Tenant { ceiling clearance }
     Segment { label pages version }
-    Table { pool tenants segments }
-    Outcome { table answer shown }
+    State { pool tenants segments }
+    Outcome { state answer shown }
 }
 
 pub fn numbers_of(value: &impl Numbers) -> Vec<u64> {
@@ -85,12 +87,13 @@ pub fn one_off<T: Numbers>(random: &mut Random, value: &T) -> T {
     let mut numbers = numbers_of(value);
     let at = random.index(numbers.len());
     let before = numbers[at];
-    numbers[at] = match random.below(6) {
+    numbers[at] = match random.below(7) {
         0 => before.wrapping_add(1),
         1 => before.wrapping_sub(1),
         2 => before ^ 1 << random.below(64),
         3 => before ^ 1 << random.below(8),
-        4 => 0,
+        4 => before ^ 1 << random.pick(&[8, 16, 32]),
+        5 => 0,
         _ => random.number(),
     };
     T::take(&mut numbers.into_iter())

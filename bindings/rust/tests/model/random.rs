@@ -21,8 +21,19 @@ impl Random {
     }
 
     /// A number from `first` to `last`.
-    pub fn within(&mut self, first: u8, last: u8) -> u8 {
-        first + self.below(u64::from(last - first) + 1) as u8
+    pub fn within(&mut self, first: u64, last: u64) -> u64 {
+        match (last - first).checked_add(1) {
+            Some(count) => first + self.below(count),
+            None => self.number(),
+        }
+    }
+
+    /// A number that is too large, and that a type of fewer bits would cut to `number`; or the largest there is.
+    pub fn wider(&mut self, number: u64) -> u64 {
+        match self.below(5) {
+            0 => u64::MAX,
+            _ => number + (1 << self.pick(&[8, 9, 16, 32, 33, 63])),
+        }
     }
 
     pub fn index(&mut self, length: usize) -> usize {

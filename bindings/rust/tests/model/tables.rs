@@ -1,10 +1,10 @@
-//! Tables of names, and texts in these names.
+//! Alias tables, and texts in their names.
 
 use crate::random::Random;
 use crate::{inputs, lines};
 use lurmenize::raw::*;
 
-/// A table: its entries, and its lines, which may have been damaged since.
+/// An alias table: its entries, and its lines, which may have been damaged since.
 pub struct Names {
     pub entries: Vec<Entry>,
     pub lines: Vec<u8>,
@@ -13,7 +13,7 @@ pub struct Names {
 const NUMBERS: [u64; 6] = [0, 1, 2, 3, 20, 30];
 const ZERO: Label = Label { hierarchy: 0, categories: [0; WORDS] };
 
-/// An entry whose name is its own: it ends in its number in the table. Its abbreviation is the same in upper case.
+/// An entry whose name is its own: it ends in its number in the alias table. Its abbreviation is the same in upper case.
 fn entry(random: &mut Random, at: usize) -> Entry {
     let name = if random.once_in(6) { format!("{:a<28}{at:03}", "n") } else { format!("n{at}") };
     let short = if random.once_in(2) { format!("N{at}") } else { String::new() };
@@ -25,14 +25,14 @@ fn entry(random: &mut Random, at: usize) -> Entry {
     }
 }
 
-/// A good table with so many entries.
+/// A good alias table with so many entries.
 pub fn good(random: &mut Random, length: usize) -> Names {
     let entries: Vec<Entry> = (0..length).map(|at| entry(random, at)).collect();
     let lines = entries.iter().flat_map(lines::of_entry).collect();
     Names { entries, lines }
 }
 
-/// A small table as it may come in.
+/// A small alias table as it may come in.
 pub fn input(random: &mut Random) -> Names {
     let length = random.index(14);
     let mut names = good(random, length);
@@ -42,7 +42,7 @@ pub fn input(random: &mut Random) -> Names {
     names
 }
 
-/// The table with one line that is damaged, of another kind, or has a name again.
+/// The alias table with one line that is damaged, of another kind, or has a name again.
 fn damaged(random: &mut Random, names: &Names) -> Vec<u8> {
     let mut rows: Vec<Vec<u8>> = names.entries.iter().map(lines::of_entry).collect();
     let at = random.index(rows.len() + 1);
@@ -59,7 +59,7 @@ fn damaged(random: &mut Random, names: &Names) -> Vec<u8> {
 }
 
 /// The entries of a class.
-fn of_class(names: &Names, class: u32) -> Vec<Entry> {
+fn of_class(names: &Names, class: u64) -> Vec<Entry> {
     names.entries.iter().filter(|entry| entry.names == class).copied().collect()
 }
 
@@ -74,7 +74,7 @@ pub fn label(random: &mut Random, names: &Names) -> Label {
     }
     let count = if categories.is_empty() { 0 } else { random.below(4) };
     let word = (0..count).fold(0, |word, _| word | 1 << random.pick(&categories).number);
-    Label { hierarchy: random.pick(&hierarchies).number as u8, categories: [word, 0, 0, 0] }
+    Label { hierarchy: random.pick(&hierarchies).number, categories: [word, 0, 0, 0] }
 }
 
 /// A range whose ends mostly have texts.
@@ -99,11 +99,11 @@ pub fn subject(random: &mut Random, label: &Label) -> Subject {
 }
 
 /// 0 or 1, or once in a while another number.
-fn flag(random: &mut Random) -> u8 {
+fn flag(random: &mut Random) -> u64 {
     if random.once_in(25) {
-        random.number() as u8
+        inputs::no_flag(random)
     } else {
-        random.below(2) as u8
+        random.below(2)
     }
 }
 
@@ -111,8 +111,8 @@ pub fn style(random: &mut Random) -> Style {
     Style { form: flag(random), variant: flag(random) }
 }
 
-/// Whether the table is cut off; mostly not.
-pub fn more(random: &mut Random) -> u8 {
+/// Whether the alias table is cut off; mostly not.
+pub fn more(random: &mut Random) -> u64 {
     if random.once_in(10) {
         flag(random)
     } else {
@@ -131,7 +131,7 @@ fn word(random: &mut Random, entries: &[Entry]) -> Vec<u8> {
     }
 }
 
-/// A text of a label, mostly in the names of a table.
+/// A text of a label, mostly in the names of an alias table.
 pub fn text(random: &mut Random, names: &Names) -> Vec<u8> {
     let class = random.pick(&[NAMES_HIERARCHY, NAMES_HIERARCHY, NAMES_HIERARCHY, NAMES_LABEL, NAMES_CATEGORY]);
     let mut text = word(random, &of_class(names, class));
