@@ -1,10 +1,12 @@
--- A change that is made to a state is the call that decided it.
+-- A change that is made to a state is the call that decided it, and a refused call hands back the very state that was passed.
 use mathlib.Core.Bool.{or-false}
-use mathlib.Core.Path.{_≡_, _∙_}
-use Prim.Native.Nat.{_<_}
+use mathlib.Core.Option.{Option}
+use mathlib.Core.Path.{_≡_, refl, _∙_}
+use Prim.Native.Nat.{ℕ, _<_}
 use borrow.Author.Tests.{lt-leb}
+use Rattle.label.specs.Answer.{refused}
 use Rattle.segments.specs.Calls.{Decides, stepOf}
-use Rattle.segments.specs.Replies.{applied, isRefusal}
+use Rattle.segments.specs.Replies.{applied, isRefusal, leaving}
 use Rattle.segments.specs.Segments.{slots}
 use Rattle.segments.specs.declared.Call.{Call}
 use Rattle.segments.specs.declared.Change.{Change}
@@ -19,3 +21,7 @@ applied-back s c l = rw (lt-leb slots (c .slot .0) l, or-false (isRefusal (c .an
 
 pub call-applied : (s : SegmentTable) {c : Call} {x : Change} {o : Outcome} → Decides s c x → (x .slot .0 < slots → o ≡ outcomes.handedBack (applied s x)) → o ≡ outcomes.stepOutcome (stepOf s c)
 call-applied s d h = h (decides-slot _ _ d) ∙ call-answered (decides-results _ _ d)
+
+-- every number of it
+pub refused-keeps : (s next : SegmentTable) (n : ℕ) (detail : Option ℕ) → outcomes.stepOutcome (leaving s next (refused n detail)) .state ≡ s
+refused-keeps s next n detail = refl
