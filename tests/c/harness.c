@@ -25,6 +25,7 @@
 #define MOST_FUNCTIONS 100
 #define MOST_RESULT 8192         /* bytes of the largest result, and more */
 #define OWN_STACK (1024 * 1024)  /* bytes: far more than any function takes */
+#define GUARD (1024 * 1024)      /* bytes below a stack that can't be touched: more than any frame, so that no write passes over them */
 #define THREAD_TAKES (2 * 4096)  /* what a thread has at the top of its stack: its record in the C library, the variables that each thread has, and
                                     the frames that lead to its function. 4.4 KB with glibc, which in whole pages is two */
 #define CALLER_TAKES 1024        /* the frame of the function that makes the call: saved registers and what the compiler keeps in it, beside the
@@ -93,20 +94,18 @@ typedef struct job {
 static job now;
 static ucontext_t here, there;
 
-/* Memory for a stack that grows down to a page which can't be touched. */
+/* Memory for a stack that grows down to pages which can't be touched. */
 static unsigned char *stack_of(size_t bytes)
 {
-    size_t page = (size_t)sysconf(_SC_PAGESIZE);
-    unsigned char *memory = mmap(NULL, page + bytes, PROT_READ | PROT_WRITE, MAP_PRIVATE | MAP_ANONYMOUS, -1, 0);
+    unsigned char *memory = mmap(NULL, GUARD + bytes, PROT_READ | PROT_WRITE, MAP_PRIVATE | MAP_ANONYMOUS, -1, 0);
     must(memory != MAP_FAILED, "mmap");
-    must(mprotect(memory, page, PROT_NONE) == 0, "mprotect");
-    return memory + page;
+    must(mprotect(memory, GUARD, PROT_NONE) == 0, "mprotect");
+    return memory + GUARD;
 }
 
 static void give_back(unsigned char *stack, size_t bytes)
 {
-    size_t page = (size_t)sysconf(_SC_PAGESIZE);
-    must(munmap(stack - page, page + bytes) == 0, "munmap");
+    must(munmap(stack - GUARD, GUARD + bytes) == 0, "munmap");
 }
 
 static void work(void)
