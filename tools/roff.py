@@ -5,6 +5,7 @@ import textwrap
 
 WIDTH = 78  # of a line of source
 TABLE_WIDTH = 66  # of a table that stands as one in a page of 80 columns; a wider one is a list
+BULLET = r".IP \(bu 2"
 ESCAPES = {"\\": r"\(rs", "^": r"\(ha", "~": r"\(ti"}
 CODE_ESCAPES = {**ESCAPES, "-": r"\-", "'": r"\(aq", "`": r"\(ga"}
 MARKUP = re.compile(r"`([^`]+)`|\*\*(.+?)\*\*|\[(.+?)\]\([^)]*\)|\b(LURM_\w+|lurm_\w+)")
@@ -48,6 +49,16 @@ def inline(text):
     return "".join(done) + escaped(text[at:])
 
 
+def plain(text):
+    """Words without their marks."""
+    return MARKUP.sub(lambda found: next(group for group in found.groups() if group), text)
+
+
+def titled(text):
+    """The argument of a heading, which stands between quotes."""
+    return escaped(plain(text)).replace('"', r"\(dq")
+
+
 # Requests
 
 def filled(text):
@@ -71,7 +82,11 @@ def item(tags, *texts):
 
 
 def heading(text):
-    return f'.SH "{escaped(text.upper())}"'
+    return f'.SH "{titled(text.upper())}"'
+
+
+def subheading(text):
+    return f'.SS "{titled(text)}"'
 
 
 def page(lines):
@@ -80,24 +95,12 @@ def page(lines):
     return re.sub(r"^(\.TE|\.EE)$", r"\1\n.nh", source, flags=re.MULTILINE) + "\n"
 
 
-def subheading(text):
-    return f'.SS "{escaped(text)}"'
-
-
 # Tables
 
-def plain(cell):
-    """What a reader sees of a cell."""
-    return MARKUP.sub(lambda found: next(group for group in found.groups() if group), cell)
-
-
-def table(head, rows, formats=None):
-    """A table for tbl, with a head where there is one."""
-    formats = formats or ["l"] * len(rows[0])
-    first = [" ".join(["lb"] * len(head)), "\t".join(map(inline, head)), ".T&"] if head else []
-    first[:1] = [line + "." for line in first[:1]]
-    body = "\n".join("\t".join(row) for row in rows)
-    return [".P", ".TS", *first, " ".join(formats) + ".", *body.split("\n"), ".TE"]
+def table(head, rows, formats):
+    """A table for tbl: what stands above it, or nothing; rows of cells that are roff already; and the format of each column."""
+    above = [" ".join(["lb"] * len(head)) + ".", "\t".join(map(inline, head)), ".T&"] if head else []
+    return [".P", ".TS", *above, " ".join(formats) + ".", *("\t".join(row) for row in rows), ".TE"]
 
 
 def text_block(text):
@@ -124,7 +127,7 @@ def cells(line):
 def markdown_table(lines):
     head, rows = cells(lines[0]), [cells(line) for line in lines[2:]]
     if narrow(head, rows):
-        return table(head, [[guarded(inline(cell)) for cell in row] for row in rows])
+        return table(head, [[guarded(inline(cell)) for cell in row] for row in rows], ["l"] * len(head))
     return [line for row in rows for line in row_item(head, row)]
 
 
@@ -138,23 +141,23 @@ def kind_of(line):
 
 def blocks(lines):
     """The parts of a text that blank lines part, each with its kind; a fenced part may have blank lines in it."""
-    found, fenced = [], False
+    found, fenced = [("end", [])], False
     for line in lines:
-        opens = line.startswith("```")
-        if not line.strip() and not fenced:
-            found.append(("end", []))
-        elif fenced or (found and found[-1][0] not in ("end", "marker") and not opens):
+        fence = line.startswith("```")
+        if fenced or line.strip() and not fence and found[-1][0] not in ("end", "marker"):
             found[-1][1].append(line)
         else:
-            found.append((kind_of(line), [line]))
-        fenced ^= opens
+            found.append((kind_of(line) if line.strip() else "end", [line]))
+        if fenced and fence:
+            found.append(("end", []))
+        fenced ^= fence
     return [(kind, part) for kind, part in found if kind != "end"]
 
 
 def listed(lines):
     """A list, one item a line."""
-    marks = [re.match(r"(-|\d+\.) (.*)", line).groups() for line in lines]
-    return [line for mark, text in marks for line in (rf'.IP "{chr(92)}(bu" 2' if mark == "-" else f'.IP "{mark}" 4', *filled(text))]
+    marks = [re.fullmatch(r"(-|\d+\.) (.*)", line).groups() for line in lines]
+    return [line for mark, text in marks for line in (BULLET if mark == "-" else f".IP {mark} 4", *filled(text))]
 
 
 def block(kind, lines):
@@ -165,7 +168,9 @@ def block(kind, lines):
         return markdown_table(lines)
     if kind == "list":
         return listed(lines)
-    return verbatim(lines[1:-1] if kind == "fence" else textwrap.dedent("\n".join(lines)).split("\n")) if kind != "marker" else []
+    if kind == "fence":
+        return verbatim(lines[1:-1])
+    return verbatim([line[4:] for line in lines]) if kind == "verbatim" else []
 
 
 def markdown(lines):
