@@ -196,7 +196,7 @@ static void check_beside_refusal(const function *called, const void *arguments, 
         memcpy(said, arguments, sizeof(lurm_state));
     memcpy(said + called->answer, &expected, sizeof expected);
     if (memcmp(said, result, called->result_size) != 0)
-        fault(called, expected, called->takes_state ? "beside the refusal is not the state that was passed, then zeros" : "beside the refusal are no zeros");
+        fault(called, expected, called->takes_state ? "beside the refusal is another state, or no zeros" : "beside the refusal are no zeros");
 }
 
 static void check_lent(const function *called, lurm_answer expected, unsigned char paint)
