@@ -155,7 +155,8 @@ static void numbers(void)
         lurm_entry_answer made;
         label.hierarchy = cases[i].hierarchy;
         made = lurm_entry_from_strings(cases[i].names, cases[i].number, label, "east", "e");
-        check(made.answer.refusal == 0 && made.entry.names == cases[i].names && made.entry.number == cases[i].number, "numbers are taken as they are");
+        check(made.answer.refusal == 0, "no number is refused where the entry is made");
+        check(made.entry.names == cases[i].names && made.entry.number == cases[i].number, "numbers are taken as they are");
         check(written(made) == cases[i].refusal, "and judged where the entry is written");
     }
 }
