@@ -420,8 +420,8 @@ static inline const char *lurm_strerror(uint32_t refusal)
     }
 }
 
-/* entry: the entry with this name and abbreviation, which are C strings; "" where there is no abbreviation. LURM_EINVAL, with zeros: one of them is
- * too long for any entry. What else is wrong with it is told where it is written. value: 0. */
+/* entry: the entry with this name and abbreviation, which are C strings and not null; "" where there is no abbreviation. LURM_EINVAL, with zeros:
+ * one of them is too long for any entry. What else is wrong with it is told where it is written. value: 0. */
 LURM_MUST_USE static inline lurm_entry_answer lurm_entry_from_strings(uint64_t names, uint64_t number, lurm_label label, const char *name,
                                                                       const char *abbreviation)
 {
