@@ -1,5 +1,5 @@
 # include/lurmenize.h as it reads: its sections, and in each the comments with what they are about. What is made from the header is made from
-# this: the man pages, and the C programs of tests/c.
+# this: the man pages, the C programs of tests/c and the calls of the fuzzer.
 
 import re
 from collections import namedtuple

@@ -2,12 +2,15 @@
 # It is read from the header itself, so that a wrong declaration there shows as a difference.
 
 import ctypes
-import re
 import struct
+import sys
 from collections import namedtuple
 from pathlib import Path
 
-HEADER = Path(__file__).resolve().parent.parent.parent / "include" / "lurmenize.h"
+sys.path.append(str(Path(__file__).resolve().parent.parent.parent / "tools"))
+
+import c_header
+
 NUMBERS = {"uint8_t": ctypes.c_uint8, "uint32_t": ctypes.c_uint32, "uint64_t": ctypes.c_uint64, "size_t": ctypes.c_size_t}
 CODES = {1: "B", 4: "I", 8: "Q"}  # of module struct, by size in bytes
 
@@ -49,44 +52,42 @@ class Layout:
         return (value,) if isinstance(value, int) else self.packer.unpack(bytes(value))
 
 
-def field_type(types, name, count, sizes):
-    kind = types[name]
-    return kind if not count else kind * (sizes.get(count) or int(count))
+def layout_types(source):
+    """The types of C by name: the numbers, and the structs in the order of the header."""
+    sizes = {define.name: int(define.value) for define in c_header.everything(source, c_header.defines) if define.value.isdigit()}
+    types = dict(NUMBERS)
+    for declared in c_header.everything(source, c_header.structs):
+        fields = [(field.name, types[field.type] * sizes[field.count] if field.count else types[field.type]) for field in declared.fields]
+        types[declared.name] = type(declared.name, (ctypes.Structure,), {"_fields_": fields})
+    return types
 
 
 def structs(source):
     """The structs by name, each as a layout."""
-    sizes = {name: int(number) for name, number in re.findall(r"#define (\w+) (\d+)", source)}
-    types = dict(NUMBERS)
-    for name, body in re.findall(r"typedef struct (\w+) \{(.*?)\}", source, re.DOTALL):
-        fields = [(field, field_type(types, kind, count, sizes))
-                  for kind, field, count in re.findall(r"(\w+) (\w+)(?:\[(\w+)\])?;", body)]
-        types[name] = type(name, (ctypes.Structure,), {"_fields_": fields})
-    return {name: Layout(kind) for name, kind in types.items() if name not in NUMBERS}
+    return {name: Layout(kind) for name, kind in layout_types(source).items() if name not in NUMBERS}
 
 
-def parameters(text, layouts):
+def parameters(declared, layouts):
     """A pointer and the length after it are one parameter."""
-    taken = iter(part.strip() for part in text.split(",") if part != "void")
+    taken = iter(declared)
     for part in taken:
-        name = part.split()[0]
-        if "*" in part:
-            assert next(taken).startswith("size_t ")
-            yield Parameter("bytes" if name == "const" else "buffer", ctypes.c_void_p, None)
-        elif name in NUMBERS:
-            yield Parameter("number", NUMBERS[name], None)
+        if part.type.endswith("*"):
+            assert next(taken).type == "size_t"
+            yield Parameter("bytes" if part.type.startswith("const ") else "buffer", ctypes.c_void_p, None)
+        elif part.type in NUMBERS:
+            yield Parameter("number", NUMBERS[part.type], None)
         else:
-            layout = layouts[name]
+            layout = layouts[part.type]
             yield Parameter("struct" if len(layout.bits) > 1 else "number", layout.kind, layout)
 
 
 def functions(source, layouts):
-    """The functions that the library has, by name without lurm_. Inline ones have bodies, and are C and no part of it."""
-    found = re.findall(r"^(?:LURM_MUST_USE )?(\w+) lurm_(\w+)\(([^)]*)\);", source, re.MULTILINE)
-    return {name: Function(list(parameters(taken, layouts)), layouts.get(result) or Layout(NUMBERS[result]))
-            for result, name, taken in found}
+    """The functions that the library has, by name without lurm_."""
+    return {declared.name.removeprefix("lurm_"):
+            Function(list(parameters(declared.parameters, layouts)), layouts.get(declared.result) or Layout(NUMBERS[declared.result]))
+            for declared in c_header.exported(source)}
 
 
-SOURCE = re.sub(r"/\*.*?\*/", "", HEADER.read_text(), flags=re.DOTALL)
+SOURCE = c_header.HEADER.read_text()
 LAYOUTS = structs(SOURCE)
 FUNCTIONS = functions(SOURCE, LAYOUTS)
