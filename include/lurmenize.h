@@ -3,7 +3,8 @@
  *
  * Link with liblurmenize.a (`rt staticlib lurmenize` writes it to target/staticlib/). x86-64 Linux, any C from C99 on, C++ too.
  *
- * Answers. Every function but lurm_version hands back a lurm_answer, alone or in a struct. LOOK AT ITS `refusal` BEFORE ANYTHING ELSE:
+ * Answers. Every function but lurm_version and lurm_strerror hands back a lurm_answer, alone or in a struct. LOOK AT ITS `refusal` BEFORE
+ * ANYTHING ELSE:
  *
  *     refusal == 0   granted: `value` is what the function says it answers
  *     refusal != 0   refused: one of the LURM_E.. numbers. Where `carries` is 1, `value` is the one more number that LURM_E2BIG and a bad
@@ -19,9 +20,10 @@
  * write to overlaps nothing else that is passed. Functions keep nothing between calls, allocate nothing, and may run in any number of threads.
  *
  * Structs are passed and returned by value, are numbers alone, and have no padding: every byte of what is handed back is said. Set every field:
- * `= {0}` and then what is not zero.
+ * `= {0}` (in C++ `= {}`) and then what is not zero.
  *
- * Stack. No function takes more than LURM_STACK_BYTES of stack, what it is passed by value and hands back not counted (docs/LINKING.md).
+ * Stack. No function takes more than LURM_STACK_BYTES of stack. What is passed by value and handed back lies with the caller, and is not counted:
+ * 11,888 bytes at most. docs/LINKING.md has the figures of each function.
  */
 #ifndef LURMENIZE_H
 #define LURMENIZE_H
@@ -145,7 +147,7 @@ LURM_MUST_USE lurm_label_answer lurm_upper_bound(lurm_label a, lurm_label b);
 /* label: the greatest label that a and b dominate. value: 0. */
 LURM_MUST_USE lurm_label_answer lurm_lower_bound(lurm_label a, lurm_label b);
 
-/* value: the region of a. */
+/* value: the region of a: 0 virus prevention, 1 user, 2 administrative. */
 LURM_MUST_USE lurm_answer lurm_region_of(lurm_label a);
 
 /* value: 1 if a has the category, else 0. A category of LURM_CATEGORIES or more is LURM_EINVAL. */
@@ -262,7 +264,7 @@ typedef struct lurm_range_written {
 /* `more`, here and below, is 1 where the alias table is cut off and more lines follow: it is then bad at the end. Else 0. A flag or a style that
  * can't be is refused first, and carries nothing; then a bad alias table, with the number of its first bad line. */
 
-/* value: the number of lines. LURM_EINVAL: the alias table is bad; value: the number of its first bad line. */
+/* value: the number of lines. LURM_EINVAL: the alias table is bad, and its first bad line is carried; or `more` is no flag, and nothing is. */
 LURM_MUST_USE lurm_answer lurm_check_alias_table(const uint8_t *aliases, size_t aliases_length, uint64_t more);
 
 /* Writes a label as text to the front of out, without an LF or a zero after it. value: its length. LURM_EINVAL: a bad alias table, or an invalid
@@ -331,7 +333,8 @@ LURM_MUST_USE lurm_answer lurm_check(lurm_credentials credentials, lurm_object o
 
 /* ---- Shared memory segments: the state, passed in and handed back ---- */
 
-/* A tenant's number, 0 to 7, and a slot's, 0 to 63: two types, so that neither is taken for the other. */
+/* A tenant's number, 0 to 7, and a slot's, 0 to 63: two types, so that neither is taken for the other. `(lurm_tenant_id){3}` is tenant 3, in C++
+ * `lurm_tenant_id{3}`. */
 typedef struct lurm_tenant_id {
     uint64_t number;
 } lurm_tenant_id;
