@@ -70,7 +70,7 @@ uint64_t lurm_version(void);
 #define LURM_MAX_ABBREVIATION 15
 #define LURM_NAME_BYTES 32      /* with the zero that ends it */
 #define LURM_ABBREVIATION_BYTES 16
-#define LURM_MAX_TABLE_LINES 512
+#define LURM_MAX_ALIAS_LINES 512 /* of an alias table */
 #define LURM_TENANTS 8
 #define LURM_SLOTS 64
 #define LURM_MAX_PAGES 1048576

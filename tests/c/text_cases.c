@@ -7,7 +7,7 @@
 #define SEVEN 128           /* the first word of the categories {7} */
 
 typedef struct alias_table {
-    uint8_t bytes[(LURM_MAX_TABLE_LINES + 1) * LURM_MAX_LINE];
+    uint8_t bytes[(LURM_MAX_ALIAS_LINES + 1) * LURM_MAX_LINE];
     size_t length;
 } alias_table;
 
@@ -39,7 +39,7 @@ static void fill(alias_table *aliases)
     const unsigned hierarchies = LURM_MAX_HIERARCHY + 1, numbers = hierarchies + LURM_CATEGORIES;
     unsigned line;
 
-    for (line = 0; line < LURM_MAX_TABLE_LINES; line++)
+    for (line = 0; line < LURM_MAX_ALIAS_LINES; line++)
         add(aliases, line < hierarchies ? entry(LURM_NAMES_HIERARCHY, line, label(0, 0), 'h', line)
                      : line < numbers   ? entry(LURM_NAMES_CATEGORY, line - hierarchies, label(0, 0), 'c', line)
                                         : entry(LURM_NAMES_LABEL, 0, highest(), 'l', line));
@@ -69,9 +69,9 @@ static void checked(void)
     add(&longer, entry(LURM_NAMES_LABEL, 0, highest(), 'x', 0));
     ATTEMPT(lurm_check_alias_table, granted(2), low_and_east, low_and_east_length, 0);
     ATTEMPT(lurm_check_alias_table, granted(0), low_and_east, 0, 0);
-    ATTEMPT(lurm_check_alias_table, granted(LURM_MAX_TABLE_LINES), largest.bytes, last, 0);
-    ATTEMPT(lurm_check_alias_table, refused_with(LURM_EINVAL, LURM_MAX_TABLE_LINES), longer.bytes, longer.length, 0);
-    ATTEMPT(lurm_check_alias_table, refused_with(LURM_EINVAL, LURM_MAX_TABLE_LINES - 1), largest.bytes, last - 1, 0);
+    ATTEMPT(lurm_check_alias_table, granted(LURM_MAX_ALIAS_LINES), largest.bytes, last, 0);
+    ATTEMPT(lurm_check_alias_table, refused_with(LURM_EINVAL, LURM_MAX_ALIAS_LINES), longer.bytes, longer.length, 0);
+    ATTEMPT(lurm_check_alias_table, refused_with(LURM_EINVAL, LURM_MAX_ALIAS_LINES - 1), largest.bytes, last - 1, 0);
     ATTEMPT(lurm_check_alias_table, refused_with(LURM_EINVAL, 2), low_and_east, low_and_east_length, 1);
     ATTEMPT(lurm_check_alias_table, refused_with(LURM_EINVAL, 0), low_and_east + 1, low_and_east_length - 1, 0);
     ATTEMPT(lurm_check_alias_table, refused(LURM_EINVAL), low_and_east, low_and_east_length, 2);

@@ -73,7 +73,7 @@ class Header(unittest.TestCase):
     def test_sizes(self):
         sizes = {"WORDS": LABEL_SIZE - 1, "CATEGORIES": len(CATEGORIES), "MAX_HIERARCHY": HIERARCHIES[-1], "REGIONS": len(REGIONS),
                  "MAX_LINE": len(write(FULL_TUPLE)), "MAX_NAME": LONGEST_NAME, "MAX_ABBREVIATION": LONGEST_ABBREVIATION,
-                 "NAME_BYTES": NAME_BYTES, "ABBREVIATION_BYTES": ABBREVIATION_BYTES, "MAX_TABLE_LINES": MOST_ENTRIES,
+                 "NAME_BYTES": NAME_BYTES, "ABBREVIATION_BYTES": ABBREVIATION_BYTES, "MAX_ALIAS_LINES": MOST_ENTRIES,
                  "TENANTS": len(TENANTS), "SLOTS": len(SLOTS), "MAX_PAGES": MOST_PAGES}
         self.assertEqual({name: number for name, number in defined(r"\w+").items() if name in sizes}, sizes)
 

@@ -174,7 +174,7 @@ fn read_texts(cases: &mut Cases, names: &tables::Names, asked: &Asked, text: &[u
 
 /// Alias tables of as many lines as there may be, and of one more.
 pub fn large_alias_tables(random: &mut Random, cases: &mut Cases) {
-    for length in [MAX_TABLE_LINES - 1, MAX_TABLE_LINES, MAX_TABLE_LINES + 1] {
+    for length in [MAX_ALIAS_LINES - 1, MAX_ALIAS_LINES, MAX_ALIAS_LINES + 1] {
         let names = tables::good(random, length);
         check_alias_table(cases, &names.lines, 0);
         check_alias_table(cases, &names.lines, 1);

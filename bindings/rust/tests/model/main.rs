@@ -68,7 +68,7 @@ const FUNCTIONS: [(&str, &[u64], &[Refused]); 40] = [
     ("read_range", &[0], INVALID),
     ("read_tuple", &[0], INVALID),
     ("read_entry", &[0], INVALID),
-    ("check_alias_table", &[0, 1, MAX_TABLE_LINES as u64], READS_TEXT),
+    ("check_alias_table", &[0, 1, MAX_ALIAS_LINES as u64], READS_TEXT),
     ("write_label_text", &[], WRITES_TEXT),
     ("write_range_text", &[], WRITES_TEXT),
     ("read_label_text", &[0], READS_TEXT),
