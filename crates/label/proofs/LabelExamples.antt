@@ -5,10 +5,10 @@ use mathlib.Core.Option.{none, some}
 use mathlib.Core.Path.{_≡_, refl}
 use Prim.Native.Nat.{_+_, _^_}
 use Rattle.label.specs.Example.{exampleOf}
-use Rattle.label.specs.Index.{every, firstFrom}
-use Rattle.label.specs.Label.{equalOf, validOf}
+use Rattle.label.specs.Index.{every, firstFrom, tabulate}
+use Rattle.label.specs.Label.{equalOf, validOf, withCategoryOf}
 use Rattle.label.specs.Region.{regionOf}
-use Rattle.label.specs.Words.{bit, has, includesOf, membersBelow, membersOf, nextOf, sameOf}
+use Rattle.label.specs.Words.{bit, combine, has, includesOf, membersBelow, membersOf, nextOf, sameOf, singleOf, unionOf}
 
 -- (20,{2}) and (30,{}) are not equal
 incomparable-equal : equalOf (exampleOf 20 (2 ∷ [])) (exampleOf 30 []) ≡ false
@@ -19,6 +19,16 @@ incomparable-equal = refl
 last-valid : validOf (exampleOf 199 []) ≡ true
 unfolding validOf
 last-valid = refl
+
+-- a number that would be hierarchy 20 as a byte is no hierarchy
+cut-invalid : validOf (exampleOf 276 []) ≡ false
+unfolding validOf
+cut-invalid = refl
+
+-- (20,{1}) with category 2
+with-another : withCategoryOf (exampleOf 20 (1 ∷ [])) 2 ≡ exampleOf 20 (1 ∷ 2 ∷ [])
+unfolding withCategoryOf unionOf combine singleOf tabulate
+with-another = refl
 
 -- categories are listed in rising order; category c is bit c mod 64 of word c / 64
 listed : membersOf ((2 ^ 7) ∷ (2 ^ 63 + 1) ∷ 0 ∷ (2 ^ 63) ∷ []) ≡ 7 ∷ 64 ∷ 127 ∷ 255 ∷ []

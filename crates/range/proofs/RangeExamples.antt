@@ -8,9 +8,10 @@ use Rattle.label.specs.Label as labels
 use Rattle.label.specs.Region.{regionOf}
 use Rattle.label.specs.Words.{includesOf, sameOf}
 use Rattle.label.specs.Example.{exampleOf}
-use Rattle.range.specs.Range.{rangeOf, validOf}
+use Rattle.range.specs.Range.{rangeOf, validOf, zeroRange}
 use Rattle.range.specs.Tuple.{absent, emptyOf, emptyTuple, present, tupleOf, validAt}
 use Rattle.range.specs.Tuple as tuples
+use Rattle.range.specs.declared.Range.{Range}
 use Rattle.range.specs.declared.tuple.Tuple.{Tuple}
 
 -- an empty tuple is valid
@@ -29,6 +30,14 @@ heldTuple = tupleOf (record { present = 0; range = rangeOf (exampleOf 0 (5 ∷ [
 held-invalid : tuples.validOf heldTuple ≡ false
 unfolding tuples.validOf validAt equalOf sameOf includesOf every
 held-invalid = refl
+
+-- a presence that is neither 0 nor 1 makes a tuple invalid, whether zeros are held there or a range
+abbrev oddTuple : Range → Tuple
+oddTuple x = tupleOf (record { present = 2; range = x } ∷ absent ∷ absent ∷ [])
+
+odd-invalid : (tuples.validOf (oddTuple zeroRange) ≡ false) × (tuples.validOf (oddTuple (rangeOf (exampleOf 5 []) (exampleOf 9 []))) ≡ false)
+unfolding tuples.validOf validAt equalOf sameOf includesOf every
+odd-invalid = (refl, refl)
 
 -- both ends in that region: a user range may not stand for virus prevention
 abbrev misplacedTuple : Tuple
