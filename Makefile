@@ -1,4 +1,4 @@
-# make             builds what is missing: the library and the programs by `rt`, which also knows what is out of date, and the man pages by Python 3
+# make             builds what is missing or older than a source: the library and the programs by `rt`, the man pages by Python 3
 # make install     puts them, the header and lurmenize.pc below PREFIX; with DESTDIR, below DESTDIR and PREFIX, while lurmenize.pc names PREFIX alone
 # make uninstall   removes what install put there, and leaves the folders
 .POSIX:
@@ -19,11 +19,15 @@ LIBRARY_PAGE = $(PAGES)/man3/lurmenize.3
 
 all: $(LIBRARY) $(PROGRAMS) $(LIBRARY_PAGE)
 
-$(LIBRARY):
-	rt staticlib lurmenize
+# What has changed since $@ was built. Which crates it is made of is rt's to know, so that all are asked: a library that is older than its header must
+# not be installed with it.
+CHANGED = find crates crates.txt -type f \( -name crates.txt -o -path '*/src/*' -o -path '*/specs/*' -o -path '*/proofs/*' \) -newer $@
 
-$(PROGRAMS):
-	rt check $(@F)
+$(LIBRARY): FORCE
+	@test -f $@ && test -z "$$($(CHANGED))" || rt staticlib lurmenize
+
+$(PROGRAMS): FORCE
+	@test -f $@ && test -z "$$($(CHANGED))" || rt check $(@F)
 
 # All pages are made at once. Those of the functions are links to the library's.
 $(LIBRARY_PAGE): include/lurmenize.h docs/LINKING.md docs/PROGRAMS.md tools/man_pages tools/c_header.py tools/roff.py
@@ -49,4 +53,7 @@ uninstall: $(LIBRARY_PAGE)
 	rm -f "$(DESTDIR)$(LIBDIR)/liblurmenize.a" "$(DESTDIR)$(INCLUDEDIR)/lurmenize.h" "$(DESTDIR)$(PKGCONFIGDIR)/lurmenize.pc"
 	for page in $(PAGES)/man1/*.1 $(PAGES)/man3/*.3; do rm -f "$(DESTDIR)$(MANDIR)/$${page#$(PAGES)/}" || exit 1; done
 
-.PHONY: all install uninstall
+# Nothing makes it, so that what needs it is always asked for.
+FORCE:
+
+.PHONY: all install uninstall FORCE
