@@ -9,4 +9,5 @@ pub mod RegionLaws
 pub mod AnswerLaws
 pub mod BufferLaws
 pub mod LabelLaws
+pub mod CallerLaws
 pub mod LabelExamples

@@ -5,4 +5,5 @@ pub mod Buffer
 pub mod Words
 pub mod Region
 pub mod Label
+pub mod Caller
 pub mod Example

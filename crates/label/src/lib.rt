@@ -1,6 +1,7 @@
 // Labels for mandatory access control: a hierarchy number and a set of categories. Each function tests the labels that it is handed and
 // refuses an invalid one with 22; only `valid` and `is_zero` answer a bare yes or no.
 pub mod answer;
+pub mod caller;
 pub mod components;
 pub mod errno;
 pub mod region;

@@ -5,18 +5,20 @@ use mathlib.Core.Option.{none}
 use mathlib.Core.Path.{_≡_, refl}
 use Prim.Native.Nat.{ℕ}
 use Rattle.label.specs.Answer.{Answer, granted, refused}
+use Rattle.label.specs.Caller.{seesOf}
 use Rattle.label.specs.Index.{every}
 use Rattle.label.specs.Label.{dominatesOf, equalOf, zeroLabel}
 use Rattle.label.specs.Label as labels
 use Rattle.label.specs.Region.{regionOf}
 use Rattle.label.specs.Words.{bit, includesOf, sameOf}
 use Rattle.label.specs.declared.Label.{Label}
+use Rattle.label.specs.declared.caller.Caller.{Caller}
 use Rattle.label.specs.Example.{exampleOf}
 use Rattle.range.specs.Range.{containsOf, rangeOf, validOf as rangeValid}
 use Rattle.range.specs.Tuple.{absent, containsAt, emptyTuple, present, tupleOf, validAt}
 use Rattle.range.specs.Tuple as tuples
 use Rattle.range.specs.declared.tuple.Tuple.{Tuple}
-use Rattle.monitor.specs.Monitor.{any, attributeValid, credentialsValid, decide, decideBy, grantBy, intentsValid, kindValid, metOf, objectValid, table, validOf}
+use Rattle.monitor.specs.Monitor.{any, attributeValid, callerSees, credentialsValid, decide, decideBy, grantBy, intentsBy, intentsValid, kindValid, metOf, objectValid, table, validOf}
 use Rattle.monitor.specs.declared.FileKind.{FileKind}
 use Rattle.monitor.specs.declared.FileKind.the-variants.{Regular, Directory}
 use Rattle.monitor.specs.declared.Object.{Object}
@@ -42,6 +44,10 @@ user = tupleOf (absent ∷ present (rangeOf (exampleOf 20 []) (exampleOf 40 []))
 abbrev tupled : Tuple → Object
 tupled t = objectOf File Regular false zeroLabel true t
 
+-- a caller that sees all labels of these examples
+abbrev everyone : Caller
+everyone = record { label = exampleOf 199 []; «read_override» = false }
+
 -- the subject (h,{}) in the range of the user region
 abbrev by : ℕ → Privileges → Object → ℕ → ℕ → Request
 by h p o intents attribute =
@@ -50,6 +56,18 @@ by h p o intents attribute =
       object = o;
       intents = intents;
       attribute = attribute;
+      caller = everyone;
+    }
+
+-- the same asked by (h,{}), with the read override or without
+abbrev askedBy : ℕ → Bool → Request → Request
+askedBy h o r =
+    record {
+      credentials = r .credentials;
+      object = r .object;
+      intents = r .intents;
+      attribute = r .attribute;
+      caller = record { label = exampleOf h []; «read_override» = o };
     }
 
 abbrev alone : Privileges
@@ -121,8 +139,26 @@ examples =
     ∷ (by 30 alone (labelled File 30) 32 1, refusal 1)
     ∷ (by 30 relabelling (labelled File 30) 32 1, granted 1)
     ∷ (by 30 alone (labelled File 20) 32 1, refusal 13)
+    -- the caller has to dominate the subject's label, whatever privileges the subject has, or to have the read override, which makes no 1
+    ∷ (askedBy 30 false (by 30 alone (labelled File 20) 2 0), granted 0)
+    ∷ (askedBy 20 false (by 30 alone (labelled File 20) 2 0), refusal 13)
+    ∷ (askedBy 20 false (by 30 both-overrides (labelled File 20) 2 0), refusal 13)
+    ∷ (askedBy 20 true (by 30 alone (labelled File 20) 2 0), granted 0)
+    -- and the object's label where there is one, whatever the subject's privileges: so a process that asks for itself can't write up
+    ∷ (askedBy 30 false (by 30 write-override (labelled File 40) 1 0), refusal 13)
+    ∷ (askedBy 30 true (by 30 write-override (labelled File 40) 1 0), granted 1)
+    ∷ (askedBy 40 false (by 30 write-override (labelled File 40) 1 0), granted 1)
+    ∷ (askedBy 30 false (by 30 alone (objectOf File Regular true (exampleOf 40 []) true user) 2 0), refusal 13)
+    -- neither a label that is not there nor the ends of ranges and tuples play a part
+    ∷ (askedBy 30 false (by 30 alone (objectOf File Regular false (exampleOf 40 []) true user) 2 0), granted 0)
+    -- the caller's override is none of the subject's
+    ∷ (askedBy 30 true (by 30 alone (labelled File 40) 2 0), refusal 13)
+    -- 22 comes before the caller's 13, that before 1; an invalid label of the caller is 22, with the override too
+    ∷ (askedBy 20 false (by 30 alone (labelled File 20) 0 0), refusal 22)
+    ∷ (askedBy 200 true (by 30 alone (labelled File 20) 2 0), refusal 22)
+    ∷ (askedBy 20 false (by 30 alone (labelled File 30) 32 1), refusal 13)
     ∷ []
 
 examples-hold : map (λ (x : Request × Answer ℕ). decide (x .0)) examples ≡ map (λ (x : Request × Answer ℕ). x .1) examples
-unfolding decideBy grantBy any table metOf validOf intentsValid credentialsValid objectValid kindValid attributeValid bit rangeValid containsOf labels.validOf dominatesOf equalOf includesOf sameOf every tuples.validOf tuples.containsOf validAt containsAt regionOf
+unfolding decideBy intentsBy callerSees seesOf grantBy any table metOf validOf intentsValid credentialsValid objectValid kindValid attributeValid bit rangeValid containsOf labels.validOf dominatesOf equalOf includesOf sameOf every tuples.validOf tuples.containsOf validAt containsAt regionOf
 examples-hold = refl

@@ -2,16 +2,22 @@
 use mathlib.Core.Bool.{Bool, true, false, not, _&&_, _||_, and-true, true≢false}
 use mathlib.Core.List.{List, [], _∷_}
 use mathlib.Core.Logic.{_⊎_, inl, inr}
+use mathlib.Core.Option.{none}
 use mathlib.Core.Path.{_≡_, refl, sym, ap, ap₂, _∙_}
 use Prim.Native.Nat.{ℕ}
 use borrow.Author.Tests.{not-true}
-use Rattle.label.specs.Answer.{Answer, granted, require}
+use Rattle.label.specs.Answer.{Answer, granted, refused, require}
+use Rattle.label.specs.Caller.{callerValid, seesOf}
+use Rattle.label.specs.Label.{dominatesOf}
 use Rattle.label.specs.declared.Label.{Label}
+use Rattle.label.specs.declared.caller.Caller.{Caller}
 use Rattle.range.specs.Tuple
 use Rattle.range.specs.declared.tuple.Tuple.{Tuple}
-use Rattle.label.proofs.AnswerLaws.{grant-passed, grants-same}
-use Rattle.label.proofs.BoolLaws.{either, first-true, not-so, or-first, or-second, same-truth, second-true}
-use Rattle.monitor.specs.Monitor.{Row, any, applies, asks, attributeValid, credentialsValid, decide, decideBy, denied, grantBy, implies, intentGet, intentSet, isFile, kindValid, metOf, objectValid, overrideOf, table, unmet, validOf}
+use Rattle.label.proofs.AnswerLaws.{grant-passed, grants-same, passed, require-same, stopped}
+use Rattle.label.proofs.LabelLaws.{dominates-refl}
+use Rattle.label.proofs.CallerLaws.{sees-dominated, sees-still, withOverride}
+use Rattle.label.proofs.BoolLaws.{both, either, first-true, not-so, or-first, or-second, same-truth, second-true}
+use Rattle.monitor.specs.Monitor.{Row, any, applies, asks, attributeValid, callerSees, credentialsValid, decide, decideBy, denied, grantBy, implies, intentGet, intentSet, intentsBy, isFile, kindValid, metOf, objectValid, overrideOf, table, unmet, validOf}
 use Rattle.monitor.specs.Needs.{answerBy, neededOf}
 use Rattle.monitor.specs.declared.Access.{Access}
 use Rattle.monitor.specs.declared.Access.the-variants.{Observe, Modify}
@@ -21,17 +27,20 @@ use Rattle.monitor.specs.declared.Object.{Object}
 use Rattle.monitor.specs.declared.Privileges.{Privileges}
 use Rattle.monitor.specs.declared.Request.{Request}
 use Rattle.monitor.proofs.NeedsLaws.{decide-needed}
+use Rattle.monitor.proofs.ValidLaws.{valid-parts}
 
 -- ---- requests that differ in one thing
 
 abbrev pub withCredentials : Request → Credentials → Request
-withCredentials r c = record { credentials = c; object = r .object; intents = r .intents; attribute = r .attribute }
+withCredentials r c =
+    record { credentials = c; object = r .object; intents = r .intents; attribute = r .attribute; caller = r .caller }
 
 abbrev pub withPrivileges : Request → Privileges → Request
 withPrivileges r p = withCredentials r (record { label = r .credentials .label; range = r .credentials .range; privileges = p })
 
 abbrev pub withObject : Request → Object → Request
-withObject r o = record { credentials = r .credentials; object = o; intents = r .intents; attribute = r .attribute }
+withObject r o =
+    record { credentials = r .credentials; object = o; intents = r .intents; attribute = r .attribute; caller = r .caller }
 
 abbrev pub withKind : Request → FileKind → Request
 withKind r k =
@@ -58,8 +67,16 @@ withTuple r there t =
       tuple = t;
     })
 
+abbrev pub withIntents : Request → ℕ → ℕ → Request
+withIntents r intents attribute =
+    record { credentials = r .credentials; object = r .object; intents = intents; attribute = attribute; caller = r .caller }
+
 abbrev pub withAttribute : Request → ℕ → Request
-withAttribute r a = record { credentials = r .credentials; object = r .object; intents = r .intents; attribute = a }
+withAttribute r a = withIntents r (r .intents) a
+
+abbrev pub withCaller : Request → Caller → Request
+withCaller r c =
+    record { credentials = r .credentials; object = r .object; intents = r .intents; attribute = r .attribute; caller = c }
 
 -- ---- rows of a list
 
@@ -95,42 +112,65 @@ any-same f xs ys h k =
 -- a list with the rows of the table, in whatever order and however often, decides as the table does
 pub order-of-intents : (rows : List Row) (r : Request) → ((x : Row) → In x rows → In x table) → ((x : Row) → In x table → In x rows)
     → decideBy rows r ≡ decide r
-unfolding decideBy grantBy
+unfolding decideBy intentsBy grantBy
 order-of-intents rows r h k = rw (any-same (denied r) rows table h k, any-same (unmet r) rows table h k)
 
 -- ---- what a grant means
 
--- the request is valid, no intent is denied and set attribute has relabel; the answer
+-- the request is valid, the caller sees what it asks about, no intent is denied and set attribute has relabel; the answer
 pub record Granted (r : Request) (n : ℕ) : Type 0 where
   pub valid : validOf r ≡ true
+  pub seen : callerSees r ≡ true
   pub allowed : any (denied r) table ≡ false
   pub relabel : (asks (r .intents) intentSet && not (r .credentials .privileges .relabel)) ≡ false
   pub answer : n ≡ grantBy table r
 
 pub granted-parts : (r : Request) (n : ℕ) → decide r ≡ granted n → Granted r n
-unfolding decideBy
+unfolding decideBy intentsBy
 granted-parts r n e =
     let d = any (denied r) table in
     let s = asks (r .intents) intentSet && not (r .credentials .privileges .relabel) in
     let third = require (not s) 1 (granted (grantBy table r)) in
-    let a = grant-passed (validOf r) 22 n (require (not d) 13 third) (sym e) in
+    let second = require (not d) 13 third in
+    let v = grant-passed (validOf r) 22 n (require (callerSees r) 13 second) (sym e) in
+    let a = grant-passed (callerSees r) 13 n second (v .1) in
     let b = grant-passed (not d) 13 n third (a .1) in
     let c = grant-passed (not s) 1 n (granted (grantBy table r)) (b .1) in
-    record { valid = a .0; allowed = not-true d (b .0); relabel = not-true s (c .0); answer = grants-same n (grantBy table r) (c .1) }
+    record {
+      valid = v .0;
+      seen = a .0;
+      allowed = not-true d (b .0);
+      relabel = not-true s (c .0);
+      answer = grants-same n (grantBy table r) (c .1);
+    }
 
 pub parts-granted : (r : Request) (n : ℕ) → Granted r n → decide r ≡ granted n
-unfolding decideBy
-parts-granted r n g = rw (g .valid, g .allowed, g .relabel, g .answer)
+unfolding decideBy intentsBy
+parts-granted r n g = rw (g .valid, g .seen, g .allowed, g .relabel, g .answer)
+
+-- ---- a caller without the override
+
+abbrev pub callerDominates : Request → Bool
+callerDominates r =
+    dominatesOf (r .caller .label) (r .credentials .label)
+    && implies (r .object .present .label) (dominatesOf (r .caller .label) (r .object .label))
+
+pub caller-dominates : (r : Request) → r .caller .«read_override» ≡ false → callerSees r ≡ callerDominates r
+unfolding callerSees
+caller-dominates r e =
+    rw (sees-dominated (r .caller) (r .credentials .label) e, sees-dominated (r .caller) (r .object .label) e)
 
 -- ---- a grant where there is no privilege at all
 
 abbrev pub noPrivileges : Privileges
 noPrivileges = record { read = false; write = false; relabel = false }
 
--- the answer is 0, and every test was met
+-- the answer is 0, and every test was met; where the caller has no override either, its label dominates the subject's, and the object's where
+-- there is one
 pub record Unprivileged (r : Request) (n : ℕ) : Type 0 where
   pub answer : n ≡ 0
   pub met : (x : Row) → In x table → applies r x ≡ true → metOf (r .credentials .label) (r .object) (x .access) ≡ true
+  pub caller : r .caller .«read_override» ≡ false → callerDominates r ≡ true
 
 no-override : (a : Access) (p : Privileges) → p ≡ noPrivileges → overrideOf a p ≡ false
 no-override Observe p e = ap (λ (q : Privileges). q .read) e
@@ -144,7 +184,8 @@ met-alone false m o e f h = absurd (true≢false (sym h))
 
 pub unprivileged-grant : (r : Request) (n : ℕ) → r .credentials .privileges ≡ noPrivileges → decide r ≡ granted n → Unprivileged r n
 unfolding grantBy
-unprivileged-grant r n p e = record { answer = g .answer ∙ rw (none, no-set); met = met }
+unprivileged-grant r n p e =
+    record { answer = g .answer ∙ rw (no-row, no-set); met = met; caller = λ o. sym (caller-dominates r o) ∙ g .seen }
   where
     g : Granted r n
     g = granted-parts r n e
@@ -159,8 +200,8 @@ unprivileged-grant r n p e = record { answer = g .answer ∙ rw (none, no-set); 
         (no-override (x .access) (r .credentials .privileges) p)
         a
 
-    none : any (unmet r) table ≡ false
-    none =
+    no-row : any (unmet r) table ≡ false
+    no-row =
         not-so (any (unmet r) table) (from-any (unmet r) table (λ x m u.
         let a = first-true (applies r x) _ u in
         true≢false (sym (second-true (applies r x) _ u) ∙ ap not (met x m a))))
@@ -193,13 +234,25 @@ relabel-still true true q h e = ap not (h refl)
 relabel-still true false q h e = absurd (true≢false e)
 relabel-still false p q h e = refl
 
--- what is granted is granted with the same answer where there are more privileges
-pub more-privileges : (r : Request) (q : Privileges) (n : ℕ) → AmongPrivileges (r .credentials .privileges) q → decide r ≡ granted n
-    → decide (withPrivileges r q) ≡ granted n
-unfolding validOf credentialsValid grantBy
-more-privileges r q n h e =
-    parts-granted (withPrivileges r q) n (record {
+implies-still : (p q s : Bool) → (q ≡ true → s ≡ true) → implies p q ≡ true → implies p s ≡ true
+implies-still true q s h e = h e
+implies-still false q s h e = refl
+
+-- the subject's privileges, and whether the caller has the read override
+abbrev pub withBoth : Request → Privileges → Bool → Request
+withBoth r q o = withCaller (withPrivileges r q) (withOverride (r .caller) o)
+
+-- what is granted is granted with the same answer where there are more privileges, the subject's or the caller's
+pub more-privileges : (r : Request) (q : Privileges) (o : Bool) (n : ℕ) → AmongPrivileges (r .credentials .privileges) q
+    → (r .caller .«read_override» ≡ true → o ≡ true) → decide r ≡ granted n → decide (withBoth r q o) ≡ granted n
+unfolding validOf credentialsValid callerSees grantBy
+more-privileges r q o n h k e =
+    parts-granted (withBoth r q o) n (record {
       valid = g .valid;
+      seen =
+          both
+          (sees-still (r .caller) o (r .credentials .label) k (first-true (seesOf (r .caller) (r .credentials .label)) _ (g .seen)))
+          (implies-still (r .object .present .label) _ _ (sees-still (r .caller) o (r .object .label) k) (second-true (seesOf (r .caller) (r .credentials .label)) _ (g .seen)));
       allowed = not-so _ (from-any (denied (withPrivileges r q)) table (λ x m d. true≢false (sym (any-of (denied r) x table m (still x d)) ∙ g .allowed)));
       relabel = relabel-still (asks (r .intents) intentSet) _ _ (h .relabel) (g .relabel);
       answer = g .answer;
@@ -220,34 +273,66 @@ more-privileges r q n h e =
 
 -- ---- what plays no part
 
--- a decision goes by whether the request is valid, by the privileges that it needs and by those that are there
-same-decision : (r s : Request) → validOf r ≡ validOf s → neededOf r ≡ neededOf s → r .credentials .privileges ≡ s .credentials .privileges
-    → decide r ≡ decide s
-same-decision r s v n p =
-    decide-needed r ∙ ap₂ (λ (t : Bool) (rest : Answer ℕ). require t 22 rest) v (ap₂ answerBy n p) ∙ sym (decide-needed s)
+-- a decision goes by whether the request is valid, by whether the caller sees what it asks about, by the privileges that are needed and by those
+-- that are there
+same-decision : (r s : Request) → validOf r ≡ validOf s → callerSees r ≡ callerSees s → neededOf r ≡ neededOf s
+    → r .credentials .privileges ≡ s .credentials .privileges → decide r ≡ decide s
+same-decision r s v c n p =
+    decide-needed r
+    ∙ ap₂ (λ (t : Bool) (rest : Answer ℕ). require t 22 rest) v (ap₂ (λ (t : Bool) (rest : Answer ℕ). require t 13 rest) c (ap₂ answerBy n p))
+    ∙ sym (decide-needed s)
 
 -- the tuple, or that there is none, where a label governs and the tuple is valid
 pub label-governs : (r : Request) (f g : Bool) (t u : Tuple) → r .object .present .label ≡ true
     → implies f (Tuple.validOf t) ≡ true → implies g (Tuple.validOf u) ≡ true → decide (withTuple r f t) ≡ decide (withTuple r g u)
-unfolding validOf objectValid neededOf metOf
-label-governs r f g t u e h k = same-decision _ _ (rw (e, h, k)) (rw e) refl
+unfolding validOf objectValid callerSees neededOf metOf
+label-governs r f g t u e h k = same-decision _ _ (rw (e, h, k)) refl (rw e) refl
 
 -- what a label or a tuple holds that is not there
 pub absent-label : (r : Request) (l m : Label) → decide (withLabel r false l) ≡ decide (withLabel r false m)
-unfolding validOf objectValid neededOf metOf
-absent-label r l m = same-decision _ _ refl refl refl
+unfolding validOf objectValid callerSees neededOf metOf
+absent-label r l m = same-decision _ _ refl refl refl refl
 
 pub absent-tuple : (r : Request) (t u : Tuple) → decide (withTuple r false t) ≡ decide (withTuple r false u)
-unfolding validOf objectValid neededOf metOf
-absent-tuple r t u = same-decision _ _ refl refl refl
+unfolding validOf objectValid callerSees neededOf metOf
+absent-tuple r t u = same-decision _ _ refl refl refl refl
 
 -- the file kind of what is no file
 pub kind-of-no-file : (r : Request) (k l : FileKind) → isFile (r .object .class) ≡ false → decide (withKind r k) ≡ decide (withKind r l)
-unfolding validOf objectValid kindValid neededOf metOf
-kind-of-no-file r k l e = same-decision _ _ (rw e) refl refl
+unfolding validOf objectValid kindValid callerSees neededOf metOf
+kind-of-no-file r k l e = same-decision _ _ (rw e) refl refl refl
 
 -- the attribute type where no attribute is asked for
 pub attribute-unasked : (r : Request) (a b : ℕ) → (asks (r .intents) intentGet || asks (r .intents) intentSet) ≡ false
     → decide (withAttribute r a) ≡ decide (withAttribute r b)
-unfolding validOf attributeValid neededOf
-attribute-unasked r a b e = same-decision _ _ (rw e) refl refl
+unfolding validOf attributeValid callerSees neededOf
+attribute-unasked r a b e = same-decision _ _ (rw e) refl refl refl
+
+-- ---- the caller
+
+-- an invalid one is refused with 22, with the override too, whatever it asks
+pub invalid-caller : (r : Request) → callerValid (r .caller) ≡ false → decide r ≡ refused 22 none
+invalid-caller r e =
+    decide-needed r ∙ stopped (validOf r) 22 _ (not-so (validOf r) (λ h. true≢false (sym (valid-parts r h .caller) ∙ e)))
+
+-- one that does not see what it asks about is refused with 13, whatever privileges the subject has and whatever it intends
+pub unseeing-caller : (r : Request) (p : Privileges) (intents attribute : ℕ) → callerSees r ≡ false
+    → validOf (withIntents (withPrivileges r p) intents attribute) ≡ true
+    → decide (withIntents (withPrivileges r p) intents attribute) ≡ refused 13 none
+unfolding decideBy callerSees
+unseeing-caller r p intents attribute e v = passed _ 22 _ v ∙ stopped _ 13 _ e
+
+-- one that may ask
+pub record MayAsk (r : Request) (c : Caller) : Type 0 where
+  pub valid : callerValid c ≡ true
+  pub seen : callerSees (withCaller r c) ≡ true
+
+-- it plays no other part: two that may ask get the same decision, so that the override by which one of them sees never makes the answer 1
+pub caller-no-other-part : (r : Request) (c d : Caller) → MayAsk r c → MayAsk r d → decide (withCaller r c) ≡ decide (withCaller r d)
+unfolding validOf neededOf
+caller-no-other-part r c d f g = same-decision _ _ (rw (f .valid, g .valid)) (f .seen ∙ sym (g .seen)) refl refl
+
+-- where a process asks for itself, without the override, it sees itself, and has to dominate the object's label, whatever it intends
+pub asks-for-itself : (r : Request) → r .caller .label ≡ r .credentials .label → r .caller .«read_override» ≡ false
+    → callerSees r ≡ implies (r .object .present .label) (dominatesOf (r .credentials .label) (r .object .label))
+asks-for-itself r e o = caller-dominates r o ∙ rw (e, dominates-refl (r .credentials .label))

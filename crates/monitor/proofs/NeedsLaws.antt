@@ -4,7 +4,7 @@ use mathlib.Core.List.{List, [], _∷_}
 use mathlib.Core.Option.{none}
 use mathlib.Core.Path.{_≡_, refl, ap, ap₂, _∙_}
 use Rattle.label.specs.Answer.{granted, refused, require}
-use Rattle.monitor.specs.Monitor.{Row, any, applies, decide, decideBy, denied, grantBy, metOf, overrideOf, table, unmet, validOf}
+use Rattle.monitor.specs.Monitor.{Row, any, applies, callerSees, decide, decideBy, denied, grantBy, intentsBy, metOf, overrideOf, table, unmet, validOf}
 use Rattle.monitor.specs.Needs.{answerBy, modifiesOf, neededOf, observesOf}
 use Rattle.monitor.specs.declared.Access.{Access}
 use Rattle.monitor.specs.declared.Access.the-variants.{Observe, Modify}
@@ -96,9 +96,14 @@ denied-needed r =
     (neither (observesOf (r .intents)) (met Observe) (p .read))
     (neither (modifiesOf (r .intents) (r .object .class)) (met Modify) (p .write))
 
-pub decide-needed : (r : Request) → decide r ≡ require (validOf r) 22 (answerBy (neededOf r) (r .credentials .privileges))
-unfolding decideBy grantBy answerBy neededOf
-decide-needed r = rw (denied-needed r, unmet-needed r)
+pub intents-needed : (r : Request) → intentsBy table r ≡ answerBy (neededOf r) (r .credentials .privileges)
+unfolding intentsBy grantBy answerBy neededOf
+intents-needed r = rw (denied-needed r, unmet-needed r)
+
+pub decide-needed : (r : Request) →
+    decide r ≡ require (validOf r) 22 (require (callerSees r) 13 (answerBy (neededOf r) (r .credentials .privileges)))
+unfolding decideBy
+decide-needed r = rw (intents-needed r)
 
 -- ---- what is answered to a valid request, case by case
 

@@ -2,6 +2,7 @@
 use mathlib.Core.Bool.{Bool, true, false, _&&_, true≢false}
 use mathlib.Core.Path.{_≡_, refl, sym, _∙_}
 use Rattle.label.specs.Answer.{Answer, granted, require, testOf}
+use Rattle.label.specs.Caller.{callerValid}
 use Rattle.label.specs.Label
 use Rattle.label.specs.declared.Label.{Label}
 use Rattle.label.specs.declared.answer.Test.{Test}
@@ -21,6 +22,7 @@ pub record Valid (r : Request) : Type 0 where
   pub object : objectValid (r .object) ≡ true
   pub kind : kindValid (r .intents) (r .object .class) (r .object .kind) ≡ true
   pub attribute : attributeValid (r .intents) (r .attribute) ≡ true
+  pub caller : callerValid (r .caller) ≡ true
 
 pub valid-parts : (r : Request) → validOf r ≡ true → Valid r
 unfolding validOf
@@ -29,7 +31,9 @@ valid-parts r e =
     let c = credentialsValid (r .credentials) in
     let o = objectValid (r .object) in
     let k = kindValid (r .intents) (r .object .class) (r .object .kind) in
-    let h = first-true (i && c && o && k) _ e in
+    let a = attributeValid (r .intents) (r .attribute) in
+    let j = first-true (i && c && o && k && a) _ e in
+    let h = first-true (i && c && o && k) a j in
     let g = first-true (i && c && o) k h in
     let f = three-true i c o g in
     record {
@@ -37,7 +41,8 @@ valid-parts r e =
       credentials = f .1;
       object = f .2;
       kind = second-true (i && c && o) k h;
-      attribute = second-true (i && c && o && k) _ e;
+      attribute = second-true (i && c && o && k) a j;
+      caller = second-true (i && c && o && k && a) _ e;
     }
 
 -- a label inside a valid range is valid

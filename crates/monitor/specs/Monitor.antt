@@ -1,9 +1,10 @@
--- Document 01, "The monitor". Assumes nothing.
+-- Document 01, "The monitor", with document 02's request 2026-01, who may ask it. Assumes nothing.
 use mathlib.Core.Bool.{Bool, true, false, cond, not, _&&_, _||_}
 use mathlib.Core.List.{List, [], _∷_}
 use Prim.Native.Nat.{ℕ}
 use lib.Dec.{eqb, leb, ltb}
 use Rattle.label.specs.Answer.{Answer, granted, refusedBy, require}
+use Rattle.label.specs.Caller.{callerValid, seesOf}
 use Rattle.label.specs.Label
 use Rattle.label.specs.Words.{bit}
 use Rattle.label.specs.declared.Label.{Label}
@@ -108,6 +109,15 @@ validOf r =
     && objectValid (r .object)
     && kindValid (r .intents) (r .object .class) (r .object .kind)
     && attributeValid (r .intents) (r .attribute)
+    && callerValid (r .caller)
+
+-- ---- between the first and the second step: who asks
+
+-- whether the caller may see the credentials' label, and the object's where there is one
+unfoldable pub callerSees : Request → Bool
+callerSees r =
+    seesOf (r .caller) (r .credentials .label)
+    && implies (r .object .present .label) (seesOf (r .caller) (r .object .label))
 
 -- ---- the second step: the table of intents
 
@@ -179,17 +189,20 @@ unfoldable pub any : (Row → Bool) → List Row → Bool
 any f [] = false
 any f (x ∷ xs) = f x || any f xs
 
--- ---- the three steps, and the answer
+-- ---- the steps, and the answer
 
 -- what a grant answers: 1 if any privilege was needed, and set attribute always needs one, else 0
 unfoldable pub grantBy : List Row → Request → ℕ
 grantBy rows r = cond (any (unmet r) rows || asks (r .intents) intentSet) 1 0
 
+-- what is answered once the caller may ask, whoever that is
+unfoldable pub intentsBy : List Row → Request → Answer ℕ
+intentsBy rows r =
+    require (not (any (denied r) rows)) 13
+    (require (not (asks (r .intents) intentSet && not (r .credentials .privileges .relabel))) 1 (granted (grantBy rows r)))
+
 unfoldable pub decideBy : List Row → Request → Answer ℕ
-decideBy rows r =
-    require (validOf r) 22
-    (require (not (any (denied r) rows)) 13
-    (require (not (asks (r .intents) intentSet && not (r .credentials .privileges .relabel))) 1 (granted (grantBy rows r))))
+decideBy rows r = require (validOf r) 22 (require (callerSees r) 13 (intentsBy rows r))
 
 -- the monitor's decision
 abbrev pub decide : Request → Answer ℕ

@@ -1,10 +1,12 @@
-// The reference monitor: may a subject with these credentials do that to an object with these attributes. `check` tests all that it is
-// handed, and decides by document 01's three steps.
+// The reference monitor: may a subject with these credentials do that to an object with these attributes, and may the caller ask. `check`
+// tests all that it is handed, and decides by document 01's steps.
 mod intent;
 pub mod numbers;
 
 use label::Label;
 use label::answer::Test;
+use label::caller;
+use label::caller::Caller;
 use label::components;
 use label::errno::Errno;
 use range::Range;
@@ -15,7 +17,7 @@ ghost use mathlib.Core.Bool.{true, _&&_};
 ghost use Rattle.label.specs.Answer.{granted, require, testOf};
 ghost use Rattle.label.specs.Label as labels;
 ghost use Rattle.range.specs.Tuple as tuples;
-ghost use Rattle.monitor.specs.Monitor.{credentialsValid, decide, decisionOf, implies, metOf, objectValid, tupleValid, underLabel, underTuple, validOf};
+ghost use Rattle.monitor.specs.Monitor.{callerSees, credentialsValid, decide, decisionOf, implies, metOf, objectValid, tupleValid, underLabel, underTuple, validOf};
 ghost use Rattle.monitor.specs.Needs.{answerBy, neededOf};
 
 // Document 01's privileges: read override, write override, relabel.
@@ -25,7 +27,7 @@ pub struct Privileges {
     pub relabel: bool,
 }
 
-// A subject.
+// The subject, whom a request is about.
 pub struct Credentials {
     pub label: Label,
     pub range: Range,
@@ -62,12 +64,13 @@ pub struct Object {
     pub tuple: Tuple,
 }
 
-// What the monitor is asked. Intents and attribute type are numbers of any size.
+// What the monitor is asked. Intents and attribute type are numbers of any size. The caller is who asks, be it the subject itself or another.
 pub struct Request {
     pub credentials: Credentials,
     pub object: Object,
     pub intents: u64,
     pub attribute: u64,
+    pub caller: Caller,
 }
 
 // A grant for which no privilege was needed, a grant for which one was, or a refusal.
@@ -125,6 +128,16 @@ fn valid(r: Request) -> bool
         & object_valid(o)
         & intent::kind_valid(r.intents, class, kind)
         & intent::attribute_valid(r.intents, r.attribute)
+        & label::valid(r.caller.label)
+}
+
+// Whether the caller may ask: it sees the subject's label, and the object's where there is one.
+fn caller_sees(r: Request) -> bool
+    ensures { λ b. ⌜ b ≡ callerSees r ⌝ }
+{
+    let c = r.caller;
+    let o = r.object;
+    caller::sees(c, r.credentials.label) & (!o.present.label | caller::sees(c, o.label))
 }
 
 // Whether the test of an access is met under a label.
@@ -165,7 +178,7 @@ fn needed(r: Request, inside: bool) -> Privileges
     }
 }
 
-// What is answered where privileges are needed: document 01's second and third step, and the grants.
+// What is answered where privileges are needed: 13 for the intents, 1 for relabel, and the grants.
 fn answer(needed: Privileges, p: Privileges) -> Decision
     ensures { λ d. ⌜ decisionOf d ≡ answerBy needed p ⌝ }
 {
@@ -189,6 +202,9 @@ fn check_tested(r: Request, inside: bool) -> Decision
 {
     if !valid(r) {
         return Decision::Refused(Errno::Invalid);
+    }
+    if !caller_sees(r) {
+        return Decision::Refused(Errno::Access);
     }
     answer(needed(r, inside), r.credentials.privileges)
 }

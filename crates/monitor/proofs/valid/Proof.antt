@@ -6,7 +6,8 @@ use Rattle.monitor.proofs.valid.Tie as tie
 returns : tie.Need-returns
 unfolding validOf
 returns c =
-    rw (c .before .before .before .before .valid .ensures, c .before .before .before .credentials-valid .ensures, c .before .before .object-valid .ensures, c .before .kind-valid .ensures, c .attribute-valid .ensures)
+    let o = c .before .before .before in
+    rw (o .before .before .valid .ensures, o .before .credentials-valid .ensures, o .object-valid .ensures, c .before .before .kind-valid .ensures, c .before .attribute-valid .ensures, c .valid2 .ensures)
 
 pub valid-spec : {M : Type 1} → statement M
-valid-spec = tie.close (tie.spec (search needs) (search needs) (λ c. search needs) (search needs) (search needs) returns)
+valid-spec = tie.close (tie.spec (search needs) (search needs) (λ c. search needs) (search needs) (search needs) (search needs) returns)
