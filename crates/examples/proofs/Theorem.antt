@@ -4,6 +4,7 @@ use mathlib.Core.Path.{refl}
 use Prim.Native.Nat.{ℕ, zero, suc}
 use lib.ListN.{drop, take}
 use Rattle.label.specs.Buffer.{lengthOf}
+use Rattle.label.specs.Caller.{seesOf}
 use Rattle.label.specs.Index.{every, firstFrom, lastBelow, sumFrom, tabulate}
 use Rattle.label.specs.Label
 use Rattle.label.specs.Region.{regionOf}
@@ -19,7 +20,6 @@ use Rattle.hexline.specs.Regions.{presenceOf, presentBelow, regionAt, regionByt
 use Rattle.alias.specs.Lines.{entriesOf, linesOf}
 use Rattle.alias.specs.Lookup.{calledOf, lastOf, sameValue, standsFor}
 use Rattle.alias.specs.Table
-use Rattle.text.specs.Subject.{seesOf}
 use Rattle.text.specs.Write
 use Rattle.segments.specs.Calls
 use Rattle.segments.specs.Operator

@@ -7,9 +7,11 @@ use Prim.Native.Nat.{ℕ}
 use native.Mathlib.Omega.{arith}
 use lib.Seq.{drop-append-seam, take-append-seam}
 use Rattle.label.specs.Answer.{Answer, andThen, granted, require}
+use Rattle.label.specs.Caller.{callerValid, seesOf}
 use Rattle.label.specs.Label
 use Rattle.label.specs.Words.{membersOf}
 use Rattle.label.specs.declared.Label.{Label}
+use Rattle.label.specs.declared.caller.Caller.{Caller}
 use Rattle.label.proofs.AnswerLaws.{grant-passed, grant-told, grants-same}
 use Rattle.label.proofs.BoolLaws.{first-true, second-true}
 use Rattle.range.specs.Range
@@ -22,12 +24,10 @@ use Rattle.hexline.specs.declared.entry.Entry.{Entry}
 use Rattle.hexline.specs.declared.entry.Value.the-variants.{Hierarchy, Category, WholeLabel}
 use Rattle.alias.proofs.TableLaws.{Good}
 use Rattle.text.specs.Read.{endsOf, entryNamed, foundEntry, labelBy, labelIn, labelNamed, labelSeen, plain, rangeFrom, readLabelOf, readRangeOf}
-use Rattle.text.specs.Subject.{seesOf, subjectValid}
 use Rattle.text.specs.Write.{Shown, allNamed, categoriesNamed, categoriesText, colon, comma, definitionNamed, definitionText, hiddenHigh, highMarker, labelText, lowMarker, lowText, nameFor, named, namedIn, shown, textIn, wholeText, writeLabelOf, writeRangeOf}
 use Rattle.text.specs.declared.Form.{Form}
 use Rattle.text.specs.declared.Form.the-variants.{Definition, Alias}
 use Rattle.text.specs.declared.Style.{Style}
-use Rattle.text.specs.declared.Subject.{Subject}
 use Rattle.text.specs.declared.Variant.{Variant}
 use Rattle.text.proofs.NameLaws.{find-nothing, name-without}
 use Rattle.text.proofs.RoundLaws.{label-back, label-single}
@@ -68,57 +68,57 @@ module _ (es : List Entry) (good : Good es) where
 
   -- ---- labels
 
-  seen-back : (s : Subject) (style : Style) (l : Label) → Label.Typed l → seesOf s l ≡ true → allNamed es style l ≡ true → labelSeen es s (labelText es style l) ≡ granted l
+  seen-back : (s : Caller) (style : Style) (l : Label) → Label.Typed l → seesOf s l ≡ true → allNamed es style l ≡ true → labelSeen es s (labelText es style l) ≡ granted l
   unfolding labelSeen
   seen-back s style l t e n =
       ap (λ (a : Answer Label). andThen a (λ (l : Label). require (seesOf s l) 22 (granted l))) (label-back es good (style .variant) (style .form) l t n) ∙ rw e
 
-  pub label-reads : (s : Subject) (style : Style) (l : Label) (text : List ℕ) → Label.Typed l → writeLabelOf es s style l ≡ granted text → readLabelOf es s text ≡ granted l
+  pub label-reads : (s : Caller) (style : Style) (l : Label) (text : List ℕ) → Label.Typed l → writeLabelOf es s style l ≡ granted text → readLabelOf es s text ≡ granted l
   unfolding writeLabelOf readLabelOf
   label-reads s style l text t e =
-      let p = grant-passed (Label.validOf l && subjectValid s) 22 text _ (sym e) in
+      let p = grant-passed (Label.validOf l && callerValid s) 22 text _ (sym e) in
       let q = grant-passed (seesOf s l) 13 text _ (p .1) in
       let r = grant-passed (allNamed es style l) 2 text _ (q .1) in
       let same : text ≡ labelText es style l = grants-same text (labelText es style l) (r .1) in
-      rw (second-true (Label.validOf l) (subjectValid s) (p .0), same) (seen-back s style l t (q .0) (r .0))
+      rw (second-true (Label.validOf l) (callerValid s) (p .0), same) (seen-back s style l t (q .0) (r .0))
 
   -- ---- ranges
 
   -- the low end up to the blank, the marker, and what follows
-  ends-at : (s : Subject) (low : Label) (text rest : List ℕ) → Without blank text → labelSeen es s text ≡ granted low
+  ends-at : (s : Caller) (low : Label) (text rest : List ℕ) → Without blank text → labelSeen es s text ≡ granted low
       → endsOf es s (text ++ (highMarker ++ rest)) ≡ rangeFrom es s low rest
   unfolding endsOf
   ends-at s low text rest w e =
       rw (index-behind blank text (45 ∷ 72 ∷ 32 ∷ rest) w, take-append-seam text (highMarker ++ rest), drop-append-seam text (highMarker ++ rest), e, same-self highMarker)
 
-  range-shown : (s : Subject) (low : Label) (text rest : List ℕ) → subjectValid s ≡ true → Without blank text → labelSeen es s text ≡ granted low
+  range-shown : (s : Caller) (low : Label) (text rest : List ℕ) → callerValid s ≡ true → Without blank text → labelSeen es s text ≡ granted low
       → readRangeOf es s (lowMarker ++ (text ++ (highMarker ++ rest))) ≡ rangeFrom es s low rest
   unfolding readRangeOf
   range-shown s low text rest v w e = rw (v, same-self lowMarker) (ends-at s low text rest w e)
 
   -- what a grant of a range's text tells
-  record RangeGrant (s : Subject) (style : Style) (x : Range) (t : Shown) (high : Bool) : Type 0 where
+  record RangeGrant (s : Caller) (style : Style) (x : Range) (t : Shown) (high : Bool) : Type 0 where
     range : Range.validOf x ≡ true
-    subject : subjectValid s ≡ true
+    subject : callerValid s ≡ true
     low : seesOf s (x .low) ≡ true
     high-is : seesOf s (x .high) ≡ high
     text : granted t ≡ cond high (shown (allNamed es style (x .low) && allNamed es style (x .high)) 0 (wholeText es style x)) (shown (allNamed es style (x .low)) 1 (lowText es style x))
 
-  range-grant : (s : Subject) (style : Style) (x : Range) (t : Shown) → writeRangeOf es s style x ≡ granted t → RangeGrant s style x t (seesOf s (x .high))
+  range-grant : (s : Caller) (style : Style) (x : Range) (t : Shown) → writeRangeOf es s style x ≡ granted t → RangeGrant s style x t (seesOf s (x .high))
   unfolding writeRangeOf
   range-grant s style x t e =
-      let p = grant-passed (Range.validOf x && subjectValid s) 22 t _ (sym e) in
+      let p = grant-passed (Range.validOf x && callerValid s) 22 t _ (sym e) in
       let q = grant-passed (seesOf s (x .low)) 13 t _ (p .1) in
       record {
-        range = first-true (Range.validOf x) (subjectValid s) (p .0);
-        subject = second-true (Range.validOf x) (subjectValid s) (p .0);
+        range = first-true (Range.validOf x) (callerValid s) (p .0);
+        subject = second-true (Range.validOf x) (callerValid s) (p .0);
         low = q .0;
         high-is = refl;
         text = q .1;
       }
 
   -- a range with both ends
-  whole-back : (s : Subject) (style : Style) (x : Range) (t : Shown) → Range.TypedRange x → RangeGrant s style x t true → readRangeOf es s (t .text) ≡ granted x
+  whole-back : (s : Caller) (style : Style) (x : Range) (t : Shown) → Range.TypedRange x → RangeGrant s style x t true → readRangeOf es s (t .text) ≡ granted x
   unfolding wholeText rangeFrom isNameByte isLetter
   whole-back s style x t ty g =
       let a = allNamed es style (x .low) in
@@ -136,7 +136,7 @@ module _ (es : List Entry) (good : Good es) where
       ∙ rw (valid-parts x (g .range) .order)
 
   -- a range whose high end is not shown
-  hidden-refused : (s : Subject) (style : Style) (x : Range) (t : Shown) → Range.TypedRange x → RangeGrant s style x t false → readRangeOf es s (t .text) ≡ plain
+  hidden-refused : (s : Caller) (style : Style) (x : Range) (t : Shown) → Range.TypedRange x → RangeGrant s style x t false → readRangeOf es s (t .text) ≡ plain
   unfolding lowText rangeFrom labelSeen labelNamed entryNamed isNameByte isLetter
   hidden-refused s style x t ty g =
       let a = allNamed es style (x .low) in
@@ -152,7 +152,7 @@ module _ (es : List Entry) (good : Good es) where
       ∙ range-shown s (x .low) (labelText es style (x .low)) (63 ∷ []) (g .subject) w low
       ∙ ap (λ (a : Answer Label). andThen (andThen a (λ (l : Label). require (seesOf s l) 22 (granted l))) (λ (high : Label). require (Label.dominatesOf high (x .low)) 22 (granted (Range.rangeOf (x .low) high)))) none-named
 
-  pub range-reads : (s : Subject) (style : Style) (x : Range) (t : Shown) → Range.TypedRange x → writeRangeOf es s style x ≡ granted t → t .status ≡ 0
+  pub range-reads : (s : Caller) (style : Style) (x : Range) (t : Shown) → Range.TypedRange x → writeRangeOf es s style x ≡ granted t → t .status ≡ 0
       → readRangeOf es s (t .text) ≡ granted x
   range-reads s style x t ty e z = go (seesOf s (x .high)) (range-grant s style x t e)
     where
@@ -160,7 +160,7 @@ module _ (es : List Entry) (good : Good es) where
       go true g = whole-back s style x t ty g
       go false g = let p = grant-told (allNamed es style (x .low)) 2 t _ (g .text) in let q = ap (λ (t : Shown). t .status) (p .1) in absurd (omega arith)
 
-  pub range-refused : (s : Subject) (style : Style) (x : Range) (t : Shown) → Range.TypedRange x → writeRangeOf es s style x ≡ granted t → t .status ≡ 1
+  pub range-refused : (s : Caller) (style : Style) (x : Range) (t : Shown) → Range.TypedRange x → writeRangeOf es s style x ≡ granted t → t .status ≡ 1
       → readRangeOf es s (t .text) ≡ plain
   range-refused s style x t ty e z = go (seesOf s (x .high)) (range-grant s style x t e)
     where

@@ -8,10 +8,12 @@ use native.Mathlib.Omega.{arith}
 use lib.Dec.{ltb}
 use lib.ListN.{drop, length, take}
 use Rattle.label.specs.Answer.{Answer, andThen, granted, refused, require}
+use Rattle.label.specs.Caller.{callerValid, seesOf}
 use Rattle.label.specs.Index.{firstFrom}
 use Rattle.label.specs.Label
 use Rattle.label.specs.Words.{includesOf, singleOf, unionOf}
 use Rattle.label.specs.declared.Label.{Label}
+use Rattle.label.specs.declared.caller.Caller.{Caller}
 use Rattle.label.proofs.AnswerLaws.{grant-passed, grant-told, grants-same}
 use Rattle.label.proofs.LabelLaws.{hierarchy-valid}
 use Rattle.label.proofs.SearchLaws.{first-least}
@@ -28,9 +30,7 @@ use Rattle.alias.specs.Lines.{entryAt}
 use Rattle.alias.specs.Lookup.{calledOf, findOf}
 use Rattle.alias.proofs.TableLaws.{Good}
 use Rattle.text.specs.Read.{beginsWith, categoriesRead, categoryBy, categoryNamed, composedOf, endsOf, entryNamed, foundEntry, hierarchyBy, hierarchyNamed, labelBy, labelIn, labelNamed, labelSeen, noCategories, rangeFrom, readLabelOf, readRangeOf}
-use Rattle.text.specs.Subject.{seesOf, subjectValid}
 use Rattle.text.specs.Write.{colon, comma, highMarker, lowMarker}
-use Rattle.text.specs.declared.Subject.{Subject}
 
 -- ---- the plain refusal
 
@@ -116,21 +116,21 @@ module _ (es : List Entry) where
       let i = indexOf colon text in
       plain-cond (ltb i (length text)) _ _ (plain-composed (take i text) (drop (i + 1) text)) (plain-named text)
 
-  plain-seen : (s : Subject) (text : List ℕ) → Plain (labelSeen es s text)
+  plain-seen : (s : Caller) (text : List ℕ) → Plain (labelSeen es s text)
   unfolding labelSeen
   plain-seen s text = plain-then (labelIn es text) _ (plain-label text) (λ l. plain-require (seesOf s l) _ (plain-grant l))
 
   -- every refusal of a label is the plain 22
-  pub label-plain : (s : Subject) (text : List ℕ) → Plain (readLabelOf es s text)
+  pub label-plain : (s : Caller) (text : List ℕ) → Plain (readLabelOf es s text)
   unfolding readLabelOf
-  label-plain s text = plain-require (subjectValid s) _ (plain-seen s text)
+  label-plain s text = plain-require (callerValid s) _ (plain-seen s text)
 
-  plain-from : (s : Subject) (low : Label) (text : List ℕ) → Plain (rangeFrom es s low text)
+  plain-from : (s : Caller) (low : Label) (text : List ℕ) → Plain (rangeFrom es s low text)
   unfolding rangeFrom
   plain-from s low text =
       plain-then (labelSeen es s text) _ (plain-seen s text) (λ high. plain-require (Label.dominatesOf high low) _ (plain-grant (Range.rangeOf low high)))
 
-  plain-ends : (s : Subject) (text : List ℕ) → Plain (endsOf es s text)
+  plain-ends : (s : Caller) (text : List ℕ) → Plain (endsOf es s text)
   unfolding endsOf
   plain-ends s text =
       let n = indexOf blank text in
@@ -138,9 +138,9 @@ module _ (es : List Entry) where
       (λ low. plain-require (beginsWith highMarker (drop n text)) _ (plain-from s low (drop (length highMarker) (drop n text))))
 
   -- every refusal of a range is the plain 22
-  pub range-plain : (s : Subject) (text : List ℕ) → Plain (readRangeOf es s text)
+  pub range-plain : (s : Caller) (text : List ℕ) → Plain (readRangeOf es s text)
   unfolding readRangeOf
-  range-plain s text = plain-require (subjectValid s) _ (plain-require (beginsWith lowMarker text) _ (plain-ends s (drop (length lowMarker) text)))
+  range-plain s text = plain-require (callerValid s) _ (plain-require (beginsWith lowMarker text) _ (plain-ends s (drop (length lowMarker) text)))
 
 -- ---- what is granted
 
@@ -155,12 +155,12 @@ followed (granted x) f y e = record { first = x; first-is = refl; then-is = e }
 followed (refused n d) f y e = let z : _≡_ {A = ℕ} 0 1 = cc in absurd (omega arith)
 
 -- a label that is valid and that the subject may see
-pub record InSight (s : Subject) (l : Label) : Type 0 where
+pub record InSight (s : Caller) (l : Label) : Type 0 where
   pub valid : Label.validOf l ≡ true
   pub seen : seesOf s l ≡ true
 
 -- a range that is valid and both of whose ends the subject may see
-pub record RangeInSight (s : Subject) (x : Range) : Type 0 where
+pub record RangeInSight (s : Caller) (x : Range) : Type 0 where
   pub valid : Range.validOf x ≡ true
   pub low : seesOf s (x .low) ≡ true
   pub high : seesOf s (x .high) ≡ true
@@ -212,18 +212,18 @@ module _ (es : List Entry) (good : Good es) where
       go true q = composed-valid (take (indexOf colon text) text) (drop (indexOf colon text + 1) text) l q
       go false q = named-valid text l q
 
-  seen-sight : (s : Subject) (text : List ℕ) (l : Label) → labelSeen es s text ≡ granted l → InSight s l
+  seen-sight : (s : Caller) (text : List ℕ) (l : Label) → labelSeen es s text ≡ granted l → InSight s l
   unfolding labelSeen
   seen-sight s text l h =
       let x = followed (labelIn es text) (λ (l : Label). require (seesOf s l) 22 (granted l)) l h in
       let t = grant-told (seesOf s (x .first)) 22 l (x .first) (sym (x .then-is)) in
       record { valid = ap Label.validOf (t .1) ∙ label-valid text (x .first) (x .first-is); seen = ap (seesOf s) (t .1) ∙ t .0 }
 
-  pub label-sight : (s : Subject) (text : List ℕ) (l : Label) → readLabelOf es s text ≡ granted l → InSight s l
+  pub label-sight : (s : Caller) (text : List ℕ) (l : Label) → readLabelOf es s text ≡ granted l → InSight s l
   unfolding readLabelOf
-  label-sight s text l h = seen-sight s text l (sym (grant-passed (subjectValid s) 22 l (labelSeen es s text) (sym h) .1))
+  label-sight s text l h = seen-sight s text l (sym (grant-passed (callerValid s) 22 l (labelSeen es s text) (sym h) .1))
 
-  from-sight : (s : Subject) (low : Label) (text : List ℕ) (x : Range) → InSight s low → rangeFrom es s low text ≡ granted x → RangeInSight s x
+  from-sight : (s : Caller) (low : Label) (text : List ℕ) (x : Range) → InSight s low → rangeFrom es s low text ≡ granted x → RangeInSight s x
   unfolding rangeFrom
   from-sight s low text x l h =
       let y = followed (labelSeen es s text) (λ (high : Label). require (Label.dominatesOf high low) 22 (granted (Range.rangeOf low high))) x h in
@@ -236,7 +236,7 @@ module _ (es : List Entry) (good : Good es) where
         high = g .seen;
       })
 
-  ends-sight : (s : Subject) (text : List ℕ) (x : Range) → endsOf es s text ≡ granted x → RangeInSight s x
+  ends-sight : (s : Caller) (text : List ℕ) (x : Range) → endsOf es s text ≡ granted x → RangeInSight s x
   unfolding endsOf
   ends-sight s text x h =
       let n = indexOf blank text in
@@ -244,9 +244,9 @@ module _ (es : List Entry) (good : Good es) where
       let y = followed (labelSeen es s (take n text)) (λ (low : Label). require (beginsWith highMarker (drop n text)) 22 (rangeFrom es s low rest)) x h in
       from-sight s (y .first) rest x (seen-sight s (take n text) (y .first) (y .first-is)) (sym (grant-passed (beginsWith highMarker (drop n text)) 22 x (rangeFrom es s (y .first) rest) (sym (y .then-is)) .1))
 
-  pub range-sight : (s : Subject) (text : List ℕ) (x : Range) → readRangeOf es s text ≡ granted x → RangeInSight s x
+  pub range-sight : (s : Caller) (text : List ℕ) (x : Range) → readRangeOf es s text ≡ granted x → RangeInSight s x
   unfolding readRangeOf
   range-sight s text x h =
       let ends = drop (length lowMarker) text in
-      let a = grant-passed (subjectValid s) 22 x (require (beginsWith lowMarker text) 22 (endsOf es s ends)) (sym h) .1 in
+      let a = grant-passed (callerValid s) 22 x (require (beginsWith lowMarker text) 22 (endsOf es s ends)) (sym h) .1 in
       ends-sight s ends x (sym (grant-passed (beginsWith lowMarker text) 22 x (endsOf es s ends) a .1))

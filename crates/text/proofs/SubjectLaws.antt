@@ -5,7 +5,9 @@ use mathlib.Core.Path.{_≡_, sym, ap, _∙_}
 use Prim.Native.Nat.{ℕ, _+_}
 use lib.ListN.{take}
 use Rattle.label.specs.Answer.{Answer, Answered, andThen, require}
+use Rattle.label.specs.Caller.{callerValid, seesOf}
 use Rattle.label.specs.declared.Label.{Label}
+use Rattle.label.specs.declared.caller.Caller.{Caller}
 use Rattle.label.specs.declared.answer.Outcome.{Outcome}
 use Rattle.label.specs.declared.answer.Outcome.the-variants.{Granted}
 use Rattle.label.proofs.AnswerLaws.{grant-next, granted-is, require-then}
@@ -14,8 +16,7 @@ use Rattle.alias.specs.Lines.{entriesBy, entriesOf, linesOf, noLines}
 use Rattle.alias.specs.Table.{checkOf}
 use Rattle.alias.specs.declared.LineStarts.{LineStarts}
 use Rattle.alias.proofs.TableLaws.{checked-lines}
-use Rattle.text.specs.Subject.{allowedOf, seesOf, subjectValid, withTable}
-use Rattle.text.specs.declared.Subject.{Subject}
+use Rattle.text.specs.Subject.{allowedOf, withTable}
 
 -- a table that is granted: the entries by its starts are its own
 pub table-next : {A : Type 0} (more : Bool) (bytes : List ℕ) {starts : List ℕ} {o : Outcome} {x : LineStarts} → Answered o x noLines (checkOf more bytes) → o ≡ Granted
@@ -25,7 +26,7 @@ table-next more bytes {starts} {o} {x} h e s answer =
     ∙ ap (λ (ls : List (List ℕ)). answer (entriesOf ls)) (rw s (sym (checked-lines more bytes x (granted-is h e))))
 
 -- what follows where a label may be shown
-pub allowed-next : {A : Type 0} (valid : Bool) (s : Subject) (l : Label) (rest : Answer A)
-    → require (valid && subjectValid s) 22 (require (seesOf s l) 13 rest) ≡ andThen (allowedOf valid s l) (λ m. rest)
+pub allowed-next : {A : Type 0} (valid : Bool) (s : Caller) (l : Label) (rest : Answer A)
+    → require (valid && callerValid s) 22 (require (seesOf s l) 13 rest) ≡ andThen (allowedOf valid s l) (λ m. rest)
 unfolding allowedOf
 allowed-next valid s l rest = rw (require-then, require-then)

@@ -5,11 +5,13 @@ use mathlib.Core.Option.{none, some}
 use mathlib.Core.Path.{_≡_, refl}
 use Prim.Native.Nat.{ℕ}
 use Rattle.label.specs.Answer.{granted, refused}
+use Rattle.label.specs.Caller.{seesOf}
 use Rattle.label.specs.Index.{every, firstFrom, lastBelow, tabulate}
 use Rattle.label.specs.Label
 use Rattle.label.specs.Label.{dominatesOf, equalOf}
 use Rattle.label.specs.Words.{bit, combine, has, includesOf, membersBelow, membersOf, sameOf, singleOf, unionOf}
 use Rattle.label.specs.declared.Label.{Label}
+use Rattle.label.specs.declared.caller.Caller.{Caller}
 use Rattle.label.specs.Example.{exampleOf}
 use Rattle.range.specs.Range
 use Rattle.range.specs.declared.Range.{Range}
@@ -23,11 +25,9 @@ use Rattle.alias.specs.Lines.{entriesOf, indexedOf, linesOf}
 use Rattle.alias.specs.Lookup.{calledOf, findOf, lastOf, sameValue, standsFor}
 use Rattle.alias.specs.Table.{badAt, checkOf, judgedOf, repeatsAt, sharesOf}
 use Rattle.text.specs.Read.{categoriesRead, categoryNamed, composedOf, entryNamed, hierarchyNamed, labelIn, labelNamed, labelSeen, plain, readLabelOf}
-use Rattle.text.specs.Subject.{seesOf}
 use Rattle.text.specs.Write.{categoriesNamed, categoriesText, definitionNamed, definitionText, lowText, nameFor, named, namedIn, textIn, writeLabelOf, writeRangeOf, writtenName}
 use Rattle.text.specs.declared.Form.the-variants.{Definition}
 use Rattle.text.specs.declared.Style.{Style}
-use Rattle.text.specs.declared.Subject.{Subject}
 use Rattle.text.specs.declared.Variant.the-variants.{Names}
 
 -- document 01's table: "low" is hierarchy 20; "east", short "e", is category 7
@@ -43,7 +43,7 @@ low = exampleOf 20 []
 abbrev lowEast : Label
 lowEast = exampleOf 20 (7 ∷ [])
 
-abbrev subject : Label → Subject
+abbrev subject : Label → Caller
 subject l = record { label = l; «read_override» = false }
 
 abbrev style : Style

@@ -9,6 +9,7 @@ use native.Mathlib.Omega.{arith}
 use Rattle.label.specs.Answer.{Answer, andThen, granted, refused}
 use Rattle.label.specs.Label
 use Rattle.label.specs.declared.Label.{Label}
+use Rattle.label.specs.declared.caller.Caller.{Caller}
 use Rattle.range.specs.Range
 use Rattle.range.specs.declared.Range.{Range}
 use Rattle.hexline.specs.declared.entry.Entry.{Entry}
@@ -20,7 +21,6 @@ use Rattle.text.specs.Read.{plain, readLabelOf, readRangeOf}
 use Rattle.text.specs.Subject.{withTable}
 use Rattle.text.specs.Write.{Shown, writeLabelOf, writeRangeOf}
 use Rattle.text.specs.declared.Style.{Style}
-use Rattle.text.specs.declared.Subject.{Subject}
 use Rattle.text.proofs.EndsLaws.{label-reads, range-reads, range-refused}
 use Rattle.text.proofs.SightLaws.{InSight, Plain, RangeInSight, label-plain, label-sight, range-plain, range-sight}
 
@@ -41,7 +41,7 @@ module _ (more : Bool) (table : List ℕ) where
   by-table : {A : Type 0} (f : List Entry → Answer A) (x : LineStarts) → checkOf more table ≡ granted x → withTable more table f ≡ f (entriesOf (linesOf table))
   by-table f x e = ap (λ (c : Answer LineStarts). andThen c (λ (x : LineStarts). f (entriesOf (linesOf table)))) e
 
-  module _ (s : Subject) where
+  module _ (s : Caller) where
     -- a label that was written reads back as that label
     pub label-text : (style : Style) (l : Label) (text : List ℕ) → Label.Typed l → withTable more table (λ es. writeLabelOf es s style l) ≡ granted text
         → withTable more table (λ es. readLabelOf es s text) ≡ granted l

@@ -7,9 +7,11 @@ use Prim.Native.Nat.{ℕ, _+_}
 use lib.Dec.{ltb}
 use lib.ListN.{drop, length, replicate, take}
 use Rattle.label.specs.Answer.{Answer, andThen, granted, refused, require}
+use Rattle.label.specs.Caller.{callerValid, seesOf}
 use Rattle.label.specs.Label
 use Rattle.label.specs.Words.{includesOf, singleOf, unionOf, words}
 use Rattle.label.specs.declared.Label.{Label}
+use Rattle.label.specs.declared.caller.Caller.{Caller}
 use Rattle.range.specs.Range
 use Rattle.range.specs.declared.Range.{Range}
 use Rattle.octets.specs.Bytes.{blank, indexOf, sameBytes, split}
@@ -18,9 +20,7 @@ use Rattle.hexline.specs.declared.entry.Value.{Value}
 use Rattle.hexline.specs.declared.entry.Value.the-variants.{Hierarchy, Category, WholeLabel}
 use Rattle.alias.specs.Lines.{entryAt}
 use Rattle.alias.specs.Lookup.{findOf}
-use Rattle.text.specs.Subject.{seesOf, subjectValid}
 use Rattle.text.specs.Write.{colon, comma, highMarker, lowMarker}
-use Rattle.text.specs.declared.Subject.{Subject}
 
 abbrev pub plain : {A : Type 0} → Answer A
 plain = refused 22 none
@@ -86,12 +86,12 @@ labelIn es text =
     (labelNamed es text)
 
 -- the label that a text says, where the subject may see it
-unfoldable pub labelSeen : List Entry → Subject → List ℕ → Answer Label
-labelSeen es s text = andThen (labelIn es text) (λ (l : Label). require (seesOf s l) 22 (granted l))
+unfoldable pub labelSeen : List Entry → Caller → List ℕ → Answer Label
+labelSeen es c text = andThen (labelIn es text) (λ (l : Label). require (seesOf c l) 22 (granted l))
 
 -- reading a label: a bad subject first
-unfoldable pub readLabelOf : List Entry → Subject → List ℕ → Answer Label
-readLabelOf es s text = require (subjectValid s) 22 (labelSeen es s text)
+unfoldable pub readLabelOf : List Entry → Caller → List ℕ → Answer Label
+readLabelOf es c text = require (callerValid c) 22 (labelSeen es c text)
 
 -- ---- ranges
 
@@ -103,16 +103,16 @@ abbrev pub behind : {A : Type 0} → List ℕ → List ℕ → (List ℕ → Ans
 behind marker text next = require (beginsWith marker text) 22 (next (drop (length marker) text))
 
 -- the range of a low end and the text of a high end, which has to dominate it
-unfoldable pub rangeFrom : List Entry → Subject → Label → List ℕ → Answer Range
-rangeFrom es s low text =
-    andThen (labelSeen es s text) (λ (high : Label). require (Label.dominatesOf high low) 22 (granted (Range.rangeOf low high)))
+unfoldable pub rangeFrom : List Entry → Caller → Label → List ℕ → Answer Range
+rangeFrom es c low text =
+    andThen (labelSeen es c text) (λ (high : Label). require (Label.dominatesOf high low) 22 (granted (Range.rangeOf low high)))
 
 -- the low end goes up to the next blank; it is read first, and if that gives no label, its refusal is the answer
-unfoldable pub endsOf : List Entry → Subject → List ℕ → Answer Range
-endsOf es s text =
-    andThen (labelSeen es s (take (indexOf blank text) text))
-    (λ (low : Label). behind highMarker (drop (indexOf blank text) text) (λ (high : List ℕ). rangeFrom es s low high))
+unfoldable pub endsOf : List Entry → Caller → List ℕ → Answer Range
+endsOf es c text =
+    andThen (labelSeen es c (take (indexOf blank text) text))
+    (λ (low : Label). behind highMarker (drop (indexOf blank text) text) (λ (high : List ℕ). rangeFrom es c low high))
 
 -- reading a range
-unfoldable pub readRangeOf : List Entry → Subject → List ℕ → Answer Range
-readRangeOf es s text = require (subjectValid s) 22 (behind lowMarker text (λ (ends : List ℕ). endsOf es s ends))
+unfoldable pub readRangeOf : List Entry → Caller → List ℕ → Answer Range
+readRangeOf es c text = require (callerValid c) 22 (behind lowMarker text (λ (ends : List ℕ). endsOf es c ends))

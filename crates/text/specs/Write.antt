@@ -8,9 +8,11 @@ use lib.Dec.{leb}
 use lib.ListN.{length}
 use Rattle.label.specs.Answer.{Answer, andThen, granted, isGranted, refused, require}
 use Rattle.label.specs.Buffer.{WrittenTo, lengthOf}
+use Rattle.label.specs.Caller.{callerValid, seesOf}
 use Rattle.label.specs.Label
 use Rattle.label.specs.Words.{membersOf}
 use Rattle.label.specs.declared.Label.{Label}
+use Rattle.label.specs.declared.caller.Caller.{Caller}
 use Rattle.range.specs.Range
 use Rattle.range.specs.declared.Range.{Range}
 use Rattle.octets.specs.Bytes.{ascii}
@@ -20,12 +22,10 @@ use Rattle.hexline.specs.declared.entry.Value.{Value}
 use Rattle.hexline.specs.declared.entry.Value.the-variants.{Hierarchy, Category, WholeLabel}
 use Rattle.alias.specs.Lines.{entryAt}
 use Rattle.alias.specs.Lookup.{lastOf}
-use Rattle.text.specs.Subject.{seesOf, subjectValid}
 use Rattle.text.specs.declared.Form.{Form}
 use Rattle.text.specs.declared.Form.the-variants.{Definition, Alias}
 use Rattle.text.specs.declared.RangeWritten.{RangeWritten}
 use Rattle.text.specs.declared.Style.{Style}
-use Rattle.text.specs.declared.Subject.{Subject}
 use Rattle.text.specs.declared.Variant.{Variant}
 use Rattle.text.specs.declared.Variant.the-variants.{Names, Abbreviations}
 
@@ -107,9 +107,9 @@ allNamed es style l = namedIn es (style .form) l
 
 -- ---- writing a label: bad label or subject 22; out of sight 13; a number that has no name 2
 
-unfoldable pub writeLabelOf : List Entry → Subject → Style → Label → Answer (List ℕ)
-writeLabelOf es s style l =
-    require (Label.validOf l && subjectValid s) 22 (require (seesOf s l) 13 (require (allNamed es style l) 2 (granted (labelText es style l))))
+unfoldable pub writeLabelOf : List Entry → Caller → Style → Label → Answer (List ℕ)
+writeLabelOf es c style l =
+    require (Label.validOf l && callerValid c) 22 (require (seesOf c l) 13 (require (allNamed es style l) 2 (granted (labelText es style l))))
 
 -- ---- writing a range
 
@@ -130,11 +130,11 @@ abbrev pub shown : Bool → ℕ → List ℕ → Answer Shown
 shown isNamed status text = require isNamed 2 (granted (record { status = status; text = text }))
 
 -- status 0 if the subject may see both ends; status 1 if it may see the low end only, whose names alone are then looked up; else 13
-unfoldable pub writeRangeOf : List Entry → Subject → Style → Range → Answer Shown
-writeRangeOf es s style x =
-    require (Range.validOf x && subjectValid s) 22
-    (require (seesOf s (x .low)) 13
-    (cond (seesOf s (x .high))
+unfoldable pub writeRangeOf : List Entry → Caller → Style → Range → Answer Shown
+writeRangeOf es c style x =
+    require (Range.validOf x && callerValid c) 22
+    (require (seesOf c (x .low)) 13
+    (cond (seesOf c (x .high))
     (shown (allNamed es style (x .low) && allNamed es style (x .high)) 0 (wholeText es style x))
     (shown (allNamed es style (x .low)) 1 (lowText es style x))))
 

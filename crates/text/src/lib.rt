@@ -4,11 +4,7 @@ mod name;
 pub mod read;
 pub mod write;
 
-use label::Label;
 use label::answer::Written;
-use label::components;
-ghost use mathlib.Core.Path.{_≡_};
-ghost use Rattle.text.specs.Subject.{seesOf};
 
 // Whether hierarchy and categories are named, or a whole label where it has a name.
 pub enum Form {
@@ -27,24 +23,8 @@ pub struct Style {
     pub variant: Variant,
 }
 
-// Who asks.
-pub struct Subject {
-    pub label: Label,
-    pub read_override: bool,
-}
-
 // The status of a range that was written, 0 or 1, stands beside its length; beside a refusal it is 0.
 pub struct RangeWritten {
     pub status: u8,
     pub written: Written,
-}
-
-// Whether a subject may see a label.
-pub(crate) fn sees(s: Subject, l: Label) -> bool
-    ensures { λ r. ⌜ r ≡ seesOf s l ⌝ }
-{
-    let own = s.label;
-    let x = own.categories;
-    let y = l.categories;
-    s.read_override | components::dominates(own.hierarchy, x, l.hierarchy, y)
 }

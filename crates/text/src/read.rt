@@ -1,6 +1,4 @@
 // Labels and ranges read from text. Whatever is wrong with a text is the same plain 22.
-use crate::Subject;
-use crate::sees;
 use alias::Found;
 use alias::lookup;
 use hexline::entry::Value;
@@ -8,6 +6,8 @@ use hexline::parts;
 use label::Label;
 use label::LabelAnswer;
 use label::answer::Outcome;
+use label::caller;
+use label::caller::Caller;
 use label::components;
 use label::errno::Errno;
 use label::words;
@@ -198,33 +198,33 @@ fn label_in(table: &[u8], starts: &[usize], text: &[u8]) -> LabelAnswer
 }
 
 // The label that a text says, where the subject may see it.
-fn label_seen(table: &[u8], starts: &[usize], s: Subject, text: &[u8]) -> LabelAnswer
-    ensures { λ r. ⌜ Answered (r .outcome) (r .label) zeroLabel (labelSeen (entriesBy (now (table .entry)) (now (starts .entry))) s (now (text .entry))) ⌝ }
+fn label_seen(table: &[u8], starts: &[usize], caller: Caller, text: &[u8]) -> LabelAnswer
+    ensures { λ r. ⌜ Answered (r .outcome) (r .label) zeroLabel (labelSeen (entriesBy (now (table .entry)) (now (starts .entry))) caller (now (text .entry))) ⌝ }
 {
     let l = label_in(table, starts, text);
     let outcome = l.outcome;
     let Outcome::Granted = outcome else {
         return l;
     };
-    if sees(s, l.label) {
+    if caller::sees(caller, l.label) {
         return l;
     }
     no_label()
 }
 
 // Reads a label by a table that was tested.
-fn read_checked(table: &[u8], starts: &[usize], s: Subject, text: &[u8]) -> LabelAnswer
-    ensures { λ r. ⌜ Answered (r .outcome) (r .label) zeroLabel (readLabelOf (entriesBy (now (table .entry)) (now (starts .entry))) s (now (text .entry))) ⌝ }
+fn read_checked(table: &[u8], starts: &[usize], caller: Caller, text: &[u8]) -> LabelAnswer
+    ensures { λ r. ⌜ Answered (r .outcome) (r .label) zeroLabel (readLabelOf (entriesBy (now (table .entry)) (now (starts .entry))) caller (now (text .entry))) ⌝ }
 {
-    if label::valid(s.label) {
-        return label_seen(table, starts, s, text);
+    if label::valid(caller.label) {
+        return label_seen(table, starts, caller, text);
     }
     no_label()
 }
 
 // Reads a label from a text.
-pub fn read_label(table: &[u8], more: bool, s: Subject, text: &[u8]) -> LabelAnswer
-    ensures { λ r. ⌜ Answered (r .outcome) (r .label) zeroLabel (withTable more (now (table .entry)) (λ es. readLabelOf es s (now (text .entry)))) ⌝ }
+pub fn read_label(table: &[u8], more: bool, caller: Caller, text: &[u8]) -> LabelAnswer
+    ensures { λ r. ⌜ Answered (r .outcome) (r .label) zeroLabel (withTable more (now (table .entry)) (λ es. readLabelOf es caller (now (text .entry)))) ⌝ }
 {
     let t = alias::check(table, more);
     let outcome = t.outcome;
@@ -238,7 +238,7 @@ pub fn read_label(table: &[u8], more: bool, s: Subject, text: &[u8]) -> LabelAns
             read_checked(
                 table,
                 lookup::starts_to(&lines.starts, lines.count),
-                s,
+                caller,
                 text,
             )
         }
@@ -252,10 +252,10 @@ fn begins_with(marker: &[u8], text: &[u8]) -> bool
 }
 
 // The range of a low end and the text of a high end.
-fn range_from(table: &[u8], starts: &[usize], s: Subject, low: Label, text: &[u8]) -> RangeAnswer
-    ensures { λ r. ⌜ Answered (r .outcome) (r .range) zeroRange (rangeFrom (entriesBy (now (table .entry)) (now (starts .entry))) s low (now (text .entry))) ⌝ }
+fn range_from(table: &[u8], starts: &[usize], caller: Caller, low: Label, text: &[u8]) -> RangeAnswer
+    ensures { λ r. ⌜ Answered (r .outcome) (r .range) zeroRange (rangeFrom (entriesBy (now (table .entry)) (now (starts .entry))) caller low (now (text .entry))) ⌝ }
 {
-    let end = label_seen(table, starts, s, text);
+    let end = label_seen(table, starts, caller, text);
     let outcome = end.outcome;
     let Outcome::Granted = outcome else {
         return RangeAnswer {
@@ -276,11 +276,11 @@ fn range_from(table: &[u8], starts: &[usize], s: Subject, low: Label, text: &[u8
 }
 
 // The range of a text behind its first marker: the low end first, and its refusal where it gives no label.
-fn ends(table: &[u8], starts: &[usize], s: Subject, text: &[u8]) -> RangeAnswer
-    ensures { λ r. ⌜ Answered (r .outcome) (r .range) zeroRange (endsOf (entriesBy (now (table .entry)) (now (starts .entry))) s (now (text .entry))) ⌝ }
+fn ends(table: &[u8], starts: &[usize], caller: Caller, text: &[u8]) -> RangeAnswer
+    ensures { λ r. ⌜ Answered (r .outcome) (r .range) zeroRange (endsOf (entriesBy (now (table .entry)) (now (starts .entry))) caller (now (text .entry))) ⌝ }
 {
     let n = octets::index_of(BLANK, text);
-    let low = label_seen(table, starts, s, octets::front(text, n));
+    let low = label_seen(table, starts, caller, octets::front(text, n));
     let outcome = low.outcome;
     let Outcome::Granted = outcome else {
         return RangeAnswer {
@@ -290,24 +290,24 @@ fn ends(table: &[u8], starts: &[usize], s: Subject, text: &[u8]) -> RangeAnswer
     };
     let rest = octets::rest(text, n);
     if begins_with(b" -H ", rest) {
-        return range_from(table, starts, s, low.label, octets::rest(rest, 4));
+        return range_from(table, starts, caller, low.label, octets::rest(rest, 4));
     }
     no_range()
 }
 
 // Reads a range by a table that was tested.
-fn read_range_checked(table: &[u8], starts: &[usize], s: Subject, text: &[u8]) -> RangeAnswer
-    ensures { λ r. ⌜ Answered (r .outcome) (r .range) zeroRange (readRangeOf (entriesBy (now (table .entry)) (now (starts .entry))) s (now (text .entry))) ⌝ }
+fn read_range_checked(table: &[u8], starts: &[usize], caller: Caller, text: &[u8]) -> RangeAnswer
+    ensures { λ r. ⌜ Answered (r .outcome) (r .range) zeroRange (readRangeOf (entriesBy (now (table .entry)) (now (starts .entry))) caller (now (text .entry))) ⌝ }
 {
-    if label::valid(s.label) & begins_with(b"-L ", text) {
-        return ends(table, starts, s, octets::rest(text, 3));
+    if label::valid(caller.label) & begins_with(b"-L ", text) {
+        return ends(table, starts, caller, octets::rest(text, 3));
     }
     no_range()
 }
 
 // Reads a range from a text.
-pub fn read_range(table: &[u8], more: bool, s: Subject, text: &[u8]) -> RangeAnswer
-    ensures { λ r. ⌜ Answered (r .outcome) (r .range) zeroRange (withTable more (now (table .entry)) (λ es. readRangeOf es s (now (text .entry)))) ⌝ }
+pub fn read_range(table: &[u8], more: bool, caller: Caller, text: &[u8]) -> RangeAnswer
+    ensures { λ r. ⌜ Answered (r .outcome) (r .range) zeroRange (withTable more (now (table .entry)) (λ es. readRangeOf es caller (now (text .entry)))) ⌝ }
 {
     let t = alias::check(table, more);
     let outcome = t.outcome;
@@ -321,7 +321,7 @@ pub fn read_range(table: &[u8], more: bool, s: Subject, text: &[u8]) -> RangeAns
             read_range_checked(
                 table,
                 lookup::starts_to(&lines.starts, lines.count),
-                s,
+                caller,
                 text,
             )
         }

@@ -2,17 +2,17 @@
 use crate::Form;
 use crate::RangeWritten;
 use crate::Style;
-use crate::Subject;
 use crate::Variant;
 use crate::name::Measure;
 use crate::name::measure_name;
 use crate::name::put_name;
-use crate::sees;
 use alias::lookup;
 use hexline::entry::Value;
 use label::Label;
 use label::answer::Outcome;
 use label::answer::Written;
+use label::caller;
+use label::caller::Caller;
 use label::errno::Errno;
 use label::words;
 use label::words::Found;
@@ -244,13 +244,13 @@ fn write_text(table: &[u8], starts: &[usize], style: Style, l: Label, out: &mut 
 }
 
 // Whether a label may be shown to a subject, where what is asked for is valid.
-fn allowed(valid: bool, s: Subject, l: Label) -> Outcome
-    ensures { λ r. ⌜ Answered r l l (allowedOf valid s l) ⌝ }
+fn allowed(valid: bool, caller: Caller, l: Label) -> Outcome
+    ensures { λ r. ⌜ Answered r l l (allowedOf valid caller l) ⌝ }
 {
-    if !(valid & label::valid(s.label)) {
+    if !(valid & label::valid(caller.label)) {
         return Outcome::Refused(Errno::Invalid);
     }
-    if !sees(s, l) {
+    if !caller::sees(caller, l) {
         return Outcome::Refused(Errno::Access);
     }
     Outcome::Granted
@@ -260,14 +260,14 @@ fn allowed(valid: bool, s: Subject, l: Label) -> Outcome
 fn write_checked(
     table: &[u8],
     starts: &[usize],
-    s: Subject,
+    caller: Caller,
     style: Style,
     l: Label,
     out: &mut [u8],
 ) -> Written
-    ensures { λ r. ⌜ WrittenTo r (writeLabelOf (entriesBy (now (table .entry)) (now (starts .entry))) s style l) (now (out .entry)) (now (out .exit)) ⌝ }
+    ensures { λ r. ⌜ WrittenTo r (writeLabelOf (entriesBy (now (table .entry)) (now (starts .entry))) caller style l) (now (out .entry)) (now (out .exit)) ⌝ }
 {
-    let outcome = allowed(label::valid(l), s, l);
+    let outcome = allowed(label::valid(l), caller, l);
     match outcome {
         Outcome::Refused(e) => Written::Refused(e),
         Outcome::Granted => write_text(table, starts, style, l, out),
@@ -278,12 +278,12 @@ fn write_checked(
 pub fn write_label(
     table: &[u8],
     more: bool,
-    s: Subject,
+    caller: Caller,
     style: Style,
     l: Label,
     out: &mut [u8],
 ) -> Written
-    ensures { λ r. ⌜ WrittenTo r (withTable more (now (table .entry)) (λ es. writeLabelOf es s style l)) (now (out .entry)) (now (out .exit)) ⌝ }
+    ensures { λ r. ⌜ WrittenTo r (withTable more (now (table .entry)) (λ es. writeLabelOf es caller style l)) (now (out .entry)) (now (out .exit)) ⌝ }
 {
     let t = alias::check(table, more);
     let outcome = t.outcome;
@@ -294,7 +294,7 @@ pub fn write_label(
             write_checked(
                 table,
                 lookup::starts_to(&lines.starts, lines.count),
-                s,
+                caller,
                 style,
                 l,
                 out,
@@ -393,18 +393,18 @@ fn with_status(whole: bool, written: Written) -> RangeWritten
 fn write_range_checked(
     table: &[u8],
     starts: &[usize],
-    s: Subject,
+    caller: Caller,
     style: Style,
     x: Range,
     out: &mut [u8],
 ) -> RangeWritten
-    ensures { λ r. ⌜ RangeWrittenTo r (writeRangeOf (entriesBy (now (table .entry)) (now (starts .entry))) s style x) (now (out .entry)) (now (out .exit)) ⌝ }
+    ensures { λ r. ⌜ RangeWrittenTo r (writeRangeOf (entriesBy (now (table .entry)) (now (starts .entry))) caller style x) (now (out .entry)) (now (out .exit)) ⌝ }
 {
-    let outcome = allowed(range::valid(x), s, x.low);
+    let outcome = allowed(range::valid(x), caller, x.low);
     match outcome {
         Outcome::Refused(e) => with_status(true, Written::Refused(e)),
         Outcome::Granted => {
-            let whole = sees(s, x.high);
+            let whole = caller::sees(caller, x.high);
             with_status(whole, write_ends(table, starts, style, x, whole, out))
         }
     }
@@ -414,12 +414,12 @@ fn write_range_checked(
 pub fn write_range(
     table: &[u8],
     more: bool,
-    s: Subject,
+    caller: Caller,
     style: Style,
     x: Range,
     out: &mut [u8],
 ) -> RangeWritten
-    ensures { λ r. ⌜ RangeWrittenTo r (withTable more (now (table .entry)) (λ es. writeRangeOf es s style x)) (now (out .entry)) (now (out .exit)) ⌝ }
+    ensures { λ r. ⌜ RangeWrittenTo r (withTable more (now (table .entry)) (λ es. writeRangeOf es caller style x)) (now (out .entry)) (now (out .exit)) ⌝ }
 {
     let t = alias::check(table, more);
     let outcome = t.outcome;
@@ -430,7 +430,7 @@ pub fn write_range(
             write_range_checked(
                 table,
                 lookup::starts_to(&lines.starts, lines.count),
-                s,
+                caller,
                 style,
                 x,
                 out,

@@ -13,7 +13,7 @@ returns-2 c =
     let b = c .before in
     let e = b .before .before .before .before in
     let a = e .before .before .before .before .before .args in
-    answers-same (c .read-checked .ensures) (table-next (a .more) (a .table .now) (e .before .before .check .ensures) (e .enum-told2 .given .1) (b .starts-to .ensures) (λ es. readLabelOf es (a .s) (a .text .now)))
+    answers-same (c .read-checked .ensures) (table-next (a .more) (a .table .now) (e .before .before .check .ensures) (e .enum-told2 .given .1) (b .starts-to .ensures) (λ es. readLabelOf es (a .caller) (a .text .now)))
 
 pub read-label-spec : {M : Type 1} → statement M
 read-label-spec =

@@ -2,14 +2,15 @@ use borrow.Author.Needs.{needs}
 use borrow.Author.Tests.{not-false, not-true}
 use mathlib.Core.Bool.{Bool, _&&_}
 use mathlib.Core.Path.{_≡_, refl, sym, _∙_}
+use Rattle.label.specs.Caller.{callerValid}
 use Rattle.label.specs.declared.errno.Errno.the-variants.{Access, Invalid}
 use Rattle.label.proofs.AnswerLaws.{answers-grant, answers-refusal, passed, stopped}
-use Rattle.text.specs.Subject.{allowedOf, subjectValid}
+use Rattle.text.specs.Subject.{allowedOf}
 use Rattle.text.proofs.write.allowed.Statement.{statement}
 use Rattle.text.proofs.write.allowed.Tie as tie
 
 -- the first test
-told : (v : tie.After-valid) {b : Bool} → let a = v .before .args in (a .valid && v .valid .result) ≡ b → (a .valid && subjectValid (a .s)) ≡ b
+told : (v : tie.After-valid) {b : Bool} → let a = v .before .args in (a .valid && v .valid .result) ≡ b → (a .valid && callerValid (a .caller)) ≡ b
 told v e = rw (← v .valid .ensures) e
 
 returns : tie.Need-returns

@@ -19,7 +19,7 @@ returns-2 c =
     let b = w .before .before in
     let e = b .before .before .before .before in
     let a = e .before .before .before .before .before .args in
-    written-same (w .write-checked .ensures) (table-next (a .more) (a .table .now) (e .before .before .check .ensures) (e .enum-told .given .1) (b .starts-to .ensures) (λ es. writeLabelOf es (a .s) (a .style) (a .l)))
+    written-same (w .write-checked .ensures) (table-next (a .more) (a .table .now) (e .before .before .check .ensures) (e .enum-told .given .1) (b .starts-to .ensures) (λ es. writeLabelOf es (a .caller) (a .style) (a .l)))
 
 pub write-label-spec : {M : Type 1} → statement M
 write-label-spec =

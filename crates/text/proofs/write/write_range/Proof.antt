@@ -18,7 +18,7 @@ returns-2 c =
     let b = w .before .before in
     let e = b .before .before .before .before in
     let a = e .before .before .before .before .before .args in
-    range-same (w .write-range-checked .ensures) (table-next (a .more) (a .table .now) (e .before .before .check .ensures) (e .enum-told .given .1) (b .starts-to .ensures) (λ es. writeRangeOf es (a .s) (a .style) (a .x)))
+    range-same (w .write-range-checked .ensures) (table-next (a .more) (a .table .now) (e .before .before .check .ensures) (e .enum-told .given .1) (b .starts-to .ensures) (λ es. writeRangeOf es (a .caller) (a .style) (a .x)))
 
 pub write-range-spec : {M : Type 1} → statement M
 write-range-spec =
