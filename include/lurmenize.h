@@ -14,16 +14,16 @@
  * the answer goes on with it. Compilers warn where an answer is not used at all (LURM_MUST_USE). A refusal writes nothing to a buffer and
  * hands a state back as it was. A grant of 1 and the refusal 1 are never the same: one is in `value`, the other in `refusal`.
  *
- * Input. No value of any argument stops these functions: labels, ranges, tuples, entries, credentials, objects, calls and states are tested at
- * each call, and so is every flag (0 or 1) and every number that stands for a choice; what can't be is refused with LURM_EINVAL. The caller
- * owes what C can't say: a pointer is not null and points to as many bytes as the length after it says, also where that is 0, and a buffer to
- * write to overlaps nothing else that is passed. Functions keep nothing between calls, allocate nothing, and may run in any number of threads.
+ * Input. No value of any argument stops these functions: labels, ranges, tuples, entries, callers, credentials, objects, calls and states are
+ * tested at each call, and so is every flag (0 or 1) and every number that stands for a choice; what can't be is refused with LURM_EINVAL. A
+ * program owes what C can't say: a pointer is not null and points to as many bytes as the length after it says, also where that is 0, and a buffer
+ * to write to overlaps nothing else that is passed. Functions keep nothing between calls, allocate nothing, and may run in any number of threads.
  *
  * Structs are passed and returned by value, are numbers alone, and have no padding: every byte of what is handed back is said. Set every field:
  * `= {0}` (in C++ `= {}`) and then what is not zero.
  *
- * Stack. No function takes more than LURM_STACK_BYTES of stack. What is passed by value and handed back lies with the caller, and is not counted:
- * 11,888 bytes at most. docs/LINKING.md has the figures of each function.
+ * Stack. No function takes more than LURM_STACK_BYTES of stack. What is passed by value and handed back lies with the calling function, and is not
+ * counted: 11,888 bytes at most. docs/LINKING.md has the figures of each function.
  */
 #ifndef LURMENIZE_H
 #define LURMENIZE_H
@@ -39,9 +39,9 @@ extern "C" {
 /* ---- Version ---- */
 
 #define LURM_VERSION_MAJOR 0
-#define LURM_VERSION_MINOR 2
+#define LURM_VERSION_MINOR 3
 #define LURM_VERSION_PATCH 0
-#define LURM_VERSION_STRING "0.2.0"
+#define LURM_VERSION_STRING "0.3.0"
 #define LURM_VERSION (LURM_VERSION_MAJOR * 1000000 + LURM_VERSION_MINOR * 1000 + LURM_VERSION_PATCH)
 
 /* The LURM_VERSION of the library that is linked. Structs of another minor version may differ, until 1.0.0. */
@@ -236,13 +236,16 @@ LURM_MUST_USE lurm_range_answer lurm_read_range(const uint8_t *line, size_t line
 LURM_MUST_USE lurm_tuple_answer lurm_read_tuple(const uint8_t *line, size_t line_length);
 LURM_MUST_USE lurm_entry_answer lurm_read_entry(const uint8_t *line, size_t line_length);
 
-/* ---- Names and text. An alias table is 0 to 512 lines of entries, one after another. ---- */
+/* ---- Who asks ---- */
 
-/* Who asks: what the label does not dominate is not shown, but by the read override, which is 0 or 1. */
-typedef struct lurm_subject {
+/* The process on whose behalf a text is written or read, or a decision is asked for. It sees the labels that its own dominates, and with the read
+ * override, which is 0 or 1, every label. */
+typedef struct lurm_caller {
     lurm_label label;
     uint64_t read_override;
-} lurm_subject;
+} lurm_caller;
+
+/* ---- Names and text. An alias table is 0 to 512 lines of entries, one after another. ---- */
 
 #define LURM_FORM_DEFINITION 0 /* hierarchy and categories are named */
 #define LURM_FORM_ALIAS 1      /* the whole label where it has a name, else as above */
@@ -268,25 +271,25 @@ typedef struct lurm_range_written {
 LURM_MUST_USE lurm_answer lurm_check_alias_table(const uint8_t *aliases, size_t aliases_length, uint64_t more);
 
 /* Writes a label as text to the front of out, without an LF or a zero after it. value: its length. LURM_EINVAL: a bad alias table, or an invalid
- * label or subject. LURM_EACCES: the subject may not see the label. LURM_ENOENT: a number that has no name. LURM_E2BIG: out is too short. */
-LURM_MUST_USE lurm_answer lurm_write_label_text(const uint8_t *aliases, size_t aliases_length, uint64_t more, lurm_subject subject,
+ * label or caller. LURM_EACCES: the caller may not see the label. LURM_ENOENT: a number that has no name. LURM_E2BIG: out is too short. */
+LURM_MUST_USE lurm_answer lurm_write_label_text(const uint8_t *aliases, size_t aliases_length, uint64_t more, lurm_caller caller,
                                                 lurm_style style, lurm_label label, uint8_t *out, size_t out_length);
 
-/* The same of a range. status: 0 with both ends; 1 where the subject may see the low end only, and `?` stands for the high one; 0 beside a
+/* The same of a range. status: 0 with both ends; 1 where the caller may see the low end only, and `?` stands for the high one; 0 beside a
  * refusal. */
-LURM_MUST_USE lurm_range_written lurm_write_range_text(const uint8_t *aliases, size_t aliases_length, uint64_t more, lurm_subject subject,
+LURM_MUST_USE lurm_range_written lurm_write_range_text(const uint8_t *aliases, size_t aliases_length, uint64_t more, lurm_caller caller,
                                                        lurm_style style, lurm_range range, uint8_t *out, size_t out_length);
 
-/* The label, or the range, that a text says. LURM_EINVAL: a bad alias table, which carries its line; an invalid subject, a malformed text, an
- * unknown name, or a label that the subject may not see, which carry nothing. value: 0. */
-LURM_MUST_USE lurm_label_answer lurm_read_label_text(const uint8_t *aliases, size_t aliases_length, uint64_t more, lurm_subject subject,
+/* The label, or the range, that a text says. LURM_EINVAL: a bad alias table, which carries its line; an invalid caller, a malformed text, an
+ * unknown name, or a label that the caller may not see, which carry nothing. value: 0. */
+LURM_MUST_USE lurm_label_answer lurm_read_label_text(const uint8_t *aliases, size_t aliases_length, uint64_t more, lurm_caller caller,
                                                      const uint8_t *text, size_t text_length);
-LURM_MUST_USE lurm_range_answer lurm_read_range_text(const uint8_t *aliases, size_t aliases_length, uint64_t more, lurm_subject subject,
+LURM_MUST_USE lurm_range_answer lurm_read_range_text(const uint8_t *aliases, size_t aliases_length, uint64_t more, lurm_caller caller,
                                                      const uint8_t *text, size_t text_length);
 
 /* ---- The monitor ---- */
 
-/* The subject that asks. The label has to be in the range; each privilege is 0 or 1. */
+/* The subject that is asked about, which may be the caller itself or another. The label has to be in the range; each privilege is 0 or 1. */
 typedef struct lurm_credentials {
     lurm_label label;
     lurm_range range;
@@ -327,9 +330,12 @@ typedef struct lurm_object {
 #define LURM_ATTRIBUTE_LABEL 1
 #define LURM_ATTRIBUTE_TUPLE 2
 
-/* value: 0 where no privilege was needed, 1 where one was. LURM_EINVAL: what is asked can't be decided. LURM_EACCES: denied. LURM_EPERM: to set an
- * attribute takes the privilege to relabel. `intents` is a sum of LURM_INTENT_..; `attribute` counts with an attribute intent only. */
-LURM_MUST_USE lurm_answer lurm_check(lurm_credentials credentials, lurm_object object, uint64_t intents, uint64_t attribute);
+/* value: 0 where no privilege of the subject was needed, 1 where one was. LURM_EINVAL: what is asked can't be decided, a flag can't be, or the
+ * caller's label is invalid, even with the read override. LURM_EACCES: the caller may not see the subject's label, or the object's where it has
+ * one; or, which is tried after that, what is intended is denied. LURM_EPERM: to set an attribute takes the privilege to relabel. The subject's
+ * privileges do not help the caller, nor does the caller's read override help the subject. `intents` is a sum of LURM_INTENT_..; `attribute`
+ * counts with an attribute intent only. */
+LURM_MUST_USE lurm_answer lurm_check(lurm_caller caller, lurm_credentials credentials, lurm_object object, uint64_t intents, uint64_t attribute);
 
 /* ---- Shared memory segments: the state, passed in and handed back ---- */
 
