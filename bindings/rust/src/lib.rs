@@ -5,8 +5,8 @@
 //!
 //! - [`Label`], [`Range`], [`Tuple`]: what a label is, and what a set of labels is.
 //! - `write_line` and `read_line` of each, [`Entry`], [`line_kind`]: hex lines.
-//! - [`AliasTable`]: labels and ranges as text, by the names of an alias table, for a [`Subject`].
-//! - [`check`]: the monitor's decision, for [`Credentials`], an [`Object`] and [`Intents`].
+//! - [`AliasTable`]: labels and ranges as text, by the names of an alias table, for a [`Caller`].
+//! - [`check`]: the monitor's decision for a [`Caller`], about [`Credentials`], an [`Object`] and [`Intents`].
 //! - [`State`]: tenants, their ceilings, and their segments.
 //!
 //! Types hold what is invalid too, so that input can be passed as it is: functions test it at each call, and no value stops them. What is refused is
@@ -28,6 +28,7 @@
 #[cfg(not(all(target_arch = "x86_64", target_os = "linux")))]
 compile_error!("liblurmenize.a is for x86-64 Linux");
 
+mod caller;
 mod label;
 mod line;
 mod monitor;
@@ -37,13 +38,14 @@ mod refusal;
 mod segments;
 mod text;
 
+pub use caller::Caller;
 pub use label::{Categories, Label, Region};
 pub use line::{line_kind, Entry, LineKind, Named};
 pub use monitor::{check, Class, Credentials, Decision, FileKind, Intents, Object};
 pub use range::{Range, Tuple};
 pub use refusal::Refusal;
 pub use segments::{Segment, Slot, State, TenantId};
-pub use text::{AliasTable, Ends, Form, Style, Subject, Variant};
+pub use text::{AliasTable, Ends, Form, Style, Variant};
 
 /// The version of the library that is linked: a million times the major number, a thousand times the minor one, and the patch. It should be
 /// [`raw::VERSION`], for which this crate is made.

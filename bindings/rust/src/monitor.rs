@@ -1,10 +1,10 @@
 //! The reference monitor.
 
 use crate::raw;
-use crate::{Label, Range, Refusal, Tuple};
+use crate::{Caller, Label, Range, Refusal, Tuple};
 use std::ops::BitOr;
 
-/// The subject that asks, with its privileges. The label has to be in the range.
+/// The subject that is asked about, with its privileges: the caller itself or another. The label has to be in the range.
 #[derive(Clone, Copy, Debug, PartialEq, Eq, Hash, Default)]
 pub struct Credentials {
     /// The subject's label.
@@ -143,41 +143,59 @@ impl BitOr for Intents {
 /// How access was granted.
 #[derive(Clone, Copy, Debug, PartialEq, Eq, Hash)]
 pub enum Decision {
-    /// No privilege was needed.
+    /// No privilege of the subject was needed.
     Granted,
-    /// A privilege was needed, and is there.
+    /// A privilege of the subject was needed, and is there.
     Privileged,
 }
 
-/// Decides whether the subject may do all that it intends to the object.
+/// Decides for the caller whether the subject may do all that it intends to the object.
 ///
-/// [`Refusal::Invalid`]: what is asked can't be decided. [`Refusal::Access`]: denied. [`Refusal::Perm`]: to set an attribute takes the privilege to
-/// relabel.
+/// [`Refusal::Invalid`]: what is asked can't be decided, or the caller's label is invalid, even with the read override. [`Refusal::Access`]: the
+/// caller may not see the subject's label, or the object's where it has one; or, which is tried after that, what is intended is denied.
+/// [`Refusal::Perm`]: to set an attribute takes the privilege to relabel.
 ///
 /// ```
-/// use lurmenize::{check, Class, Credentials, Decision, FileKind, Intents, Label, Object, Range, Refusal};
+/// use lurmenize::{check, Caller, Class, Credentials, Decision, FileKind, Intents, Label, Object, Range, Refusal};
 ///
 /// let label = Label::new(30, &[1]);
+/// let caller = Caller { label, read_override: false };
 /// let subject = Credentials { label, range: Range::new(label, label), ..Credentials::default() };
 /// let file = Object { class: Class::File(FileKind::Regular), label: Some(Label::new(20, &[1])), tuple: None };
-/// assert_eq!(check(&subject, &file, Intents::READ), Ok(Decision::Granted));
-/// assert_eq!(check(&subject, &file, Intents::READ | Intents::WRITE), Err(Refusal::Access));
+/// assert_eq!(check(&caller, &subject, &file, Intents::READ), Ok(Decision::Granted));
+/// assert_eq!(check(&caller, &subject, &file, Intents::READ | Intents::WRITE), Err(Refusal::Access));
 ///
 /// let writer = Credentials { write_override: true, ..subject };
-/// assert_eq!(check(&writer, &file, Intents::READ | Intents::WRITE), Ok(Decision::Privileged));
+/// assert_eq!(check(&caller, &writer, &file, Intents::READ | Intents::WRITE), Ok(Decision::Privileged));
+/// ```
+///
+/// A caller that may not see both labels is refused whatever is intended, and the subject's privileges do not help it. Its own read override does,
+/// which is no privilege of the subject:
+///
+/// ```
+/// # use lurmenize::{check, Caller, Class, Credentials, Decision, FileKind, Intents, Label, Object, Range, Refusal};
+/// # let label = Label::new(30, &[1]);
+/// # let subject = Credentials { label, range: Range::new(label, label), ..Credentials::default() };
+/// # let file = Object { class: Class::File(FileKind::Regular), label: Some(Label::new(20, &[1])), tuple: None };
+/// let below = Caller { label: Label::new(20, &[1]), read_override: false };
+/// assert_eq!(check(&below, &subject, &file, Intents::READ), Err(Refusal::Access));
+/// assert_eq!(check(&below, &Credentials { read_override: true, ..subject }, &file, Intents::READ), Err(Refusal::Access));
+/// assert_eq!(check(&Caller { read_override: true, ..below }, &subject, &file, Intents::READ), Ok(Decision::Granted));
 /// ```
 ///
 /// Which attribute is asked for is part of the intent:
 ///
 /// ```
-/// # use lurmenize::{check, Class, Credentials, Decision, FileKind, Intents, Label, Object, Range, Refusal};
+/// # use lurmenize::{check, Caller, Class, Credentials, Decision, FileKind, Intents, Label, Object, Range, Refusal};
 /// # let label = Label::new(30, &[1]);
+/// # let caller = Caller { label, read_override: false };
 /// # let subject = Credentials { label, range: Range::new(label, label), ..Credentials::default() };
 /// let file = Object { class: Class::File(FileKind::Regular), label: Some(label), tuple: None };
-/// assert_eq!(check(&subject, &file, Intents::READ | Intents::GET_LABEL), Ok(Decision::Granted));
-/// assert_eq!(check(&subject, &file, Intents::SET_LABEL), Err(Refusal::Perm));
-/// assert_eq!(check(&subject, &file, Intents::GET_LABEL | Intents::GET_TUPLE), Err(Refusal::Invalid));
+/// assert_eq!(check(&caller, &subject, &file, Intents::READ | Intents::GET_LABEL), Ok(Decision::Granted));
+/// assert_eq!(check(&caller, &subject, &file, Intents::SET_LABEL), Err(Refusal::Perm));
+/// assert_eq!(check(&caller, &subject, &file, Intents::GET_LABEL | Intents::GET_TUPLE), Err(Refusal::Invalid));
 /// ```
-pub fn check(credentials: &Credentials, object: &Object, intents: Intents) -> Result<Decision, Refusal> {
-    raw::lurm_check(credentials.into(), object.into(), intents.sum, intents.attribute).choice(&[Decision::Granted, Decision::Privileged])
+pub fn check(caller: &Caller, credentials: &Credentials, object: &Object, intents: Intents) -> Result<Decision, Refusal> {
+    let answer = raw::lurm_check(caller.into(), credentials.into(), object.into(), intents.sum, intents.attribute);
+    answer.choice(&[Decision::Granted, Decision::Privileged])
 }

@@ -73,7 +73,7 @@ macro_rules! functions {
 
 constants! {
     &str {
-        VERSION_STRING = "0.2.0",
+        VERSION_STRING = "0.3.0",
     }
     u32 {
         EPERM = 1, ENOENT = 2, E2BIG = 7, ENOMEM = 12, EACCES = 13, EBUSY = 16, EINVAL = 22, ENOSPC = 28, EDOM = 33,
@@ -83,7 +83,7 @@ constants! {
         MAX_ALIAS_LINES = 512, TENANTS = 8, SLOTS = 64, STACK_BYTES = 24_576,
     }
     u64 {
-        VERSION_MAJOR = 0, VERSION_MINOR = 2, VERSION_PATCH = 0, VERSION = 2_000,
+        VERSION_MAJOR = 0, VERSION_MINOR = 3, VERSION_PATCH = 0, VERSION = 3_000,
         CATEGORIES = 256, MAX_HIERARCHY = 199, MAX_PAGES = 1_048_576,
         LINE_LABEL = 1, LINE_RANGE = 2, LINE_TUPLE = 3, LINE_ENTRY = 4,
         NAMES_HIERARCHY = 1, NAMES_CATEGORY = 2, NAMES_LABEL = 3,
@@ -211,10 +211,10 @@ structs! {
         entry: Entry, 16;
     }
 
-    /// Who writes or reads a text.
+    /// Who asks, of a text and of the monitor.
     #[derive(Default)]
-    Subject, 48 {
-        /// The subject's label.
+    Caller, 48 {
+        /// The caller's label.
         label: Label, 0;
         /// 0 or 1.
         read_override: u64, 40;
@@ -238,7 +238,7 @@ structs! {
         status: u64, 16;
     }
 
-    /// A subject of the monitor.
+    /// The subject that the monitor is asked about.
     #[derive(Default)]
     Credentials, 144 {
         /// The subject's label.
@@ -356,16 +356,16 @@ functions! {
     unsafe fn lurm_read_entry(line: *const u8, line_length: usize) -> EntryAnswer;
 
     unsafe fn lurm_check_alias_table(aliases: *const u8, aliases_length: usize, more: u64) -> Answer;
-    unsafe fn lurm_write_label_text(aliases: *const u8, aliases_length: usize, more: u64, subject: Subject, style: Style, label: Label,
+    unsafe fn lurm_write_label_text(aliases: *const u8, aliases_length: usize, more: u64, caller: Caller, style: Style, label: Label,
         out: *mut u8, out_length: usize) -> Answer;
-    unsafe fn lurm_write_range_text(aliases: *const u8, aliases_length: usize, more: u64, subject: Subject, style: Style, range: Range,
+    unsafe fn lurm_write_range_text(aliases: *const u8, aliases_length: usize, more: u64, caller: Caller, style: Style, range: Range,
         out: *mut u8, out_length: usize) -> RangeWritten;
-    unsafe fn lurm_read_label_text(aliases: *const u8, aliases_length: usize, more: u64, subject: Subject, text: *const u8,
+    unsafe fn lurm_read_label_text(aliases: *const u8, aliases_length: usize, more: u64, caller: Caller, text: *const u8,
         text_length: usize) -> LabelAnswer;
-    unsafe fn lurm_read_range_text(aliases: *const u8, aliases_length: usize, more: u64, subject: Subject, text: *const u8,
+    unsafe fn lurm_read_range_text(aliases: *const u8, aliases_length: usize, more: u64, caller: Caller, text: *const u8,
         text_length: usize) -> RangeAnswer;
 
-    safe fn lurm_check(credentials: Credentials, object: Object, intents: u64, attribute: u64) -> Answer;
+    safe fn lurm_check(caller: Caller, credentials: Credentials, object: Object, intents: u64, attribute: u64) -> Answer;
 
     safe fn lurm_make(pool: u64) -> Outcome;
     safe fn lurm_admit(state: State, tenant: TenantId, ceiling: u64, clearance: Tuple) -> Outcome;

@@ -26,8 +26,11 @@ fn hierarchies_are_not_cut() {
         assert_eq!(Tuple { ranges: [None, Some(Range::new(valid, invalid)), None] }.is_empty(), Err(Refusal::Invalid));
         assert_eq!(Entry::new(Named::Hierarchy(hierarchy), "n", "").to_line(), Err(Refusal::Invalid));
         assert_eq!(Entry::new(Named::Label(invalid), "n", "").to_line(), Err(Refusal::Invalid));
-        let subject = Subject { label: invalid, read_override: true };
-        assert_eq!(AliasTable::new(b"").label_text(&subject, Style::default(), &valid), Err(Refusal::Invalid));
+        let caller = Caller { label: invalid, read_override: true };
+        assert_eq!(AliasTable::new(b"").label_text(&caller, Style::default(), &valid), Err(Refusal::Invalid));
+        let subject = Credentials { label: valid, range: Range::new(valid, valid), ..Credentials::default() };
+        let fifo = Object { class: Class::Fifo, label: Some(valid), tuple: None };
+        assert_eq!(check(&caller, &subject, &fifo, Intents::READ), Err(Refusal::Invalid));
     }
 }
 
@@ -170,13 +173,13 @@ fn longest_names() -> String {
 fn the_longest_texts_are_whole() {
     let lines = longest_names();
     let (aliases, label) = (AliasTable::new(lines.as_bytes()), Label::new(20, &(0..=255).collect::<Vec<u8>>()));
-    let (subject, range) = (Subject { label, read_override: false }, Range::new(label, label));
-    let text = aliases.label_text(&subject, Style::default(), &label).unwrap();
+    let (caller, range) = (Caller { label, read_override: false }, Range::new(label, label));
+    let text = aliases.label_text(&caller, Style::default(), &label).unwrap();
     assert_eq!(text.len(), 257 * 31 + 256);
-    assert_eq!(aliases.read_label(&subject, text.as_bytes()), Ok(label));
-    let (both, ends) = aliases.range_text(&subject, Style::default(), &range).unwrap();
+    assert_eq!(aliases.read_label(&caller, text.as_bytes()), Ok(label));
+    let (both, ends) = aliases.range_text(&caller, Style::default(), &range).unwrap();
     assert_eq!((both, ends), (format!("-L {text} -H {text}"), Ends::Both));
-    assert_eq!(aliases.write_label(&subject, Style::default(), &label, &mut []), Err(Refusal::TooBig(text.len())));
+    assert_eq!(aliases.write_label(&caller, Style::default(), &label, &mut []), Err(Refusal::TooBig(text.len())));
 }
 
 /// A state with a tenant and a segment.

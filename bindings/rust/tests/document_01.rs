@@ -1,4 +1,4 @@
-//! The examples of document 01, in its order, and its table of the monitor in a few requests.
+//! The examples of document 01, in its order, and its table of the monitor in a few requests, with who asks by document 02.
 
 use lurmenize::*;
 
@@ -56,13 +56,13 @@ fn texts() {
     let aliases = AliasTable::new(b"040114036c6f770092\n04020704656173740165dc\n");
     assert_eq!(aliases.check(), Ok(2));
     let (low, east) = (label(20, &[]), label(20, &[7]));
-    let subject = Subject { label: east, read_override: false };
-    assert_eq!(aliases.label_text(&subject, Style::default(), &east).unwrap(), "low:east");
+    let caller = Caller { label: east, read_override: false };
+    assert_eq!(aliases.label_text(&caller, Style::default(), &east).unwrap(), "low:east");
     let mut buffer = [0xa5; 7];
-    assert_eq!(aliases.write_label(&subject, Style::default(), &east, &mut buffer), Err(Refusal::TooBig(8)));
+    assert_eq!(aliases.write_label(&caller, Style::default(), &east, &mut buffer), Err(Refusal::TooBig(8)));
     assert_eq!(buffer, [0xa5; 7]);
-    let subject = Subject { label: low, read_override: false };
-    let text = aliases.range_text(&subject, Style::default(), &range(low, east)).unwrap();
+    let caller = Caller { label: low, read_override: false };
+    let text = aliases.range_text(&caller, Style::default(), &range(low, east)).unwrap();
     assert_eq!(text, ("-L low -H ?".to_string(), Ends::LowOnly));
 }
 
@@ -90,46 +90,75 @@ fn pages() {
 fn decisions() {
     let (low, high) = (label(20, &[]), label(30, &[1]));
     let subject = Credentials { label: high, range: range(low, high), ..Credentials::default() };
+    let caller = Caller { label: high, read_override: false };
     let fifo = Object { class: Class::Fifo, label: Some(low), tuple: None };
     let queue = Object { class: Class::MessageQueue, ..fifo };
-    assert_eq!(check(&subject, &queue, Intents::READ), Ok(Decision::Granted));
-    assert_eq!(check(&subject, &fifo, Intents::READ), Err(Refusal::Access));
+    assert_eq!(check(&caller, &subject, &queue, Intents::READ), Ok(Decision::Granted));
+    assert_eq!(check(&caller, &subject, &fifo, Intents::READ), Err(Refusal::Access));
     let writer = Credentials { write_override: true, ..subject };
-    assert_eq!(check(&writer, &fifo, Intents::READ), Ok(Decision::Privileged));
-    assert_eq!(check(&writer, &fifo, Intents::SET_LABEL), Err(Refusal::Perm));
+    assert_eq!(check(&caller, &writer, &fifo, Intents::READ), Ok(Decision::Privileged));
+    assert_eq!(check(&caller, &writer, &fifo, Intents::SET_LABEL), Err(Refusal::Perm));
     let all = Credentials { relabel: true, ..writer };
-    assert_eq!(check(&all, &fifo, Intents::SET_LABEL), Ok(Decision::Privileged));
-    assert_eq!(check(&all, &fifo, Intents::GET_TUPLE | Intents::SET_TUPLE), Ok(Decision::Privileged));
-    assert_eq!(check(&all, &fifo, Intents::GET_TUPLE | Intents::SET_LABEL), Err(Refusal::Invalid));
-    assert_eq!(check(&all, &fifo, Intents { attribute: 0, ..Intents::SET_LABEL }), Err(Refusal::Invalid));
-    assert_eq!(check(&all, &fifo, Intents { sum: 64, attribute: 0 }), Err(Refusal::Invalid));
-    assert_eq!(check(&all, &fifo, Intents::default()), Err(Refusal::Invalid));
+    assert_eq!(check(&caller, &all, &fifo, Intents::SET_LABEL), Ok(Decision::Privileged));
+    assert_eq!(check(&caller, &all, &fifo, Intents::GET_TUPLE | Intents::SET_TUPLE), Ok(Decision::Privileged));
+    assert_eq!(check(&caller, &all, &fifo, Intents::GET_TUPLE | Intents::SET_LABEL), Err(Refusal::Invalid));
+    assert_eq!(check(&caller, &all, &fifo, Intents { attribute: 0, ..Intents::SET_LABEL }), Err(Refusal::Invalid));
+    assert_eq!(check(&caller, &all, &fifo, Intents { sum: 64, attribute: 0 }), Err(Refusal::Invalid));
+    assert_eq!(check(&caller, &all, &fifo, Intents::default()), Err(Refusal::Invalid));
+}
+
+/// Document 02's request 2026-01: who asks is tested after what is invalid and before the intents.
+#[test]
+fn callers() {
+    let (low, own, high) = (label(20, &[]), label(30, &[1]), label(40, &[1, 2]));
+    let subject = Credentials { label: own, range: range(low, high), ..Credentials::default() };
+    let all = Credentials { read_override: true, write_override: true, relabel: true, ..subject };
+    let queue = |label, tuple| Object { class: Class::MessageQueue, label, tuple };
+    let clearance = range(low, high).split().unwrap();
+    let (lower, higher, cleared) = (queue(Some(low), None), queue(Some(high), Some(clearance)), queue(None, Some(clearance)));
+    let [at_low, at_own, at_high] = [low, own, high].map(|label| Caller { label, read_override: false });
+    let seeing = Caller { read_override: true, ..at_low };
+    assert_eq!(check(&at_own, &subject, &lower, Intents::READ), Ok(Decision::Granted));
+    assert_eq!(check(&at_own, &subject, &cleared, Intents::READ | Intents::WRITE), Ok(Decision::Granted));
+    assert_eq!(check(&at_low, &all, &lower, Intents::READ), Err(Refusal::Access));
+    assert_eq!(check(&at_low, &all, &cleared, Intents::READ), Err(Refusal::Access));
+    assert_eq!(check(&at_own, &all, &higher, Intents::WRITE), Err(Refusal::Access));
+    assert_eq!(check(&at_high, &all, &higher, Intents::WRITE), Ok(Decision::Privileged));
+    assert_eq!(check(&at_high, &subject, &higher, Intents::READ), Err(Refusal::Access));
+    assert_eq!(check(&seeing, &subject, &lower, Intents::READ), Ok(Decision::Granted));
+    assert_eq!(check(&seeing, &subject, &higher, Intents::READ), Err(Refusal::Access));
+    assert_eq!(check(&seeing, &all, &higher, Intents::READ), Ok(Decision::Privileged));
+    let no_relabel = Credentials { relabel: false, ..all };
+    assert_eq!(check(&at_own, &no_relabel, &higher, Intents::SET_LABEL), Err(Refusal::Access));
+    assert_eq!(check(&at_high, &no_relabel, &higher, Intents::SET_LABEL), Err(Refusal::Perm));
+    assert_eq!(check(&at_low, &all, &lower, Intents::default()), Err(Refusal::Invalid));
+    assert_eq!(check(&Caller { label: label(200, &[]), read_override: true }, &subject, &lower, Intents::READ), Err(Refusal::Invalid));
 }
 
 #[test]
 fn refusals_that_carry_a_number() {
     let (good, bad): (&[u8], &[u8]) = (b"040114036c6f770092\n", b"0300fd\n");
     let (first, second) = ([bad, good].concat(), [good, bad].concat());
-    let subject = Subject::default();
+    let caller = Caller::default();
     assert_eq!(AliasTable::new(&first).check(), Err(Refusal::BadLine(0)));
     assert_eq!(AliasTable::new(&second).check(), Err(Refusal::BadLine(1)));
     assert_eq!(AliasTable { lines: good, more: true }.check(), Err(Refusal::BadLine(1)));
-    assert_eq!(AliasTable::new(&second).read_label(&subject, b"low"), Err(Refusal::BadLine(1)));
-    assert_eq!(AliasTable::new(good).read_label(&subject, b"?"), Err(Refusal::Invalid));
+    assert_eq!(AliasTable::new(&second).read_label(&caller, b"low"), Err(Refusal::BadLine(1)));
+    assert_eq!(AliasTable::new(good).read_label(&caller, b"?"), Err(Refusal::Invalid));
 }
 
 /// A bad line 0 is told from what else is invalid by every function that takes an alias table.
 #[test]
 fn a_bad_first_line_is_no_invalid_argument() {
-    let (label, subject, style) = (label(20, &[]), Subject::default(), Style::default());
+    let (label, caller, style) = (label(20, &[]), Caller::default(), Style::default());
     for (lines, refusal) in [(&b"0300fd\n"[..], Refusal::BadLine(0)), (b"", Refusal::Invalid)] {
         let (aliases, invalid) = (AliasTable::new(lines), Label { hierarchy: 200, ..label });
-        assert_eq!(aliases.write_label(&subject, style, &invalid, &mut []), Err(refusal));
-        assert_eq!(aliases.label_text(&subject, style, &invalid), Err(refusal));
-        assert_eq!(aliases.write_range(&subject, style, &range(label, invalid), &mut []), Err(refusal));
-        assert_eq!(aliases.range_text(&subject, style, &range(label, invalid)), Err(refusal));
-        assert_eq!(aliases.read_label(&subject, b"low"), Err(refusal));
-        assert_eq!(aliases.read_range(&subject, b"-L low -H low"), Err(refusal));
+        assert_eq!(aliases.write_label(&caller, style, &invalid, &mut []), Err(refusal));
+        assert_eq!(aliases.label_text(&caller, style, &invalid), Err(refusal));
+        assert_eq!(aliases.write_range(&caller, style, &range(label, invalid), &mut []), Err(refusal));
+        assert_eq!(aliases.range_text(&caller, style, &range(label, invalid)), Err(refusal));
+        assert_eq!(aliases.read_label(&caller, b"low"), Err(refusal));
+        assert_eq!(aliases.read_range(&caller, b"-L low -H low"), Err(refusal));
     }
 }
 

@@ -116,7 +116,7 @@ pub fn check_alias_table(cases: &mut Cases, aliases: &[u8], more: u64) {
 /// Who asks for a text, and how.
 struct Asked {
     more: u64,
-    subject: Subject,
+    caller: Caller,
     style: Style,
     label: Label,
     range: Range,
@@ -125,7 +125,7 @@ struct Asked {
 fn asked(random: &mut Random, names: &tables::Names) -> Asked {
     let (label, range) = (tables::label(random, names), tables::range(random, names));
     let seen = random.pick(&[label, range.low, range.high]);
-    Asked { more: tables::more(random), subject: tables::subject(random, &seen), style: tables::style(random), label, range }
+    Asked { more: tables::more(random), caller: inputs::caller(random, &seen), style: tables::style(random), label, range }
 }
 
 pub fn texts(random: &mut Random, cases: &mut Cases) {
@@ -145,30 +145,30 @@ fn texts_by(random: &mut Random, cases: &mut Cases, names: &tables::Names) {
 /// Writes the label and the range, and gives the two texts; one that is refused is empty.
 fn write_texts(random: &mut Random, cases: &mut Cases, names: &tables::Names, asked: &Asked) -> (Vec<u8>, Vec<u8>) {
     let (aliases, aliases_length) = (names.lines.as_ptr(), names.lines.len());
-    let &Asked { more, subject, style, label, range } = asked;
-    let before = [bytes(&names.lines), value(&more), value(&subject), value(&style)];
+    let &Asked { more, caller, style, label, range } = asked;
+    let before = [bytes(&names.lines), value(&more), value(&caller), value(&style)];
     let arguments = |last| [&before[..], &[last]].concat();
     // SAFETY: the first pointer and length are a slice's, and `writes` gives those of another that it alone has.
     let label_text = writes(random, cases, "lurm_write_label_text", &arguments(value(&label)), |out, length| unsafe {
-        lurm_write_label_text(aliases, aliases_length, more, subject, style, label, out, length)
+        lurm_write_label_text(aliases, aliases_length, more, caller, style, label, out, length)
     });
     // SAFETY: as above.
     let range_text = writes(random, cases, "lurm_write_range_text", &arguments(value(&range)), |out, length| unsafe {
-        lurm_write_range_text(aliases, aliases_length, more, subject, style, range, out, length)
+        lurm_write_range_text(aliases, aliases_length, more, caller, style, range, out, length)
     });
     (label_text, range_text)
 }
 
 fn read_texts(cases: &mut Cases, names: &tables::Names, asked: &Asked, text: &[u8], range_text: &[u8]) {
     let (aliases, aliases_length) = (names.lines.as_ptr(), names.lines.len());
-    let &Asked { more, subject, .. } = asked;
-    let before = [bytes(&names.lines), value(&more), value(&subject)];
+    let &Asked { more, caller, .. } = asked;
+    let before = [bytes(&names.lines), value(&more), value(&caller)];
     let arguments = |text: &[u8]| [&before[..], &[bytes(text)]].concat();
     // SAFETY: the pointers and lengths are those of slices.
-    let answered = unsafe { lurm_read_label_text(aliases, aliases_length, more, subject, text.as_ptr(), text.len()) };
+    let answered = unsafe { lurm_read_label_text(aliases, aliases_length, more, caller, text.as_ptr(), text.len()) };
     cases.add("lurm_read_label_text", &arguments(text), &answered);
     // SAFETY: as above.
-    let answered = unsafe { lurm_read_range_text(aliases, aliases_length, more, subject, range_text.as_ptr(), range_text.len()) };
+    let answered = unsafe { lurm_read_range_text(aliases, aliases_length, more, caller, range_text.as_ptr(), range_text.len()) };
     cases.add("lurm_read_range_text", &arguments(range_text), &answered);
 }
 
@@ -227,11 +227,14 @@ fn odd_object(random: &mut Random, mut object: Object) -> Object {
 pub fn monitor(random: &mut Random, cases: &mut Cases) {
     let credentials = credentials(random);
     let object = object(random, &credentials.label);
+    let both = inputs::joined(&credentials.label, &object.label);
+    let seen = random.pick(&[both, both, credentials.label, object.label]);
+    let caller = inputs::caller(random, &seen);
     let intents = match random.below(10) {
         0 => random.pick(&[0, 12, 64, 65, 256 + 2, (1 << 32) + 2, u64::MAX]),
         1 | 2 => random.below(64),
         _ => 1 << random.below(6),
     };
     let attribute = random.pick(&[1, 1, 1, 1, 2, 2, 2, 2, 0, 3, 256 + 1, (1 << 32) + 2, u64::MAX]);
-    call!(cases, lurm_check(credentials, object, intents, attribute));
+    call!(cases, lurm_check(caller, credentials, object, intents, attribute));
 }

@@ -61,6 +61,11 @@ pub fn dominating(random: &mut Random, label: &Label) -> Label {
     Label { hierarchy, categories: combined(&label.categories, &more, |a, b| a | b) }
 }
 
+/// The least label that dominates both, where they are valid.
+pub fn joined(a: &Label, b: &Label) -> Label {
+    Label { hierarchy: a.hierarchy.max(b.hierarchy), categories: combined(&a.categories, &b.categories, |a, b| a | b) }
+}
+
 /// A label that is equal to another, dominates it, is dominated by it, is next to it, or has nothing to do with it.
 pub fn related(random: &mut Random, to: &Label) -> Label {
     match random.below(6) {
@@ -175,6 +180,25 @@ pub fn no_flag(random: &mut Random) -> u64 {
     let flag = random.below(2);
     let (wider, any) = (random.wider(flag), random.number());
     random.pick(&[2, 3, 255, wider, wider, any])
+}
+
+/// 0 or 1, or once in a while another number.
+pub fn flag(random: &mut Random) -> u64 {
+    if random.once_in(25) {
+        no_flag(random)
+    } else {
+        random.below(2)
+    }
+}
+
+/// A caller that mostly sees the label.
+pub fn caller(random: &mut Random, label: &Label) -> Caller {
+    let label = match random.below(4) {
+        0 => related(random, label),
+        1 => input_label(random),
+        _ => dominating(random, label),
+    };
+    Caller { label, read_override: flag(random) }
 }
 
 /// A tuple as it may come in: a range may be in another region's place, or stand where none is said to be, or a flag may be none.

@@ -63,7 +63,7 @@ structs! {
     Abbreviation { bytes length }
     Entry { names number label name abbreviation }
     EntryAnswer { answer entry }
-    Subject { label read_override }
+    Caller { label read_override }
     Style { form variant }
     RangeWritten { answer status }
     Credentials { label range read_override write_override relabel }

@@ -88,33 +88,14 @@ pub fn range(random: &mut Random, names: &Names) -> Range {
     }
 }
 
-/// A subject that mostly sees the label.
-pub fn subject(random: &mut Random, label: &Label) -> Subject {
-    let label = match random.below(4) {
-        0 => inputs::related(random, label),
-        1 => inputs::input_label(random),
-        _ => inputs::dominating(random, label),
-    };
-    Subject { label, read_override: flag(random) }
-}
-
-/// 0 or 1, or once in a while another number.
-fn flag(random: &mut Random) -> u64 {
-    if random.once_in(25) {
-        inputs::no_flag(random)
-    } else {
-        random.below(2)
-    }
-}
-
 pub fn style(random: &mut Random) -> Style {
-    Style { form: flag(random), variant: flag(random) }
+    Style { form: inputs::flag(random), variant: inputs::flag(random) }
 }
 
 /// Whether the alias table is cut off; mostly not.
 pub fn more(random: &mut Random) -> u64 {
     if random.once_in(10) {
-        flag(random)
+        inputs::flag(random)
     } else {
         0
     }
