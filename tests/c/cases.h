@@ -7,7 +7,7 @@
 
 #include "calls.h"
 
-/* ATTEMPT(function, the answer that document 01 gives, arguments...) */
+/* ATTEMPT(function, the answer that the buyer's documents give, arguments...) */
 #define ATTEMPT(name, expected, ...) attempt(&name##_function, &(name##_arguments){__VA_ARGS__}, expected)
 
 #define ONE_TWO 6          /* the first word of the categories {1,2} */
@@ -35,6 +35,15 @@ static inline lurm_range range(lurm_label low, lurm_label high)
     lurm_range made;
     made.low = low;
     made.high = high;
+    return made;
+}
+
+/* Who asks. */
+static inline lurm_caller caller(lurm_label of, uint64_t read_override)
+{
+    lurm_caller made;
+    made.label = of;
+    made.read_override = read_override;
     return made;
 }
 

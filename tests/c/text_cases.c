@@ -45,14 +45,6 @@ static void fill(alias_table *aliases)
                                         : entry(LURM_NAMES_LABEL, 0, highest(), 'l', line));
 }
 
-static lurm_subject subject(lurm_label of, uint64_t read_override)
-{
-    lurm_subject made;
-    made.label = of;
-    made.read_override = read_override;
-    return made;
-}
-
 static lurm_style style(uint64_t form, uint64_t variant)
 {
     lurm_style made;
@@ -83,18 +75,18 @@ static void labels_written(void)
     const size_t length = low_and_east_length;
     lurm_style names = style(LURM_FORM_DEFINITION, LURM_VARIANT_NAMES), short_alias = style(LURM_FORM_ALIAS, LURM_VARIANT_ABBREVIATIONS);
     lurm_label l = label(20, SEVEN), top = highest();
-    lurm_subject self = subject(l, 0), all = subject(top, 0), lower = subject(label(20, 0), 0);
+    lurm_caller self = caller(l, 0), all = caller(top, 0), lower = caller(label(20, 0), 0);
 
     ATTEMPT(lurm_write_label_text, granted(8), aliases, length, 0, self, names, l, lent, sizeof lent);
-    ATTEMPT(lurm_write_label_text, granted(8), aliases, length, 0, subject(label(0, 0), 1), names, l, lent, 8);
+    ATTEMPT(lurm_write_label_text, granted(8), aliases, length, 0, caller(label(0, 0), 1), names, l, lent, 8);
     ATTEMPT(lurm_write_label_text, granted(LONGEST_LABEL), largest.bytes, largest.length, 0, all, names, top, lent, sizeof lent);
     ATTEMPT(lurm_write_label_text, granted(SHORTER_LABEL), largest.bytes, largest.length, 0, all, style(0, 1), top, lent, sizeof lent);
     ATTEMPT(lurm_write_label_text, granted(LURM_MAX_ABBREVIATION), largest.bytes, largest.length, 0, all, short_alias, top, lent, sizeof lent);
     ATTEMPT(lurm_write_label_text, refused_with(LURM_E2BIG, 8), aliases, length, 0, self, names, l, lent, 7);
     ATTEMPT(lurm_write_label_text, refused(LURM_ENOENT), aliases, length, 0, all, names, label(20, ONE_TWO), lent, sizeof lent);
     ATTEMPT(lurm_write_label_text, refused(LURM_EACCES), aliases, length, 0, lower, names, l, lent, sizeof lent);
-    ATTEMPT(lurm_write_label_text, refused(LURM_EINVAL), aliases, length, 0, subject(label(200, 0), 1), names, l, lent, sizeof lent);
-    ATTEMPT(lurm_write_label_text, refused(LURM_EINVAL), aliases, length, 0, subject(l, UINT64_MAX), names, l, lent, sizeof lent);
+    ATTEMPT(lurm_write_label_text, refused(LURM_EINVAL), aliases, length, 0, caller(label(200, 0), 1), names, l, lent, sizeof lent);
+    ATTEMPT(lurm_write_label_text, refused(LURM_EINVAL), aliases, length, 0, caller(l, UINT64_MAX), names, l, lent, sizeof lent);
     ATTEMPT(lurm_write_label_text, refused(LURM_EINVAL), aliases, length, 0, self, style(2, 0), l, lent, sizeof lent);
     ATTEMPT(lurm_write_label_text, refused_with(LURM_EINVAL, 1), aliases, length - 1, 0, self, names, l, lent, sizeof lent);
 }
@@ -107,14 +99,14 @@ static void ranges_written(void)
     lurm_label bottom = label(20, 0), l = label(20, SEVEN), top = highest();
     lurm_range one = range(top, top), x = range(bottom, l);
 
-    ATTEMPT(lurm_write_range_text, granted(18), aliases, length, 0, subject(l, 0), names, x, lent, sizeof lent);
-    ATTEMPT(lurm_write_range_text, granted(11), aliases, length, 0, subject(bottom, 0), names, x, lent, sizeof lent);
-    ATTEMPT(lurm_write_range_text, granted(LONGEST_RANGE), largest.bytes, largest.length, 0, subject(bottom, 1), names, one, lent, LONGEST_RANGE);
-    ATTEMPT(lurm_write_range_text, refused_with(LURM_E2BIG, LONGEST_RANGE), largest.bytes, largest.length, 0, subject(top, 0), names, one, lent, 0);
-    ATTEMPT(lurm_write_range_text, refused(LURM_EACCES), aliases, length, 0, subject(label(0, 0), 0), names, x, lent, sizeof lent);
-    ATTEMPT(lurm_write_range_text, refused(LURM_ENOENT), aliases, length, 0, subject(top, 0), names, one, lent, sizeof lent);
-    ATTEMPT(lurm_write_range_text, refused(LURM_EINVAL), aliases, length, 0, subject(top, 0), names, range(l, bottom), lent, sizeof lent);
-    ATTEMPT(lurm_write_range_text, refused_with(LURM_EINVAL, 0), aliases, 1, 0, subject(top, 0), names, x, lent, sizeof lent);
+    ATTEMPT(lurm_write_range_text, granted(18), aliases, length, 0, caller(l, 0), names, x, lent, sizeof lent);
+    ATTEMPT(lurm_write_range_text, granted(11), aliases, length, 0, caller(bottom, 0), names, x, lent, sizeof lent);
+    ATTEMPT(lurm_write_range_text, granted(LONGEST_RANGE), largest.bytes, largest.length, 0, caller(bottom, 1), names, one, lent, LONGEST_RANGE);
+    ATTEMPT(lurm_write_range_text, refused_with(LURM_E2BIG, LONGEST_RANGE), largest.bytes, largest.length, 0, caller(top, 0), names, one, lent, 0);
+    ATTEMPT(lurm_write_range_text, refused(LURM_EACCES), aliases, length, 0, caller(label(0, 0), 0), names, x, lent, sizeof lent);
+    ATTEMPT(lurm_write_range_text, refused(LURM_ENOENT), aliases, length, 0, caller(top, 0), names, one, lent, sizeof lent);
+    ATTEMPT(lurm_write_range_text, refused(LURM_EINVAL), aliases, length, 0, caller(top, 0), names, range(l, bottom), lent, sizeof lent);
+    ATTEMPT(lurm_write_range_text, refused_with(LURM_EINVAL, 0), aliases, 1, 0, caller(top, 0), names, x, lent, sizeof lent);
 }
 
 static void labels_read(void)
@@ -122,14 +114,14 @@ static void labels_read(void)
     static uint8_t longest[LONGEST_LABEL];
     const uint8_t *aliases = low_and_east, *text = (const uint8_t *)"low:e";
     const size_t length = low_and_east_length;
-    lurm_subject self = subject(label(20, SEVEN), 0), all = subject(highest(), 0);
+    lurm_caller self = caller(label(20, SEVEN), 0), all = caller(highest(), 0);
 
     need(lurm_write_label_text(largest.bytes, largest.length, 0, all, style(0, 0), highest(), longest, sizeof longest), "a text");
     ATTEMPT(lurm_read_label_text, granted(0), aliases, length, 0, self, text, 5);
     ATTEMPT(lurm_read_label_text, granted(0), largest.bytes, largest.length, 0, all, longest, sizeof longest);
     ATTEMPT(lurm_read_label_text, refused(LURM_EINVAL), aliases, length, 0, self, text, 4);
     ATTEMPT(lurm_read_label_text, refused(LURM_EINVAL), aliases, length, 0, self, longest, sizeof longest);
-    ATTEMPT(lurm_read_label_text, refused(LURM_EINVAL), aliases, length, 0, subject(label(20, 0), 0), text, 5);
+    ATTEMPT(lurm_read_label_text, refused(LURM_EINVAL), aliases, length, 0, caller(label(20, 0), 0), text, 5);
     ATTEMPT(lurm_read_label_text, refused(LURM_EINVAL), aliases, length, UINT64_MAX, self, text, 5);
     ATTEMPT(lurm_read_label_text, refused_with(LURM_EINVAL, 2), aliases, length, 1, self, text, 5);
 }
@@ -139,15 +131,15 @@ static void ranges_read(void)
     static uint8_t longest[LONGEST_RANGE];
     const uint8_t *aliases = low_and_east, *text = (const uint8_t *)"-L low -H low:east", *hidden = (const uint8_t *)"-L low -H ?";
     const size_t length = low_and_east_length;
-    lurm_subject self = subject(label(20, SEVEN), 0), all = subject(highest(), 0);
+    lurm_caller self = caller(label(20, SEVEN), 0), all = caller(highest(), 0);
     lurm_range one = range(highest(), highest());
 
     need(lurm_write_range_text(largest.bytes, largest.length, 0, all, style(0, 0), one, longest, sizeof longest).answer, "a text");
     ATTEMPT(lurm_read_range_text, granted(0), aliases, length, 0, self, text, 18);
     ATTEMPT(lurm_read_range_text, granted(0), largest.bytes, largest.length, 0, all, longest, sizeof longest);
     ATTEMPT(lurm_read_range_text, refused(LURM_EINVAL), aliases, length, 0, self, hidden, 11);
-    ATTEMPT(lurm_read_range_text, refused(LURM_EINVAL), aliases, length, 0, subject(label(20, 0), 0), text, 18);
-    ATTEMPT(lurm_read_range_text, refused(LURM_EINVAL), aliases, length, 0, subject(label(20, 0), 2), text, 18);
+    ATTEMPT(lurm_read_range_text, refused(LURM_EINVAL), aliases, length, 0, caller(label(20, 0), 0), text, 18);
+    ATTEMPT(lurm_read_range_text, refused(LURM_EINVAL), aliases, length, 0, caller(label(20, 0), 2), text, 18);
     ATTEMPT(lurm_read_range_text, refused_with(LURM_EINVAL, 0), aliases + 2, length - 2, 0, self, text, 18);
 }
 
