@@ -140,34 +140,39 @@ static lurm_label compare(lurm_label first, lurm_label second)
 
 /* ---- The monitor ---- */
 
-static void decide(const char *question, lurm_credentials subject, lurm_object object, uint64_t intents, uint64_t attribute)
+static void decide(const char *question, lurm_caller caller, lurm_credentials subject, lurm_object object, uint64_t intents, uint64_t attribute)
 {
-    lurm_answer answer = lurm_check(subject, object, intents, attribute);
+    lurm_answer answer = lurm_check(caller, subject, object, intents, attribute);
     if (granted(question, answer))
         printf("%s\n", answer.value == 0 ? "granted" : "granted by privilege");
 }
 
-static void decisions(lurm_label first)
+/* The first tenant asks about itself: the caller has the label and the read override of the subject. The second may not see the first. */
+static void decisions(lurm_label first, lurm_label second)
 {
     static const uint64_t categories[] = {1};
+    lurm_caller self = {0}, other = {0};
     lurm_credentials subject = {0};
     lurm_object file = {0};
 
+    self.label = first;
+    other.label = second;
     subject.label = first;
     subject.range.low = first;
     subject.range.high = first;
     file.type = LURM_CLASS_FILE;
     file.kind = LURM_KIND_REGULAR;
-    decide("the first reads a file that has no label", subject, file, LURM_INTENT_READ, 0);
+    decide("the first reads a file that has no label", self, subject, file, LURM_INTENT_READ, 0);
     file.has_label = 1;
     file.label = label_of(20, categories, 1);
-    decide("the first reads a file at (20,{1})", subject, file, LURM_INTENT_READ, 0);
-    decide("the first writes it", subject, file, LURM_INTENT_WRITE, 0);
+    decide("the first reads a file at (20,{1})", self, subject, file, LURM_INTENT_READ, 0);
+    decide("the second asks whether the first reads it", other, subject, file, LURM_INTENT_READ, 0);
+    decide("the first writes it", self, subject, file, LURM_INTENT_WRITE, 0);
     subject.write_override = 1;
-    decide("the first writes it with the write override", subject, file, LURM_INTENT_WRITE, 0);
-    decide("the first sets its label", subject, file, LURM_INTENT_SET_ATTRIBUTE, LURM_ATTRIBUTE_LABEL);
+    decide("the first writes it with the write override", self, subject, file, LURM_INTENT_WRITE, 0);
+    decide("the first sets its label", self, subject, file, LURM_INTENT_SET_ATTRIBUTE, LURM_ATTRIBUTE_LABEL);
     subject.relabel = 1;
-    decide("the first sets its label with the privilege to relabel", subject, file, LURM_INTENT_SET_ATTRIBUTE, LURM_ATTRIBUTE_LABEL);
+    decide("the first sets its label with the privilege to relabel", self, subject, file, LURM_INTENT_SET_ATTRIBUTE, LURM_ATTRIBUTE_LABEL);
 }
 
 /* ---- Names and text ---- */
@@ -189,40 +194,39 @@ static void add_name(alias_table *aliases, uint64_t names, uint64_t number, cons
     aliases->length += (size_t)written.value;
 }
 
-static void write_text(const char *question, const alias_table *aliases, lurm_subject subject, lurm_label label, size_t capacity)
+static void write_text(const char *question, const alias_table *aliases, lurm_caller caller, lurm_label label, size_t capacity)
 {
     lurm_style style = {LURM_FORM_DEFINITION, LURM_VARIANT_ABBREVIATIONS};
     uint8_t text[64];
     size_t room = capacity < sizeof text ? capacity : sizeof text;
-    lurm_answer written = lurm_write_label_text(aliases->lines, aliases->length, 0, subject, style, label, text, room);
+    lurm_answer written = lurm_write_label_text(aliases->lines, aliases->length, 0, caller, style, label, text, room);
     lurm_label_answer read;
 
     if (!granted(question, written))
         return;
     printf("%.*s\n", (int)written.value, (const char *)text);
-    read = lurm_read_label_text(aliases->lines, aliases->length, 0, subject, text, (size_t)written.value);
+    read = lurm_read_label_text(aliases->lines, aliases->length, 0, caller, text, (size_t)written.value);
     (void)print_label_answer("read back", read);
 }
 
 static void texts(lurm_label first, lurm_label both)
 {
     static alias_table aliases;
-    lurm_subject subject;
+    lurm_caller caller = {0};
 
     add_name(&aliases, LURM_NAMES_HIERARCHY, 30, "internal", "int");
     add_name(&aliases, LURM_NAMES_CATEGORY, 1, "north", "n");
     add_name(&aliases, LURM_NAMES_CATEGORY, 2, "south", "");
     print_number("lines of the alias table", lurm_check_alias_table(aliases.lines, aliases.length, 0));
-    subject.label = both;
-    subject.read_override = 0;
-    write_text("as text in 5 bytes", &aliases, subject, both, 5);
-    write_text("as text in 64 bytes", &aliases, subject, both, 64);
-    subject.label = first;
-    write_text("as text for the first", &aliases, subject, both, 64);
-    subject.read_override = 1;
-    write_text("as text for the first with the read override", &aliases, subject, both, 64);
+    caller.label = both;
+    write_text("as text in 5 bytes", &aliases, caller, both, 5);
+    write_text("as text in 64 bytes", &aliases, caller, both, 64);
+    caller.label = first;
+    write_text("as text for the first", &aliases, caller, both, 64);
+    caller.read_override = 1;
+    write_text("as text for the first with the read override", &aliases, caller, both, 64);
     both.hierarchy = 20;
-    write_text("as text at hierarchy 20", &aliases, subject, both, 64);
+    write_text("as text at hierarchy 20", &aliases, caller, both, 64);
     add_name(&aliases, LURM_NAMES_CATEGORY, 3, "west", "n");
     print_number("lines of an alias table with a name twice", lurm_check_alias_table(aliases.lines, aliases.length, 0));
 }
@@ -334,7 +338,7 @@ int main(void)
     second = tenant_label("the second tenant", second_line);
     (void)print_label_answer("a line with a wrong sum", read_line(bad_line));
     both = compare(first, second);
-    decisions(first);
+    decisions(first, second);
     texts(first, both);
     segments(first, second);
     return EXIT_SUCCESS;
