@@ -4,12 +4,13 @@ use crate::by_value;
 use crate::cases::names::NamedTable;
 use crate::convert::{answer, label_answer};
 use crate::ordinary::board::{Board, Place, Segment, Tenant, TenantId, PLACES, TENANTS};
+use crate::ordinary::caller::Caller;
 use crate::ordinary::label::{dominates, lower_bound, upper_bound, Label};
 use crate::ordinary::line::{read_label, write_label};
 use crate::ordinary::monitor::{check, Class, Credentials, FileKind, Object};
 use crate::ordinary::range::{Range, Tuple};
 use crate::ordinary::table::check_table;
-use crate::ordinary::text::{read_label_text, write_label_text, Form, Style, Subject, Variant};
+use crate::ordinary::text::{read_label_text, write_label_text, Form, Style, Variant};
 use crate::ordinary::Refusal;
 use crate::random::Random;
 use lurmenize::raw;
@@ -28,13 +29,15 @@ fn or_other(random: &mut Random, given: Label) -> Label {
     random.pick(&[given, other])
 }
 
+/// The least label that dominates both, where they are valid.
+fn joined(a: Label, b: Label) -> Label {
+    let categories = std::array::from_fn(|word| a.categories[word] | b.categories[word]);
+    Label { hierarchy: a.hierarchy.max(b.hierarchy), categories }
+}
+
 fn range(random: &mut Random) -> Range {
     let (low, high) = (label(random), label(random));
-    if random.once_in(4) {
-        return Range { low, high };
-    }
-    let categories = std::array::from_fn(|word| low.categories[word] | high.categories[word]);
-    Range { low, high: Label { hierarchy: low.hierarchy.max(high.hierarchy), categories } }
+    Range { low, high: if random.once_in(4) { high } else { joined(low, high) } }
 }
 
 fn tuple(random: &mut Random) -> Tuple {
@@ -110,25 +113,25 @@ fn texts() {
         let (pointer, length, more) = (table.as_ptr(), table.len(), random.once_in(16));
         assert_eq!(count_answer(check_table(&table, more)), unsafe { raw::lurm_check_alias_table(pointer, length, more.into()) });
         let named = names.label(random);
-        let subject = Subject { label: or_other(random, named), read_override: random.once_in(2) };
+        let caller = Caller { label: or_other(random, named), read_override: random.once_in(2) };
         let form = random.pick(&[Form::Definition, Form::Alias]);
         let style = Style { form, variant: random.pick(&[Variant::Names, Variant::Abbreviations]) };
         let written = or_other(random, named);
         let (mut ordinary, mut proved) = ([0xa5; 128], [0xa5; 128]);
         let room = random.pick(&[128, 128, 20]);
-        let wrote = write_label_text(&table, more, &subject, style, &written, &mut ordinary[..room]);
-        let (who, how, what, out) = (subject.into(), style.into(), written.into(), proved.as_mut_ptr());
+        let wrote = write_label_text(&table, more, &caller, style, &written, &mut ordinary[..room]);
+        let (who, how, what, out) = (caller.into(), style.into(), written.into(), proved.as_mut_ptr());
         assert_eq!(count_answer(wrote), unsafe { raw::lurm_write_label_text(pointer, length, more.into(), who, how, what, out, room) });
         assert_eq!(ordinary, proved);
         let text = &mut ordinary[..wrote.unwrap_or(9)];
         spoil(random, text);
-        let read = label_answer(read_label_text(&table, more, &subject, text));
+        let read = label_answer(read_label_text(&table, more, &caller, text));
         assert_eq!(read, unsafe { raw::lurm_read_label_text(pointer, length, more.into(), who, text.as_ptr(), text.len()) });
     }
 }
 
-/// A subject and an object, which often have the same label.
-fn request(random: &mut Random) -> (Credentials, Object) {
+/// A subject and an object, which often have the same label, and a caller, which often sees both.
+fn request(random: &mut Random) -> (Caller, Credentials, Object) {
     let files = [FileKind::Regular, FileKind::Directory, FileKind::Other].map(Class::File);
     let others = [Class::Fifo, Class::Process, Class::MessageQueue, Class::SharedMemory, Class::Semaphore];
     let range = range(random);
@@ -139,23 +142,26 @@ fn request(random: &mut Random) -> (Credentials, Object) {
         write_override: random.once_in(2),
         relabel: random.once_in(2),
     };
+    let other = label(random);
     let label = or_other(random, credentials.label);
     let object = Object {
         class: if random.once_in(2) { random.pick(&files) } else { random.pick(&others) },
         label: random.once_in(2).then_some(label),
         tuple: random.once_in(2).then(|| tuple(random)),
     };
-    (credentials, object)
+    let both = joined(credentials.label, label);
+    let seen = random.pick(&[both, both, credentials.label, label, other]);
+    (Caller { label: seen, read_override: random.once_in(4) }, credentials, object)
 }
 
 #[test]
 fn decisions() {
     let random = &mut Random::new(4);
     for _ in 0..TURNS {
-        let (credentials, object) = request(random);
+        let (caller, credentials, object) = request(random);
         let (intents, attribute) = (random.between(0, 65), random.between(0, 3));
-        let decided = check(&credentials, &object, intents, attribute).map(u64::from);
-        assert_eq!(answer(decided), raw::lurm_check(credentials.into(), object.into(), intents, attribute));
+        let decided = check(&caller, &credentials, &object, intents, attribute).map(u64::from);
+        assert_eq!(answer(decided), raw::lurm_check(caller.into(), credentials.into(), object.into(), intents, attribute));
     }
 }
 
@@ -263,9 +269,12 @@ fn spoil_tuple(random: &mut Random, tuple: &mut raw::Tuple) {
 fn decisions_by_value() {
     let random = &mut Random::new(7);
     for _ in 0..TURNS {
-        let (credentials, object) = request(random);
+        let (caller, credentials, object) = request(random);
+        let mut caller = raw::Caller::from(caller);
         let (mut credentials, mut object) = (raw::Credentials::from(credentials), raw::Object::from(object));
         let numbers = [
+            &mut caller.label.hierarchy,
+            &mut caller.read_override,
             &mut credentials.label.hierarchy,
             &mut credentials.range.low.hierarchy,
             &mut credentials.read_override,
@@ -280,7 +289,8 @@ fn decisions_by_value() {
         spoil_one(random, numbers);
         spoil_tuple(random, &mut object.tuple);
         let (intents, attribute) = (random.between(0, 65), random.between(0, 3));
-        assert_eq!(by_value::check(credentials, object, intents, attribute), raw::lurm_check(credentials, object, intents, attribute));
+        let decided = by_value::check(caller, credentials, object, intents, attribute);
+        assert_eq!(decided, raw::lurm_check(caller, credentials, object, intents, attribute));
     }
 }
 

@@ -4,6 +4,7 @@
 
 use crate::convert::{answer, label_answer};
 use crate::ordinary::board::{Board, Place, Segment, Tenant, TenantId};
+use crate::ordinary::caller::Caller;
 use crate::ordinary::label::{inlined, Label};
 use crate::ordinary::monitor::{check_inlined, Class, Credentials, FileKind, Object};
 use crate::ordinary::range::{Range, Tuple};
@@ -88,6 +89,10 @@ fn class(class: u64, kind: u64) -> Option<Class> {
     })
 }
 
+fn caller(from: &raw::Caller) -> Option<Caller> {
+    Some(Caller { label: label(&from.label)?, read_override: flag(from.read_override)? })
+}
+
 fn credentials(from: &raw::Credentials) -> Option<Credentials> {
     Some(Credentials {
         label: label(&from.label)?,
@@ -133,11 +138,11 @@ pub extern "C" fn lower_bound(a: raw::Label, b: raw::Label) -> raw::LabelAnswer 
 
 #[export_name = "bench_by_value_check"]
 #[inline(never)]
-pub extern "C" fn check(subject: raw::Credentials, asked: raw::Object, intents: u64, attribute: u64) -> raw::Answer {
-    let (Some(subject), Some(asked)) = (credentials(&subject), object(&asked)) else {
+pub extern "C" fn check(who: raw::Caller, subject: raw::Credentials, asked: raw::Object, intents: u64, attribute: u64) -> raw::Answer {
+    let (Some(who), Some(subject), Some(asked)) = (caller(&who), credentials(&subject), object(&asked)) else {
         return Refusal::Invalid.into();
     };
-    answer(check_inlined(&subject, &asked, intents, attribute).map(u64::from))
+    answer(check_inlined(&who, &subject, &asked, intents, attribute).map(u64::from))
 }
 
 #[export_name = "bench_by_value_post"]

@@ -1,10 +1,11 @@
 //! Values of the ordinary version as the header has them: inputs are prepared once and handed to both, answers are compared in one form.
 
 use crate::ordinary::board::{Board, Segment, Tenant};
+use crate::ordinary::caller::Caller;
 use crate::ordinary::label::Label;
 use crate::ordinary::monitor::{Class, Credentials, FileKind, Object};
 use crate::ordinary::range::{Range, Tuple};
-use crate::ordinary::text::{Style, Subject};
+use crate::ordinary::text::Style;
 use crate::ordinary::Refusal;
 use lurmenize::raw;
 
@@ -27,9 +28,9 @@ impl From<Tuple> for raw::Tuple {
     }
 }
 
-impl From<Subject> for raw::Subject {
-    fn from(subject: Subject) -> raw::Subject {
-        raw::Subject { label: subject.label.into(), read_override: subject.read_override.into() }
+impl From<Caller> for raw::Caller {
+    fn from(caller: Caller) -> raw::Caller {
+        raw::Caller { label: caller.label.into(), read_override: caller.read_override.into() }
     }
 }
 

@@ -1,11 +1,13 @@
-//! Decisions of the monitor: grants, grants by privilege and denials.
+//! Decisions of the monitor: grants, grants by privilege and denials. Callers mostly see both labels; once in eight times one passes by its read
+//! override or is refused, so that this is timed and compared too.
 
 use super::labels::{below, label, label_at};
 use super::{prepared, Case};
 use crate::by_value;
 use crate::convert::answer;
-use crate::harness::{side, Sides};
-use crate::ordinary::label::Label;
+use crate::harness::{side, Side, Sides};
+use crate::ordinary::caller::Caller;
+use crate::ordinary::label::{upper_bound, Label};
 use crate::ordinary::monitor::{check, intent, Class, Credentials, FileKind, Object};
 use crate::ordinary::range::{Range, Tuple};
 use crate::random::Random;
@@ -14,6 +16,7 @@ use lurmenize::raw;
 const REQUESTS: usize = 1024;
 
 struct Request {
+    caller: Caller,
     credentials: Credentials,
     object: Object,
     intents: u64,
@@ -21,11 +24,11 @@ struct Request {
 }
 
 /// What the archive is handed.
-type RawRequest = (raw::Credentials, raw::Object, u64, u64);
+type RawRequest = (raw::Caller, raw::Credentials, raw::Object, u64, u64);
 
 impl From<&Request> for RawRequest {
     fn from(request: &Request) -> RawRequest {
-        (request.credentials.into(), request.object.into(), request.intents, request.attribute)
+        (request.caller.into(), request.credentials.into(), request.object.into(), request.intents, request.attribute)
     }
 }
 
@@ -62,8 +65,19 @@ fn intents(random: &mut Random, class: Class) -> u64 {
     ])
 }
 
+/// Has the least label that sees the subject's and the object's. Once in eight times it has any other label, which hardly ever does: half of those
+/// callers have the read override.
+fn caller(random: &mut Random, subject: &Label, object: &Object) -> Caller {
+    if random.once_in(8) {
+        return Caller { label: label(random), read_override: random.once_in(2) };
+    }
+    let both = object.label.map(|label| upper_bound(subject, &label).expect("a bound of valid labels"));
+    Caller { label: both.unwrap_or(*subject), read_override: false }
+}
+
 fn request(random: &mut Random, credentials: Credentials, object: Object) -> Request {
-    Request { credentials, object, intents: intents(random, object.class), attribute: random.between(1, 2) }
+    let caller = caller(random, &credentials.label, &object);
+    Request { caller, credentials, object, intents: intents(random, object.class), attribute: random.between(1, 2) }
 }
 
 /// A file whose label is the subject's, or one that it dominates, or any.
@@ -96,32 +110,37 @@ fn object_with_tuple(random: &mut Random) -> Request {
     request(random, credentials, Object { class, label: None, tuple: Some(tuple) })
 }
 
+fn proved(requests: Vec<RawRequest>) -> Box<dyn Side<raw::Answer>> {
+    side(
+        (),
+        requests,
+        |_, (caller, credentials, object, intents, attribute)| raw::lurm_check(*caller, *credentials, *object, *intents, *attribute),
+        |_, answer| answer,
+    )
+}
+
 fn decision(random: &mut Random, make: fn(&mut Random) -> Request) -> Sides<raw::Answer> {
     let requests = prepared(REQUESTS, random, make);
-    let raw_requests: Vec<RawRequest> = requests.iter().map(RawRequest::from).collect();
-    vec![
-        side(
-            (),
-            requests,
-            |_, asked| check(&asked.credentials, &asked.object, asked.intents, asked.attribute),
-            |_, result| answer(result.map(u64::from)),
-        ),
-        side(
-            (),
-            raw_requests,
-            |_, (credentials, object, intents, attribute)| raw::lurm_check(*credentials, *object, *intents, *attribute),
-            |_, answer| answer,
-        ),
-    ]
+    let raw_requests = requests.iter().map(RawRequest::from).collect();
+    let ordinary = side(
+        (),
+        requests,
+        |_, asked| check(&asked.caller, &asked.credentials, &asked.object, asked.intents, asked.attribute),
+        |_, result| answer(result.map(u64::from)),
+    );
+    vec![ordinary, proved(raw_requests)]
 }
 
 /// The ordinary version behind the header's interface, and the proved one.
 fn passed(random: &mut Random, make: fn(&mut Random) -> Request) -> Sides<raw::Answer> {
     let requests: Vec<RawRequest> = prepared(REQUESTS, random, make).iter().map(RawRequest::from).collect();
-    vec![
-        side((), requests.clone(), |_, (c, o, intents, attribute)| by_value::check(*c, *o, *intents, *attribute), |_, answer| answer),
-        side((), requests, |_, (c, o, intents, attribute)| raw::lurm_check(*c, *o, *intents, *attribute), |_, answer| answer),
-    ]
+    let ordinary = side(
+        (),
+        requests.clone(),
+        |_, (caller, credentials, object, intents, attribute)| by_value::check(*caller, *credentials, *object, *intents, *attribute),
+        |_, answer| answer,
+    );
+    vec![ordinary, proved(requests)]
 }
 
 pub fn cases() -> Vec<Case> {

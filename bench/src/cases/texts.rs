@@ -5,9 +5,10 @@ use super::names::NamedTable;
 use super::{prepared, Case};
 use crate::convert::{answer, label_answer};
 use crate::harness::{side, Sides};
+use crate::ordinary::caller::Caller;
 use crate::ordinary::label::Label;
 use crate::ordinary::table::check_table;
-use crate::ordinary::text::{read_label_text, write_label_text, Form, Style, Subject, Variant};
+use crate::ordinary::text::{read_label_text, write_label_text, Form, Style, Variant};
 use crate::random::Random;
 use lurmenize::raw;
 use std::rc::Rc;
@@ -32,11 +33,11 @@ fn check(random: &mut Random, entries: usize) -> Sides<raw::Answer> {
 }
 
 /// Either dominates every label, or has the read override.
-fn subject(random: &mut Random) -> Subject {
+fn caller(random: &mut Random) -> Caller {
     if random.once_in(2) {
-        Subject { label: Label { hierarchy: 199, categories: [u64::MAX; 4] }, read_override: false }
+        Caller { label: Label { hierarchy: 199, categories: [u64::MAX; 4] }, read_override: false }
     } else {
-        Subject { label: label(random), read_override: true }
+        Caller { label: label(random), read_override: true }
     }
 }
 
@@ -45,45 +46,45 @@ fn style(random: &mut Random) -> Style {
     Style { form, variant: random.pick(&[Variant::Names, Variant::Abbreviations]) }
 }
 
-type Writing = (Subject, Style, Label);
+type Writing = (Caller, Style, Label);
 
 fn writings(random: &mut Random, table: &NamedTable) -> Vec<Writing> {
-    prepared(LABELS, random, |random| (subject(random), style(random), table.label(random)))
+    prepared(LABELS, random, |random| (caller(random), style(random), table.label(random)))
 }
 
 fn write(random: &mut Random, entries: usize) -> Sides<(raw::Answer, [u8; 256])> {
     let table = NamedTable::new(random, entries);
     let writings = writings(random, &table);
-    let raw_writings: Vec<(raw::Subject, raw::Style, raw::Label)> =
-        writings.iter().map(|(subject, style, label)| ((*subject).into(), (*style).into(), (*label).into())).collect();
+    let raw_writings: Vec<(raw::Caller, raw::Style, raw::Label)> =
+        writings.iter().map(|(caller, style, label)| ((*caller).into(), (*style).into(), (*label).into())).collect();
     let bytes: Rc<[u8]> = table.bytes.into();
     let raw_bytes = bytes.clone();
     vec![
         side(
             BUFFER,
             writings,
-            move |buffer, (subject, style, label)| write_label_text(&bytes, false, subject, *style, label, buffer),
+            move |buffer, (caller, style, label)| write_label_text(&bytes, false, caller, *style, label, buffer),
             |buffer, result| (answer(result.map(|length| length as u64)), *buffer),
         ),
         side(
             BUFFER,
             raw_writings,
-            move |buffer, (subject, style, label)| {
+            move |buffer, (caller, style, label)| {
                 let (table, out) = (raw_bytes.as_ptr(), buffer.as_mut_ptr());
                 // SAFETY: pointers and lengths are those of the table and the buffer.
-                unsafe { raw::lurm_write_label_text(table, raw_bytes.len(), 0, *subject, *style, *label, out, buffer.len()) }
+                unsafe { raw::lurm_write_label_text(table, raw_bytes.len(), 0, *caller, *style, *label, out, buffer.len()) }
             },
             |buffer, answer| (answer, *buffer),
         ),
     ]
 }
 
-/// What is written of each label, with the subject that reads it back.
-fn readings(random: &mut Random, table: &NamedTable) -> Vec<(Subject, Vec<u8>)> {
-    let read_back = |(subject, style, label): Writing| {
+/// What is written of each label, with the caller that reads it back.
+fn readings(random: &mut Random, table: &NamedTable) -> Vec<(Caller, Vec<u8>)> {
+    let read_back = |(caller, style, label): Writing| {
         let mut buffer = BUFFER;
-        let length = write_label_text(&table.bytes, false, &subject, style, &label, &mut buffer).expect("a text of a named label");
-        (subject, buffer[..length].to_vec())
+        let length = write_label_text(&table.bytes, false, &caller, style, &label, &mut buffer).expect("a text of a named label");
+        (caller, buffer[..length].to_vec())
     };
     writings(random, table).into_iter().map(read_back).collect()
 }
@@ -91,18 +92,18 @@ fn readings(random: &mut Random, table: &NamedTable) -> Vec<(Subject, Vec<u8>)> 
 fn read(random: &mut Random, entries: usize) -> Sides<raw::LabelAnswer> {
     let table = NamedTable::new(random, entries);
     let readings = readings(random, &table);
-    let raw_readings: Vec<(raw::Subject, Vec<u8>)> = readings.iter().map(|(subject, text)| ((*subject).into(), text.clone())).collect();
+    let raw_readings: Vec<(raw::Caller, Vec<u8>)> = readings.iter().map(|(caller, text)| ((*caller).into(), text.clone())).collect();
     let bytes: Rc<[u8]> = table.bytes.into();
     let raw_bytes = bytes.clone();
     vec![
-        side((), readings, move |_, (subject, text)| read_label_text(&bytes, false, subject, text), |_, result| label_answer(result)),
+        side((), readings, move |_, (caller, text)| read_label_text(&bytes, false, caller, text), |_, result| label_answer(result)),
         side(
             (),
             raw_readings,
-            move |_, (subject, text)| {
+            move |_, (caller, text)| {
                 let (table, length) = (raw_bytes.as_ptr(), raw_bytes.len());
                 // SAFETY: pointers and lengths are those of the table and the text.
-                unsafe { raw::lurm_read_label_text(table, length, 0, *subject, text.as_ptr(), text.len()) }
+                unsafe { raw::lurm_read_label_text(table, length, 0, *caller, text.as_ptr(), text.len()) }
             },
             |_, answer| answer,
         ),

@@ -1,9 +1,10 @@
-//! Document 01's rules as ordinary safe Rust: what the proved library is measured against.
+//! Document 01's rules, with who asks the monitor by document 02, as ordinary safe Rust: what the proved library is measured against.
 //!
 //! Types hold what they can: an absent range, tenant or segment is `None`, a choice is an enum, so that no flags or zeros are left to
 //! test. All else is tested at each call, as document 01 asks. Functions that are timed are never inlined: a call into the archive can't be either.
 
 pub mod board;
+pub mod caller;
 pub mod label;
 pub mod line;
 pub mod monitor;

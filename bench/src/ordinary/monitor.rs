@@ -1,9 +1,11 @@
 //! The reference monitor.
 
+use super::caller::Caller;
 use super::label::Label;
 use super::range::{Range, Tuple};
 use super::{require, Refusal};
 
+/// The subject that is asked about.
 #[derive(Clone, Copy, Debug)]
 pub struct Credentials {
     pub label: Label,
@@ -84,17 +86,19 @@ fn intents_valid(intents: u64, class: Class, attribute: u64) -> bool {
         && (!asks(intent::GET_ATTRIBUTE | intent::SET_ATTRIBUTE) || matches!(attribute, 1 | 2))
 }
 
-/// Whether a privilege was needed.
+/// Whether a privilege of the subject was needed.
 #[inline(never)]
-pub fn check(credentials: &Credentials, object: &Object, intents: u64, attribute: u64) -> Result<bool, Refusal> {
-    check_inlined(credentials, object, intents, attribute)
+pub fn check(caller: &Caller, credentials: &Credentials, object: &Object, intents: u64, attribute: u64) -> Result<bool, Refusal> {
+    check_inlined(caller, credentials, object, intents, attribute)
 }
 
 /// The same, for callers that are timed themselves.
 #[inline(always)]
-pub fn check_inlined(credentials: &Credentials, object: &Object, intents: u64, attribute: u64) -> Result<bool, Refusal> {
-    let valid = intents_valid(intents, object.class, attribute) && credentials.is_valid() && object.is_valid();
+pub fn check_inlined(caller: &Caller, credentials: &Credentials, object: &Object, intents: u64, attribute: u64) -> Result<bool, Refusal> {
+    let valid = intents_valid(intents, object.class, attribute) && caller.label.is_valid() && credentials.is_valid() && object.is_valid();
     require(valid, Refusal::Invalid)?;
+    let sees_object = object.label.as_ref().is_none_or(|label| caller.may_see(label));
+    require(caller.may_see(&credentials.label) && sees_object, Refusal::Denied)?;
     let sets = intents & intent::SET_ATTRIBUTE != 0;
     let reads = intents & intent::READ != 0;
     let observes = intents & !(intent::WRITE | intent::SET_ATTRIBUTE) != 0;

@@ -1,12 +1,14 @@
-//! Document 01's examples, as far as the ordinary version has what they ask, and one refusal of each kind.
+//! Document 01's examples, as far as the ordinary version has what they ask, one refusal of each kind, and document 02's rule of who asks the
+//! monitor.
 
 use super::board::{Board, Place, Tenant, TenantId, PLACES, TENANTS};
+use super::caller::Caller;
 use super::label::{dominates, lower_bound, upper_bound, Label};
 use super::line::{read_label, write_label};
 use super::monitor::{check, intent, Class, Credentials, FileKind, Object};
 use super::range::{Range, Tuple};
 use super::table::check_table;
-use super::text::{read_label_text, write_label_text, Form, Style, Subject, Variant};
+use super::text::{read_label_text, write_label_text, Form, Style, Variant};
 use super::Refusal;
 
 const TABLE: &[u8] = b"040114036c6f770092\n04020704656173740165dc\n";
@@ -24,8 +26,8 @@ fn user(low: Label, high: Label) -> Tuple {
     Tuple([None, Some(Range { low, high }), None])
 }
 
-fn subject(label: Label) -> Subject {
-    Subject { label, read_override: false }
+fn caller(label: Label) -> Caller {
+    Caller { label, read_override: false }
 }
 
 #[test]
@@ -82,13 +84,13 @@ fn many(lines: usize) -> Vec<u8> {
 fn texts() {
     let (low, east) = (label(20, &[]), label(20, &[7]));
     let mut out = [0xa5; 9];
-    assert_eq!(write_label_text(TABLE, false, &subject(east), NAMES, &east, &mut out[..7]), Err(Refusal::BufferShort(8)));
-    assert_eq!(write_label_text(TABLE, false, &subject(low), NAMES, &east, &mut out), Err(Refusal::Denied));
-    assert_eq!(write_label_text(TABLE, false, &subject(east), NAMES, &label(19, &[]), &mut out), Err(Refusal::NoName));
+    assert_eq!(write_label_text(TABLE, false, &caller(east), NAMES, &east, &mut out[..7]), Err(Refusal::BufferShort(8)));
+    assert_eq!(write_label_text(TABLE, false, &caller(low), NAMES, &east, &mut out), Err(Refusal::Denied));
+    assert_eq!(write_label_text(TABLE, false, &caller(east), NAMES, &label(19, &[]), &mut out), Err(Refusal::NoName));
     assert_eq!(out, [0xa5; 9]);
-    assert_eq!(write_label_text(TABLE, false, &subject(east), NAMES, &east, &mut out), Ok(8));
+    assert_eq!(write_label_text(TABLE, false, &caller(east), NAMES, &east, &mut out), Ok(8));
     assert_eq!(&out, b"low:east\xa5");
-    assert_eq!(write_label_text(TABLE, false, &subject(east), ABBREVIATIONS, &east, &mut out), Ok(5));
+    assert_eq!(write_label_text(TABLE, false, &caller(east), ABBREVIATIONS, &east, &mut out), Ok(5));
     assert_eq!(&out[..5], b"low:e");
     for (text, answer) in [
         (&b"low"[..], Ok(low)),
@@ -98,10 +100,10 @@ fn texts() {
         (b"east", Err(Refusal::Invalid)),
         (b"", Err(Refusal::Invalid)),
     ] {
-        assert_eq!(read_label_text(TABLE, false, &subject(east), text), answer);
+        assert_eq!(read_label_text(TABLE, false, &caller(east), text), answer);
     }
-    assert_eq!(read_label_text(TABLE, false, &subject(low), b"low:east"), Err(Refusal::Invalid));
-    assert_eq!(read_label_text(TABLE, true, &subject(label(200, &[])), b"low"), Err(Refusal::BadLine(2)));
+    assert_eq!(read_label_text(TABLE, false, &caller(low), b"low:east"), Err(Refusal::Invalid));
+    assert_eq!(read_label_text(TABLE, true, &caller(label(200, &[])), b"low"), Err(Refusal::BadLine(2)));
 }
 
 fn file(label: Label) -> Object {
@@ -116,16 +118,21 @@ fn memory(tuple: Tuple) -> Object {
     Object { class: Class::SharedMemory, label: None, tuple: Some(tuple) }
 }
 
-/// PROGRAMS.md's worked run of the monitor.
-#[test]
-fn decisions() {
-    let plain = Credentials {
+/// At (30,{}), between (20,{}) and (40,{}), without a privilege.
+fn plain() -> Credentials {
+    Credentials {
         label: label(30, &[]),
         range: Range { low: label(20, &[]), high: label(40, &[]) },
         read_override: false,
         write_override: false,
         relabel: false,
-    };
+    }
+}
+
+/// The intents in PROGRAMS.md's worked run of the monitor, for a caller that sees all labels there.
+#[test]
+fn decisions() {
+    let plain = plain();
     let (low, own, high) = (label(20, &[]), label(30, &[]), label(40, &[]));
     let contains = user(low, high);
     let both = Object { tuple: Some(contains), ..file(high) };
@@ -153,9 +160,40 @@ fn decisions() {
         (outside, file(low), intent::READ, Err(Refusal::Invalid)),
         (plain, file(low), 64, Err(Refusal::Invalid)),
     ] {
-        assert_eq!(check(&credentials, &object, intents, 1), answer);
+        assert_eq!(check(&caller(high), &credentials, &object, intents, 1), answer);
     }
-    assert_eq!(check(&plain, &directory, intent::GET_ATTRIBUTE, 3), Err(Refusal::Invalid));
+    assert_eq!(check(&caller(high), &plain, &directory, intent::GET_ATTRIBUTE, 3), Err(Refusal::Invalid));
+}
+
+/// The caller has to see the two labels, and no end of a range or tuple; that is tested after what is invalid and before the intents.
+#[test]
+fn callers() {
+    let (plain, invalid) = (plain(), label(200, &[]));
+    let all = Credentials { read_override: true, write_override: true, relabel: true, ..plain };
+    let no_relabel = Credentials { relabel: false, ..all };
+    let (low, own, aside) = (label(20, &[]), label(30, &[]), label(20, &[1]));
+    let memory = memory(user(low, label(40, &[])));
+    let both = Object { label: Some(aside), ..memory };
+    let sees_all = Caller { read_override: true, ..caller(low) };
+    for (caller, credentials, object, intents, answer) in [
+        (caller(own), plain, file(low), intent::READ, Ok(false)),
+        (caller(own), plain, memory, intent::WRITE, Ok(false)),
+        (caller(low), all, file(low), intent::READ, Err(Refusal::Denied)),
+        (caller(low), all, memory, intent::READ, Err(Refusal::Denied)),
+        (caller(own), all, file(aside), intent::WRITE, Err(Refusal::Denied)),
+        (caller(own), all, both, intent::READ, Err(Refusal::Denied)),
+        (caller(label(30, &[1])), all, both, intent::READ, Ok(true)),
+        (sees_all, plain, file(own), intent::READ | intent::WRITE, Ok(false)),
+        (sees_all, plain, file(aside), intent::READ, Err(Refusal::Denied)),
+        (sees_all, all, file(aside), intent::READ, Ok(true)),
+        (caller(low), no_relabel, file(own), intent::SET_ATTRIBUTE, Err(Refusal::Denied)),
+        (caller(own), no_relabel, file(own), intent::SET_ATTRIBUTE, Err(Refusal::NoPrivilege)),
+        (caller(low), all, file(low), 0, Err(Refusal::Invalid)),
+        (caller(invalid), plain, file(low), intent::WRITE, Err(Refusal::Invalid)),
+        (Caller { read_override: true, ..caller(invalid) }, all, file(low), intent::READ, Err(Refusal::Invalid)),
+    ] {
+        assert_eq!(check(&caller, &credentials, &object, intents, 1), answer);
+    }
 }
 
 /// Pool 100, two tenants with ceilings of 60 and 40, all labels (20,{}).

@@ -1,21 +1,9 @@
 //! Labels as text, by the names of a table.
 
+use super::caller::Caller;
 use super::label::Label;
 use super::table::{Entry, Table, Value};
 use super::{require, Refusal};
-
-/// Who asks.
-#[derive(Clone, Copy, Debug)]
-pub struct Subject {
-    pub label: Label,
-    pub read_override: bool,
-}
-
-impl Subject {
-    fn may_see(&self, label: &Label) -> bool {
-        self.read_override || self.label.dominates(label)
-    }
-}
 
 #[derive(Clone, Copy, Debug, PartialEq, Eq)]
 pub enum Form {
@@ -59,18 +47,11 @@ fn parts<'a>(table: &Table<'a>, style: Style, label: &Label) -> Result<Vec<&'a [
 }
 
 #[inline(never)]
-pub fn write_label_text(
-    table: &[u8],
-    more: bool,
-    subject: &Subject,
-    style: Style,
-    label: &Label,
-    out: &mut [u8],
-) -> Result<usize, Refusal> {
+pub fn write_label_text(table: &[u8], more: bool, caller: &Caller, style: Style, label: &Label, out: &mut [u8]) -> Result<usize, Refusal> {
     let mut buffer = Vec::new();
     let table = Table::read(table, more, &mut buffer)?;
-    require(label.is_valid() && subject.label.is_valid(), Refusal::Invalid)?;
-    require(subject.may_see(label), Refusal::Denied)?;
+    require(label.is_valid() && caller.label.is_valid(), Refusal::Invalid)?;
+    require(caller.may_see(label), Refusal::Denied)?;
     let parts = parts(&table, style, label)?;
     let length = parts.iter().map(|part| part.len()).sum();
     let mut rest = out.get_mut(..length).ok_or(Refusal::BufferShort(length))?;
@@ -101,9 +82,9 @@ fn parse(table: &Table, text: &[u8]) -> Option<Label> {
 }
 
 #[inline(never)]
-pub fn read_label_text(table: &[u8], more: bool, subject: &Subject, text: &[u8]) -> Result<Label, Refusal> {
+pub fn read_label_text(table: &[u8], more: bool, caller: &Caller, text: &[u8]) -> Result<Label, Refusal> {
     let mut buffer = Vec::new();
     let table = Table::read(table, more, &mut buffer)?;
-    require(subject.label.is_valid(), Refusal::Invalid)?;
-    parse(&table, text).filter(|label| subject.may_see(label)).ok_or(Refusal::Invalid)
+    require(caller.label.is_valid(), Refusal::Invalid)?;
+    parse(&table, text).filter(|label| caller.may_see(label)).ok_or(Refusal::Invalid)
 }
