@@ -1,4 +1,5 @@
 pub mod Answer
+pub mod Caller
 pub mod Entry
 pub mod Flag
 pub mod Outcome

@@ -6,7 +6,9 @@ use Rattle.monitor.specs.Numbers.{classOf, kindOf}
 use Rattle.monitor.specs.declared.Credentials as coreCredentials
 use Rattle.monitor.specs.declared.Object as coreObject
 use Rattle.monitor.specs.declared.Request as coreRequest
+use Rattle.abi.specs.Caller.{callerOf}
 use Rattle.abi.specs.Flag
+use Rattle.abi.specs.declared.caller.Caller.{Caller}
 use Rattle.abi.specs.declared.request.Credentials.{Credentials}
 use Rattle.abi.specs.declared.request.Object.{Object}
 
@@ -41,5 +43,11 @@ objectOf o = record {
   tuple = o .tuple;
 }
 
-abbrev pub requestOf : Credentials → Object → ℕ → ℕ → coreRequest.Request
-requestOf c o intents attribute = record { credentials = credentialsOf c; object = objectOf o; intents = intents; attribute = attribute }
+abbrev pub requestOf : Caller → Credentials → Object → ℕ → ℕ → coreRequest.Request
+requestOf k c o intents attribute = record {
+  credentials = credentialsOf c;
+  object = objectOf o;
+  intents = intents;
+  attribute = attribute;
+  caller = callerOf k;
+}

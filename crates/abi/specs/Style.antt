@@ -1,21 +1,13 @@
--- Who asks for a text, and the style, as C has them. Assumes nothing.
+-- How a text is written, as C has it. Assumes nothing.
 use mathlib.Core.Bool.{Bool, cond, _&&_}
 use Prim.Native.Nat.{ℕ}
 use Rattle.text.specs.declared.Form.{Form}
 use Rattle.text.specs.declared.Form.the-variants.{Definition, Alias}
 use Rattle.text.specs.declared.Style as coreStyle
-use Rattle.text.specs.declared.Subject as coreSubject
 use Rattle.text.specs.declared.Variant.{Variant}
 use Rattle.text.specs.declared.Variant.the-variants.{Names, Abbreviations}
 use Rattle.abi.specs.Flag
 use Rattle.abi.specs.declared.style.Style.{Style}
-use Rattle.abi.specs.declared.style.Subject.{Subject}
-
-abbrev pub subjectFormed : Subject → Bool
-subjectFormed s = Flag.formedOf (s .«read_override»)
-
-abbrev pub subjectOf : Subject → coreSubject.Subject
-subjectOf s = record { label = s .label; «read_override» = Flag.decodedOf (s .«read_override») }
 
 -- 0 definition, 1 alias
 abbrev pub formOf : ℕ → Form

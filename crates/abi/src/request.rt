@@ -1,4 +1,4 @@
-// What the monitor is asked.
+// What the monitor is asked about: the subject and the object.
 use label::Label;
 use monitor::Presence;
 use monitor::Privileges;

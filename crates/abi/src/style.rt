@@ -1,37 +1,14 @@
-// What a text is written by: who asks, and the style.
-use label::Label;
+// How a text is written.
 use text::Form;
 use text::Variant;
 ghost use mathlib.Core.Path.{_≡_};
-ghost use Rattle.abi.specs.Style.{formOf, formedOf, styleOf, subjectFormed, subjectOf, variantOf};
-
-#[repr(C)]
-pub struct Subject {
-    pub label: Label,
-    pub read_override: u64,
-}
+ghost use Rattle.abi.specs.Style.{formOf, formedOf, styleOf, variantOf};
 
 // Form: 0 definition, 1 alias. Variant: 0 names, 1 abbreviations.
 #[repr(C)]
 pub struct Style {
     pub form: u64,
     pub variant: u64,
-}
-
-pub fn subject_formed(s: Subject) -> bool
-    ensures { λ r. ⌜ r ≡ subjectFormed s ⌝ }
-{
-    s.read_override <= 1
-}
-
-pub fn decode_subject(s: Subject) -> text::Subject
-    ensures { λ r. ⌜ r ≡ subjectOf s ⌝ }
-{
-    let label = s.label;
-    text::Subject {
-        label,
-        read_override: s.read_override == 1,
-    }
 }
 
 pub fn formed(s: Style) -> bool

@@ -75,14 +75,14 @@ word-alone : commandOf (abc ++ (lf ∷ [])) ≡ withNumbers []
 unfolding commandOf bodyCommandOf bodyOf endedOf indexOf split numbersOf
 word-alone = refl
 
--- five numbers, and six
-five-numbers : commandOf (97 ∷ blank ∷ 49 ∷ blank ∷ 49 ∷ blank ∷ 49 ∷ blank ∷ 49 ∷ blank ∷ 49 ∷ lf ∷ []) ≡ withNumbers (replicate 5 1)
-unfolding commandOf bodyCommandOf bodyOf endedOf indexOf split numbersOf numberOf digits valueFrom
-five-numbers = refl
-
-six-numbers : commandOf (97 ∷ blank ∷ 49 ∷ blank ∷ 49 ∷ blank ∷ 49 ∷ blank ∷ 49 ∷ blank ∷ 49 ∷ blank ∷ 49 ∷ lf ∷ []) ≡ invalid
+-- six numbers, and seven
+six-numbers : commandOf (97 ∷ blank ∷ 49 ∷ blank ∷ 49 ∷ blank ∷ 49 ∷ blank ∷ 49 ∷ blank ∷ 49 ∷ blank ∷ 49 ∷ lf ∷ []) ≡ withNumbers (replicate 6 1)
 unfolding commandOf bodyCommandOf bodyOf endedOf indexOf split numbersOf numberOf digits valueFrom
 six-numbers = refl
+
+seven-numbers : commandOf (97 ∷ blank ∷ 49 ∷ blank ∷ 49 ∷ blank ∷ 49 ∷ blank ∷ 49 ∷ blank ∷ 49 ∷ blank ∷ 49 ∷ blank ∷ 49 ∷ lf ∷ []) ≡ invalid
+unfolding commandOf bodyCommandOf bodyOf endedOf indexOf split numbersOf numberOf digits valueFrom
+seven-numbers = refl
 
 -- two blanks, a blank at the end, a letter, no LF, an LF inside
 two-blanks : commandOf (97 ∷ blank ∷ blank ∷ 49 ∷ lf ∷ []) ≡ invalid

@@ -12,7 +12,7 @@ use Rattle.console.specs.declared.command.Number.the-variants.{Value, Ba
 
 -- how many numbers a command has at most
 abbrev pub most : ℕ
-most = 5
+most = 6
 
 -- whether each byte is one of `0` to `9`
 unfoldable pub digits : List ℕ → Bool

@@ -6,7 +6,7 @@ ghost use Rattle.octets.specs.Bytes.{sameBytes};
 ghost use Rattle.console.specs.Command.{bodyCommandOf, commandOf, invalid, numberAnswerOf, numberOf, skippedOf, wordOf};
 
 // How many numbers a command has at most.
-pub const MAX_NUMBERS: usize = 5;
+pub const MAX_NUMBERS: usize = 6;
 
 // The numbers of a command line. Those past count are zeros; where the line is not valid, count is 0.
 pub struct Command {

@@ -2,19 +2,20 @@
 use mathlib.Core.Bool.{Bool, _&&_}
 use Prim.Native.Nat.{ℕ}
 use Rattle.alias.specs.declared.LineStarts.{LineStarts}
+use Rattle.abi.specs.Caller.{callerFormed}
 use Rattle.abi.specs.Flag
-use Rattle.abi.specs.Style.{formedOf, subjectFormed}
+use Rattle.abi.specs.Style.{formedOf}
+use Rattle.abi.specs.declared.caller.Caller.{Caller}
 use Rattle.abi.specs.declared.style.Style.{Style}
-use Rattle.abi.specs.declared.style.Subject.{Subject}
 
 -- what a table's check answers: how many lines it has
 abbrev pub lineCount : LineStarts → ℕ
 lineCount lines = lines .count
 
 -- the flags that every text is asked with are flags
-abbrev pub askFormed : ℕ → Subject → Bool
-askFormed more s = Flag.formedOf more && subjectFormed s
+abbrev pub askFormed : ℕ → Caller → Bool
+askFormed more c = Flag.formedOf more && callerFormed c
 
 -- and the style is one
-abbrev pub writeFormed : ℕ → Subject → Style → Bool
-writeFormed more s x = askFormed more s && formedOf x
+abbrev pub writeFormed : ℕ → Caller → Style → Bool
+writeFormed more c x = askFormed more c && formedOf x

@@ -4,9 +4,10 @@ use abi::answer::Answer;
 use abi::answer::LabelAnswer;
 use abi::answer::RangeAnswer;
 use abi::answer::RangeWritten;
+use abi::caller;
+use abi::caller::Caller;
 use abi::style;
 use abi::style::Style;
-use abi::style::Subject;
 use label::Label;
 use label::answer::Outcome;
 use label::answer::Written;
@@ -20,22 +21,23 @@ ghost use Rattle.text.specs.Read.{readLabelOf, readRangeOf};
 ghost use Rattle.text.specs.Subject.{withTable};
 ghost use Rattle.text.specs.Write.{writeLabelOf, writeRangeOf};
 ghost use Rattle.abi.specs.Answer.{RangeWrittenTo, WrittenTo, labelAnswer, numbered, rangeAnswer};
+ghost use Rattle.abi.specs.Caller.{callerOf};
 ghost use Rattle.abi.specs.Flag as flags;
-ghost use Rattle.abi.specs.Style.{formedOf, styleOf, subjectFormed, subjectOf};
+ghost use Rattle.abi.specs.Style.{styleOf};
 ghost use Rattle.lurmenize.specs.Names.{askFormed, lineCount, writeFormed};
 
 // Whether the flags that every text is asked with are flags.
-fn ask_formed(more: u64, s: Subject) -> bool
-    ensures { λ r. ⌜ r ≡ askFormed more s ⌝ }
+fn ask_formed(more: u64, caller: Caller) -> bool
+    ensures { λ r. ⌜ r ≡ askFormed more caller ⌝ }
 {
-    (more <= 1) & style::subject_formed(s)
+    (more <= 1) & caller::formed(caller)
 }
 
 // The same, and the style is one.
-fn write_formed(more: u64, s: Subject, x: Style) -> bool
-    ensures { λ r. ⌜ r ≡ writeFormed more s x ⌝ }
+fn write_formed(more: u64, caller: Caller, x: Style) -> bool
+    ensures { λ r. ⌜ r ≡ writeFormed more caller x ⌝ }
 {
-    ask_formed(more, s) & style::formed(x)
+    ask_formed(more, caller) & style::formed(x)
 }
 
 #[no_mangle]
@@ -55,18 +57,18 @@ pub extern "C" fn lurm_check_alias_table(aliases: &[u8], more: u64) -> Answer
 pub extern "C" fn lurm_write_label_text(
     aliases: &[u8],
     more: u64,
-    subject: Subject,
+    caller: Caller,
     style: Style,
     label: Label,
     out: &mut [u8],
 ) -> Answer
-    ensures { λ r. ⌜ WrittenTo r (require (writeFormed more subject style) 22 (withTable (flags.decodedOf more) (now (aliases .entry)) (λ es. writeLabelOf es (subjectOf subject) (styleOf style) label))) (now (out .entry)) (now (out .exit)) ⌝ }
+    ensures { λ r. ⌜ WrittenTo r (require (writeFormed more caller style) 22 (withTable (flags.decodedOf more) (now (aliases .entry)) (λ es. writeLabelOf es (callerOf caller) (styleOf style) label))) (now (out .entry)) (now (out .exit)) ⌝ }
 {
-    if write_formed(more, subject, style) {
+    if write_formed(more, caller, style) {
         return answer::of_written(text::write::write_label(
             aliases,
             more == 1,
-            style::decode_subject(subject),
+            caller::decode(caller),
             style::decode(style),
             label,
             out,
@@ -79,18 +81,18 @@ pub extern "C" fn lurm_write_label_text(
 pub extern "C" fn lurm_write_range_text(
     aliases: &[u8],
     more: u64,
-    subject: Subject,
+    caller: Caller,
     style: Style,
     range: Range,
     out: &mut [u8],
 ) -> RangeWritten
-    ensures { λ r. ⌜ RangeWrittenTo r (require (writeFormed more subject style) 22 (withTable (flags.decodedOf more) (now (aliases .entry)) (λ es. writeRangeOf es (subjectOf subject) (styleOf style) range))) (now (out .entry)) (now (out .exit)) ⌝ }
+    ensures { λ r. ⌜ RangeWrittenTo r (require (writeFormed more caller style) 22 (withTable (flags.decodedOf more) (now (aliases .entry)) (λ es. writeRangeOf es (callerOf caller) (styleOf style) range))) (now (out .entry)) (now (out .exit)) ⌝ }
 {
-    if write_formed(more, subject, style) {
+    if write_formed(more, caller, style) {
         return answer::of_range_written(text::write::write_range(
             aliases,
             more == 1,
-            style::decode_subject(subject),
+            caller::decode(caller),
             style::decode(style),
             range,
             out,
@@ -106,13 +108,13 @@ pub extern "C" fn lurm_write_range_text(
 pub extern "C" fn lurm_read_label_text(
     aliases: &[u8],
     more: u64,
-    subject: Subject,
+    caller: Caller,
     text: &[u8],
 ) -> LabelAnswer
-    ensures { λ r. ⌜ r ≡ labelAnswer (require (askFormed more subject) 22 (withTable (flags.decodedOf more) (now (aliases .entry)) (λ es. readLabelOf es (subjectOf subject) (now (text .entry))))) ⌝ }
+    ensures { λ r. ⌜ r ≡ labelAnswer (require (askFormed more caller) 22 (withTable (flags.decodedOf more) (now (aliases .entry)) (λ es. readLabelOf es (callerOf caller) (now (text .entry))))) ⌝ }
 {
-    if ask_formed(more, subject) {
-        let x = text::read::read_label(aliases, more == 1, style::decode_subject(subject), text);
+    if ask_formed(more, caller) {
+        let x = text::read::read_label(aliases, more == 1, caller::decode(caller), text);
         let outcome = x.outcome;
         return answer::of_label(outcome, x.label);
     }
@@ -123,13 +125,13 @@ pub extern "C" fn lurm_read_label_text(
 pub extern "C" fn lurm_read_range_text(
     aliases: &[u8],
     more: u64,
-    subject: Subject,
+    caller: Caller,
     text: &[u8],
 ) -> RangeAnswer
-    ensures { λ r. ⌜ r ≡ rangeAnswer (require (askFormed more subject) 22 (withTable (flags.decodedOf more) (now (aliases .entry)) (λ es. readRangeOf es (subjectOf subject) (now (text .entry))))) ⌝ }
+    ensures { λ r. ⌜ r ≡ rangeAnswer (require (askFormed more caller) 22 (withTable (flags.decodedOf more) (now (aliases .entry)) (λ es. readRangeOf es (callerOf caller) (now (text .entry))))) ⌝ }
 {
-    if ask_formed(more, subject) {
-        let x = text::read::read_range(aliases, more == 1, style::decode_subject(subject), text);
+    if ask_formed(more, caller) {
+        let x = text::read::read_range(aliases, more == 1, caller::decode(caller), text);
         let outcome = x.outcome;
         return answer::of_range(outcome, x.range);
     }

@@ -2,6 +2,7 @@
 use console::command::MAX_NUMBERS;
 use label::Label;
 use label::answer::granted;
+use label::caller::Caller;
 use monitor::Credentials;
 use monitor::Object;
 use monitor::Presence;
@@ -12,11 +13,11 @@ use range::Range;
 use range::tuple;
 use range::tuple::Tuple;
 
-// How many numbers a request has: privileges, class, kind, intents, attribute type.
-pub(crate) const NUMBERS: usize = 5;
+// How many numbers a request has: privileges, class, kind, intents, attribute type, the caller's read override.
+pub(crate) const NUMBERS: usize = 6;
 
-// How many operand lines a request has: the subject's label and range, the object's label and tuple.
-pub(crate) const OPERANDS: usize = 4;
+// How many operand lines a request has: the subject's label and range, the object's label and tuple, the caller's label.
+pub(crate) const OPERANDS: usize = 5;
 
 // What is known of a request, and whether all of it is good so far.
 pub(crate) struct Draft {
@@ -27,12 +28,13 @@ pub(crate) struct Draft {
     pub present: Presence,
     pub label: Label,
     pub tuple: Tuple,
+    pub caller: Label,
 }
 
-// A request with its numbers and no operand yet: privileges, class and kind have to be some that there are.
+// A request with its numbers and no operand yet: privileges, class, kind and override have to be some that there are.
 pub(crate) fn of_numbers(numbers: [u64; MAX_NUMBERS]) -> Draft {
     Draft {
-        good: (numbers[0] <= 7) & (numbers[1] <= 5) & (numbers[2] <= 2),
+        good: (numbers[0] <= 7) & (numbers[1] <= 5) & (numbers[2] <= 2) & (numbers[5] <= 1),
         numbers,
         subject: label::zero(),
         range: range::zero(),
@@ -42,6 +44,7 @@ pub(crate) fn of_numbers(numbers: [u64; MAX_NUMBERS]) -> Draft {
         },
         label: label::zero(),
         tuple: tuple::empty(),
+        caller: label::zero(),
     }
 }
 
@@ -97,18 +100,30 @@ fn with_tuple(mut d: Draft, line: &[u8]) -> Draft {
     d
 }
 
+fn with_caller(mut d: Draft, line: &[u8]) -> Draft {
+    let read = hexline::read_label(line);
+    let outcome = read.outcome;
+    let l = read.label;
+    d.caller = l;
+    d.good = d.good & granted(outcome);
+    d
+}
+
 // The draft with one more operand line, where `due` of them were still to come.
 pub(crate) fn with_operand(d: Draft, due: usize, line: &[u8]) -> Draft {
-    if due == 4 {
+    if due == 5 {
         return with_subject(d, line);
     }
-    if due == 3 {
+    if due == 4 {
         return with_range(d, line);
     }
-    if due == 2 {
+    if due == 3 {
         return with_label(d, line);
     }
-    with_tuple(d, line)
+    if due == 2 {
+        return with_tuple(d, line);
+    }
+    with_caller(d, line)
 }
 
 fn privileges_of(n: u64) -> Privileges {
@@ -127,6 +142,7 @@ pub(crate) fn of_draft(d: Draft) -> Request {
     let range = d.range;
     let label = d.label;
     let tuple = d.tuple;
+    let caller = d.caller;
     Request {
         credentials: Credentials {
             label: subject,
@@ -142,5 +158,9 @@ pub(crate) fn of_draft(d: Draft) -> Request {
         },
         intents: numbers[3],
         attribute: numbers[4],
+        caller: Caller {
+            label: caller,
+            read_override: numbers[5] == 1,
+        },
     }
 }

@@ -252,7 +252,13 @@ fn begins_with(marker: &[u8], text: &[u8]) -> bool
 }
 
 // The range of a low end and the text of a high end.
-fn range_from(table: &[u8], starts: &[usize], caller: Caller, low: Label, text: &[u8]) -> RangeAnswer
+fn range_from(
+    table: &[u8],
+    starts: &[usize],
+    caller: Caller,
+    low: Label,
+    text: &[u8],
+) -> RangeAnswer
     ensures { λ r. ⌜ Answered (r .outcome) (r .range) zeroRange (rangeFrom (entriesBy (now (table .entry)) (now (starts .entry))) caller low (now (text .entry))) ⌝ }
 {
     let end = label_seen(table, starts, caller, text);

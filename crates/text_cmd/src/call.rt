@@ -4,9 +4,9 @@ use crate::kept::Kept;
 use crate::kept::MAX_CAPACITY;
 use label::answer::Outcome;
 use label::answer::granted;
+use label::caller::Caller;
 use text::Form;
 use text::Style;
-use text::Subject;
 use text::Variant;
 use text::read;
 use text::write;
@@ -34,7 +34,7 @@ pub(crate) fn take_subject(mut k: Kept, read_override: u64, line: &[u8]) -> Kept
         return k;
     }
     let label = read.label;
-    let subject = Subject {
+    let subject = Caller {
         label,
         read_override: read_override == 1,
     };

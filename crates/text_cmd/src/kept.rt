@@ -1,5 +1,5 @@
 // What is kept from one request to the next.
-use text::Subject;
+use label::caller::Caller;
 
 // The most that a capacity can be.
 pub(crate) const MAX_CAPACITY: usize = 20000;
@@ -8,7 +8,7 @@ pub(crate) struct Kept {
     // How many bytes of the table's buffer are the table, and whether it is cut off there, with more to follow.
     pub length: usize,
     pub more: bool,
-    pub subject: Subject,
+    pub subject: Caller,
     // How many bytes a text may have.
     pub capacity: usize,
 }
@@ -17,7 +17,7 @@ pub(crate) fn start() -> Kept {
     Kept {
         length: 0,
         more: false,
-        subject: Subject {
+        subject: Caller {
             label: label::zero(),
             read_override: false,
         },

@@ -6,7 +6,7 @@ use Rattle.lurmenize.proofs.names.lurm_read_label_text.Statement.{state
 use Rattle.lurmenize.proofs.names.lurm_read_label_text.Tie as tie
 
 returns : tie.Need-returns
-returns c = rw (← c .before .before .before .before .ask-formed .ensures, c .before .before .before .if1 .taken, ← c .before .before .decode-subject .ensures) (c .of-label .ensures ∙ pair-answered withLabel (c .before .read-label .ensures))
+returns c = rw (← c .before .before .before .before .ask-formed .ensures, c .before .before .before .if1 .taken, ← c .before .before .decode .ensures) (c .of-label .ensures ∙ pair-answered withLabel (c .before .read-label .ensures))
 
 returns-2 : tie.Need-returns-2
 returns-2 c = rw (← c .before .before .before .ask-formed .ensures, c .before .before .if1 .left, c .of-label2 .ensures, c .before .zero .ensures)

@@ -6,7 +6,7 @@ use Rattle.lurmenize.proofs.names.lurm_read_range_text.Statement.{state
 use Rattle.lurmenize.proofs.names.lurm_read_range_text.Tie as tie
 
 returns : tie.Need-returns
-returns c = rw (← c .before .before .before .before .ask-formed .ensures, c .before .before .before .if1 .taken, ← c .before .before .decode-subject .ensures) (c .of-range .ensures ∙ pair-answered withRange (c .before .read-range .ensures))
+returns c = rw (← c .before .before .before .before .ask-formed .ensures, c .before .before .before .if1 .taken, ← c .before .before .decode .ensures) (c .of-range .ensures ∙ pair-answered withRange (c .before .read-range .ensures))
 
 returns-2 : tie.Need-returns-2
 returns-2 c = rw (← c .before .before .before .ask-formed .ensures, c .before .before .if1 .left, c .of-range2 .ensures, c .before .zero .ensures)

@@ -6,7 +6,7 @@ use Rattle.lurmenize.proofs.names.lurm_write_range_text.Statement.{stat
 use Rattle.lurmenize.proofs.names.lurm_write_range_text.Tie as tie
 
 returns : tie.Need-returns
-returns c = rw (← c .before .before .before .before .before .before .before .before .write-formed .ensures, c .before .before .before .before .before .before .before .if1 .taken, c .of-range-written .ensures, ← c .before .before .before .before .before .before .decode-subject .ensures, ← c .before .before .before .before .before .decode .ensures) (range-write-answered (c .before .before .before .write-range .ensures))
+returns c = rw (← c .before .before .before .before .before .before .before .before .write-formed .ensures, c .before .before .before .before .before .before .before .if1 .taken, c .of-range-written .ensures, ← c .before .before .before .before .before .before .decode .ensures, ← c .before .before .before .before .before .decode2 .ensures) (range-write-answered (c .before .before .before .write-range .ensures))
 
 returns-2 : tie.Need-returns-2
 unfolding bufferOf lengthOf
