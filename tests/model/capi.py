@@ -14,10 +14,10 @@ from pathlib import Path
 
 import text
 from monitor import FILE, FILE_KINDS, PRIVILEGES, TYPES, Credentials, Object, Request, decide
-from rules import (CATEGORIES, INVALID, LONGEST_ABBREVIATION, LONGEST_NAME, OF_LABEL, REGIONS, Alias, Label, Range, Refusal,
-                   Tuple, framed, read, require, write)
+from rules import (CATEGORIES, INVALID, LONGEST_ABBREVIATION, LONGEST_NAME, OF_LABEL, REGIONS, Alias, Caller, Label, Range,
+                   Refusal, Tuple, framed, read, require, write)
 from segments import SLOTS, TENANTS, Segment, State, Tenant
-from text import FORMS, VARIANTS, Subject, Table
+from text import FORMS, VARIANTS, Table
 
 HEADER = Path(__file__).resolve().parent.parent.parent / "include" / "lurmenize.h"
 WORD_BITS = 64
@@ -86,8 +86,8 @@ def as_entry(numbers):
                  as_name(name[:-1], name[-1]), as_name(abbreviation[:-1], abbreviation[-1]))
 
 
-def as_subject(numbers):
-    return Subject(as_label(numbers[:-1]), flag(numbers[-1]))
+def as_caller(numbers):
+    return Caller(as_label(numbers[:-1]), flag(numbers[-1]))
 
 
 def as_style(numbers):
@@ -284,20 +284,20 @@ def reader_of(kind):
     return read_contents
 
 
-def label_text(data, more, subject, style, label, capacity):
-    return text.write_label(Table(data, more), label, subject, *style, capacity)
+def label_text(data, more, caller, style, label, capacity):
+    return text.write_label(Table(data, more), label, caller, *style, capacity)
 
 
-def range_text(data, more, subject, style, bounds, capacity):
-    return text.write_range(Table(data, more), bounds, subject, *style, capacity)
+def range_text(data, more, caller, style, bounds, capacity):
+    return text.write_range(Table(data, more), bounds, caller, *style, capacity)
 
 
-def label_read(data, more, subject, given):
-    return text.read_label(Table(data, more), given, subject)
+def label_read(data, more, caller, given):
+    return text.read_label(Table(data, more), given, caller)
 
 
-def range_read(data, more, subject, given):
-    return text.read_range(Table(data, more), given, subject)
+def range_read(data, more, caller, given):
+    return text.read_range(Table(data, more), given, caller)
 
 
 def pages_in_use(state, tenant):
@@ -318,7 +318,7 @@ def function(takes, call, gives):
 
 
 WORDS = {"number": as_it_is, "bytes": as_it_is, "buffer": as_it_is, "flag": flag, "label": as_label, "range": as_range,
-         "tuple": as_tuple, "entry": as_entry, "subject": as_subject, "style": as_style, "credentials": as_credentials,
+         "tuple": as_tuple, "entry": as_entry, "caller": as_caller, "style": as_style, "credentials": as_credentials,
          "object": as_object, "state": as_state}
 NUMBER, WRITTEN, OUTCOME = Number(), Written(), Outcome()
 LABEL, RANGE = Contents(LABEL_SIZE, label_numbers), Contents(RANGE_SIZE, range_numbers)
@@ -351,10 +351,10 @@ FUNCTIONS = {
     "read_tuple": function("bytes", reader_of(Tuple), TUPLE),
     "read_entry": function("bytes", reader_of(Alias), ENTRY),
     "check_alias_table": function("bytes flag", lambda data, more: len(Table(data, more).entries()), NUMBER),
-    "write_label_text": function("bytes flag subject style label buffer", label_text, WRITTEN),
-    "write_range_text": function("bytes flag subject style range buffer", range_text, WrittenWithStatus()),
-    "read_label_text": function("bytes flag subject bytes", label_read, LABEL),
-    "read_range_text": function("bytes flag subject bytes", range_read, RANGE),
+    "write_label_text": function("bytes flag caller style label buffer", label_text, WRITTEN),
+    "write_range_text": function("bytes flag caller style range buffer", range_text, WrittenWithStatus()),
+    "read_label_text": function("bytes flag caller bytes", label_read, LABEL),
+    "read_range_text": function("bytes flag caller bytes", range_read, RANGE),
     "check": function("credentials object number number", lambda *asked: decide(Request(*asked)), NUMBER),
     "make": function("number", State.make, OUTCOME),
     "admit": function("state number number tuple", State.admit, OUTCOME),

@@ -7,7 +7,7 @@ from mac_cmd import COMMANDS
 from protocol import NUMBERS_END
 from rules import (CATEGORIES, LONGEST_ABBREVIATION, LONGEST_NAME, OF_CATEGORY, OF_HIERARCHY, OF_LABEL, REGIONS,
                    Alias, Label, Range, Tuple, sealed, write)
-from samples import (ALIAS, ANY, BORDER_HIERARCHIES, BORDER_LABELS, BORDER_TUPLES, FULL_TUPLE, LABEL, RANGE,
+from samples import (ALIAS, ANY, BORDER_HIERARCHIES, BORDER_LABELS, BORDER_TUPLES, FULL_TUPLE, LABEL, RANGE, TOP,
                      WORD_BORDERS, label, near, sum_changed, tuple_of, unchecked_line)
 
 RANDOM_REQUESTS = 600
@@ -17,14 +17,14 @@ RANDOM_REQUESTS = 600
 
 GOOD_CONTENTS = [
     ("the least label", label(0)),
-    ("the greatest label", Label(199, CATEGORIES)),
+    ("the greatest label", TOP),
     ("categories at word borders", label(20, *WORD_BORDERS)),
     ("a range of one label", Range(LABEL, LABEL)),
-    ("the range of all labels", Range(label(0), Label(199, CATEGORIES))),
+    ("the range of all labels", Range(label(0), TOP)),
     ("the empty tuple", Tuple()),
     ("all of virus prevention", tuple_of(virus=Range(label(0), Label(19, CATEGORIES)))),
     ("all of the user region", tuple_of(user=Range(label(20), Label(179, CATEGORIES)))),
-    ("all of the administrative region", tuple_of(admin=Range(label(180), Label(199, CATEGORIES)))),
+    ("all of the administrative region", tuple_of(admin=Range(label(180), TOP))),
     ("the first and the last region", tuple_of(virus=Range(label(0), label(0)), admin=Range(label(180), label(199)))),
     ("the longest line, a full tuple", FULL_TUPLE),
     ("a name of hierarchy 0", Alias(OF_HIERARCHY, 0, b"a")),
@@ -37,7 +37,7 @@ GOOD_CONTENTS = [
     ("an abbreviation equal to its name", Alias(OF_CATEGORY, 7, b"east", b"east")),
     ("the longest name", Alias(OF_CATEGORY, 7, b"n" * LONGEST_NAME)),
     ("the longest abbreviation", Alias(OF_CATEGORY, 7, b"n", b"a" * LONGEST_ABBREVIATION)),
-    ("the longest line of kind 04", Alias(OF_LABEL, Label(199, CATEGORIES), b"N" * LONGEST_NAME, b"A" * LONGEST_ABBREVIATION)),
+    ("the longest line of kind 04", Alias(OF_LABEL, TOP, b"N" * LONGEST_NAME, b"A" * LONGEST_ABBREVIATION)),
 ]
 
 
@@ -259,7 +259,7 @@ NEIGHBOURS = [
     (Range(label(20), label(30, 64)), Range(label(20, 63), label(30, 63, 64))),
     (Range(label(20, 1), label(40, 1)), Range(label(20), label(40, 2))),
     (Range(label(20, 1), label(40, 1, 2)), Range(label(20, 2), label(40, 1, 2))),
-    (Range(label(0), Label(199, CATEGORIES)), Range(LABEL, LABEL)),
+    (Range(label(0), TOP), Range(LABEL, LABEL)),
 ]
 
 

@@ -112,6 +112,20 @@ class Label:
         return cls(hierarchy, frozenset(c for c in CATEGORIES if bits >> c & 1))
 
 
+# Who asks: a "subject" of "Names and text", and the caller of the monitor in request 2026-01
+
+@dataclass(frozen=True)
+class Caller:
+    label: Label
+    read_override: bool = False
+
+    def valid(self):
+        return self.label.valid()
+
+    def sees(self, label):
+        return self.read_override or self.label.dominates(label)
+
+
 # "Ranges and tuples"
 
 @dataclass(frozen=True)

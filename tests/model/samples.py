@@ -23,9 +23,10 @@ def tuple_of(**ranges):
 
 
 LABEL = label(30, 1, 2)
+TOP = Label(199, CATEGORIES)  # dominates every label
 RANGE = Range(label(20), label(40, 1, 2))
 TUPLE = tuple_of(user=RANGE)
-FULL_TUPLE = Range(label(0), Label(199, CATEGORIES)).split()
+FULL_TUPLE = Range(label(0), TOP).split()
 ALIAS = Alias(OF_HIERARCHY, 20, b"low")
 SAMPLES = {type(contents): contents for contents in (LABEL, RANGE, TUPLE, ALIAS)}
 

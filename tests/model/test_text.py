@@ -10,20 +10,20 @@ import unittest
 import text_cmd
 import text_cmd_cases
 from protocol import LINE_BUFFER
-from rules import CATEGORIES, Label, Range, Refusal, write
-from samples import LABEL, RANGE, WORD_BORDERS, label
-from text import (ABBREVIATED, ALIAS_FORM, DEFINITION_FORM, FORMS, VARIANTS, WHOLE_NAMES, Subject, Table, read_label,
-                  read_range, write_label, write_range)
+from rules import CATEGORIES, Caller, Label, Range, Refusal, write
+from samples import LABEL, RANGE, TOP, WORD_BORDERS, label
+from text import (ABBREVIATED, ALIAS_FORM, DEFINITION_FORM, FORMS, VARIANTS, WHOLE_NAMES, Table, read_label, read_range,
+                  write_label, write_range)
 from text_cmd import MOST_CAPACITY, TABLE_BUFFER, TEXT_BUFFER
 from text_samples import (BAD_RANGES, BAD_TEXTS, EAST, ENTRIES, FULL, GOOD_RANGES, GOOD_TEXTS, LONGEST_RANGE,
-                          LONGEST_TEXTS, LOW, REPEATS, SEVERAL, TOP, WEST, any_entries, composed, damaged_text, label_in,
+                          LONGEST_TEXTS, LOW, REPEATS, SEVERAL, WEST, any_entries, composed, damaged_text, label_in,
                           label_text_in, labels_table, of_category, of_hierarchy, of_label, range_in, range_text_in,
                           short_table, spoiled, subject_near, table_of)
 
 SEED = 1
 TABLES = 400
-SEES_ALL, SEES_NONE = Subject(TOP), Subject(label(0))
-BAD_SUBJECT = Subject(label(200))
+SEES_ALL, SEES_NONE = Caller(TOP), Caller(label(0))
+BAD_SUBJECT = Caller(label(200))
 SMALL = table_of(*ENTRIES)
 BAD_TABLE = table_of(LOW, EAST, LOW)
 
@@ -57,17 +57,17 @@ class Example(unittest.TestCase):
         self.assertEqual(self.TABLE.entries(), [LOW, EAST])
 
     def test_label(self):
-        arguments = self.TABLE, self.EAST, Subject(self.EAST), DEFINITION_FORM, WHOLE_NAMES
+        arguments = self.TABLE, self.EAST, Caller(self.EAST), DEFINITION_FORM, WHOLE_NAMES
         self.assertEqual(outcome(write_label, *arguments), b"low:east")
         self.assertEqual(outcome(write_label, *arguments, 8), b"low:east")
         self.assertEqual(outcome(write_label, *arguments, 7), "E7 8")
-        self.assertEqual(read_label(self.TABLE, b"low:east", Subject(self.EAST)), self.EAST)
-        self.assertEqual(read_label(self.TABLE, b"low:e", Subject(self.EAST)), self.EAST)
+        self.assertEqual(read_label(self.TABLE, b"low:east", Caller(self.EAST)), self.EAST)
+        self.assertEqual(read_label(self.TABLE, b"low:e", Caller(self.EAST)), self.EAST)
 
     def test_range(self):
         bounds = Range(label(20), self.EAST)
         for at, expected in ((label(20), (1, b"-L low -H ?")), (self.EAST, (0, b"-L low -H low:east"))):
-            self.assertEqual(write_range(self.TABLE, bounds, Subject(at), DEFINITION_FORM, WHOLE_NAMES), expected)
+            self.assertEqual(write_range(self.TABLE, bounds, Caller(at), DEFINITION_FORM, WHOLE_NAMES), expected)
 
 
 class Tables(unittest.TestCase):
@@ -186,23 +186,23 @@ class Writing(unittest.TestCase):
         for table, at, subject, capacity, expected in (
                 (BAD_TABLE, bad, BAD_SUBJECT, 0, "E22 2"), (BAD_TABLE, unnamed, SEES_NONE, 0, "E22 2"),
                 (SMALL, bad, SEES_NONE, 0, "E22"), (SMALL, unnamed, BAD_SUBJECT, 0, "E22"),
-                (SMALL, bad, Subject(label(0), True), 0, "E22"), (SMALL, unnamed, Subject(label(200), True), 0, "E22"),
+                (SMALL, bad, Caller(label(0), True), 0, "E22"), (SMALL, unnamed, Caller(label(200), True), 0, "E22"),
                 (SMALL, unnamed, SEES_NONE, 0, "E13"), (SMALL, label(20), SEES_NONE, 9, "E13"),
-                (SMALL, unnamed, SEES_ALL, 0, "E2"), (SMALL, unnamed, Subject(label(0), True), 0, "E2"),
-                (SMALL, label(20, 7), SEES_ALL, 7, "E7 8"), (SMALL, label(20, 7), Subject(label(0), True), 0, "E7 8"),
+                (SMALL, unnamed, SEES_ALL, 0, "E2"), (SMALL, unnamed, Caller(label(0), True), 0, "E2"),
+                (SMALL, label(20, 7), SEES_ALL, 7, "E7 8"), (SMALL, label(20, 7), Caller(label(0), True), 0, "E7 8"),
                 (SMALL, label(20, 7), SEES_ALL, 8, b"low:east"),
-                (SMALL, label(20, 7), Subject(label(0), True), 8, b"low:east")):
+                (SMALL, label(20, 7), Caller(label(0), True), 8, b"low:east")):
             self.assertEqual(outcome(write_label, table, at, subject, DEFINITION_FORM, WHOLE_NAMES, capacity), expected)
 
     def test_sight(self):
         for at, expected in ((label(20, 7), b"low:east"), (label(21, 7, 8), b"low:east"), (label(20), "E13"),
                              (label(19, 7), "E13"), (label(199, 8), "E13")):
-            self.assertEqual(in_every_form(SMALL, label(20, 7), Subject(at))[0], expected)
-            self.assertEqual(in_every_form(SMALL, label(20, 7), Subject(at, True))[0], b"low:east")
+            self.assertEqual(in_every_form(SMALL, label(20, 7), Caller(at))[0], expected)
+            self.assertEqual(in_every_form(SMALL, label(20, 7), Caller(at, True))[0], b"low:east")
         for category in WORD_BORDERS:
             table, at = table_of(LOW, of_category(category, b"border")), label(20, category)
-            self.assertEqual(in_every_form(table, at, Subject(at))[0], b"low:border")
-            self.assertEqual(in_every_form(table, at, Subject(Label(199, CATEGORIES - {category})))[0], "E13")
+            self.assertEqual(in_every_form(table, at, Caller(at))[0], b"low:border")
+            self.assertEqual(in_every_form(table, at, Caller(Label(199, CATEGORIES - {category})))[0], "E13")
 
 
 class WritingRanges(unittest.TestCase):
@@ -215,13 +215,13 @@ class WritingRanges(unittest.TestCase):
         for at, expected in ((label(40, 1, 7), both), (TOP, both), (label(40, 7), low), (label(39, 1, 7), low),
                              (label(20, 7), low), (label(20), "E13"), (label(19, 1, 7), "E13"), (label(199, 1), "E13"),
                              (label(0), "E13")):
-            self.assertEqual(in_every_form(SMALL, self.BOUNDS, Subject(at))[0], expected)
-            self.assertEqual(in_every_form(SMALL, self.BOUNDS, Subject(at, True))[0], both)
+            self.assertEqual(in_every_form(SMALL, self.BOUNDS, Caller(at))[0], expected)
+            self.assertEqual(in_every_form(SMALL, self.BOUNDS, Caller(at, True))[0], both)
 
     def test_one_label(self):
         """A range of one label is in sight or not as the label is."""
         for at, expected in ((label(30), (0, b"-L middle -H middle")), (label(29, 1), "E13")):
-            self.assertEqual(in_every_form(SMALL, Range(label(30), label(30)), Subject(at))[0], expected)
+            self.assertEqual(in_every_form(SMALL, Range(label(30), label(30)), Caller(at))[0], expected)
 
     def test_forms(self):
         """Of each end by itself."""
@@ -233,10 +233,10 @@ class WritingRanges(unittest.TestCase):
     def test_names_of_the_high_end(self):
         """They are looked up only where both ends are in sight."""
         bounds, low = Range(label(20), label(41, 9)), (1, b"-L low -H ?")
-        self.assertEqual(in_every_form(SMALL, bounds, Subject(label(20))), [low] * 4)
+        self.assertEqual(in_every_form(SMALL, bounds, Caller(label(20))), [low] * 4)
         self.assertEqual(in_every_form(SMALL, bounds), ["E2"] * 4)
-        self.assertEqual(in_every_form(SMALL, bounds, Subject(label(0), True)), ["E2"] * 4)
-        self.assertEqual(in_every_form(SMALL, Range(label(21), label(40)), Subject(label(21))), ["E2"] * 4)
+        self.assertEqual(in_every_form(SMALL, bounds, Caller(label(0), True)), ["E2"] * 4)
+        self.assertEqual(in_every_form(SMALL, Range(label(21), label(40)), Caller(label(21))), ["E2"] * 4)
 
     def test_order(self):
         upside_down, unnamed, bounds = Range(label(40), label(20)), Range(label(21), label(41)), Range(label(20), label(40))
@@ -245,9 +245,9 @@ class WritingRanges(unittest.TestCase):
                 (SMALL, upside_down, SEES_NONE, 0, "E22"), (SMALL, Range(label(20), label(200)), SEES_NONE, 0, "E22"),
                 (SMALL, unnamed, BAD_SUBJECT, 0, "E22"), (SMALL, unnamed, SEES_NONE, 0, "E13"),
                 (SMALL, bounds, SEES_NONE, 99, "E13"), (SMALL, unnamed, SEES_ALL, 0, "E2"),
-                (SMALL, unnamed, Subject(label(30)), 0, "E2"), (SMALL, bounds, SEES_ALL, 13, "E7 14"),
-                (SMALL, bounds, SEES_ALL, 14, (0, b"-L low -H high")), (SMALL, bounds, Subject(label(20)), 10, "E7 11"),
-                (SMALL, bounds, Subject(label(20)), 11, (1, b"-L low -H ?"))):
+                (SMALL, unnamed, Caller(label(30)), 0, "E2"), (SMALL, bounds, SEES_ALL, 13, "E7 14"),
+                (SMALL, bounds, SEES_ALL, 14, (0, b"-L low -H high")), (SMALL, bounds, Caller(label(20)), 10, "E7 11"),
+                (SMALL, bounds, Caller(label(20)), 11, (1, b"-L low -H ?"))):
             self.assertEqual(outcome(write_range, table, given, subject, DEFINITION_FORM, WHOLE_NAMES, capacity), expected)
 
 
@@ -268,7 +268,7 @@ class Reading(unittest.TestCase):
     def test_bad(self):
         for text in BAD_TEXTS:
             self.assertEqual(outcome(read_label, SMALL, text, SEES_ALL), "E22", text)
-            self.assertEqual(outcome(read_label, SMALL, text, Subject(label(0), True)), "E22", text)
+            self.assertEqual(outcome(read_label, SMALL, text, Caller(label(0), True)), "E22", text)
 
     def test_every_text(self):
         """All texts of up to five bytes from the names of a table, the separators and a blank."""
@@ -292,8 +292,8 @@ class Reading(unittest.TestCase):
 
     def test_sight(self):
         for at, expected in ((label(20, 7), label(20, 7)), (label(20), "E22"), (label(19, 7), "E22"), (label(199), "E22")):
-            self.assertEqual(outcome(read_label, SMALL, b"low:e", Subject(at)), expected)
-            self.assertEqual(outcome(read_label, SMALL, b"low:e", Subject(at, True)), label(20, 7))
+            self.assertEqual(outcome(read_label, SMALL, b"low:e", Caller(at)), expected)
+            self.assertEqual(outcome(read_label, SMALL, b"low:e", Caller(at, True)), label(20, 7))
 
     def test_order(self):
         """A bad table comes first, then a bad subject; the rest is the same plain 22."""
@@ -301,7 +301,7 @@ class Reading(unittest.TestCase):
             for text in (b"low", b"-L low -H low", b""):
                 self.assertEqual(outcome(read, BAD_TABLE, text, BAD_SUBJECT), "E22 2")
                 self.assertEqual(outcome(read, BAD_TABLE, text, SEES_NONE), "E22 2")
-                for subject in (BAD_SUBJECT, Subject(label(200), True), SEES_NONE):
+                for subject in (BAD_SUBJECT, Caller(label(200), True), SEES_NONE):
                     self.assertEqual(outcome(read, SMALL, text, subject), "E22")
 
 
@@ -317,7 +317,7 @@ class ReadingRanges(unittest.TestCase):
     def test_bad(self):
         for text in BAD_RANGES:
             self.assertEqual(outcome(read_range, SMALL, text, SEES_ALL), "E22", text)
-            self.assertEqual(outcome(read_range, SMALL, text, Subject(label(0), True)), "E22", text)
+            self.assertEqual(outcome(read_range, SMALL, text, Caller(label(0), True)), "E22", text)
 
     def test_every_text(self):
         """All texts of up to five pieces, from marks, blanks and the texts of labels that are in rising order."""
@@ -331,8 +331,8 @@ class ReadingRanges(unittest.TestCase):
         bounds = Range(label(20), label(40, 7))
         for at, expected in ((label(40, 7), bounds), (TOP, bounds), (label(39, 7), "E22"), (label(40), "E22"),
                              (label(0), "E22")):
-            self.assertEqual(outcome(read_range, SMALL, b"-L low -H high:e", Subject(at)), expected)
-            self.assertEqual(outcome(read_range, SMALL, b"-L low -H high:e", Subject(at, True)), bounds)
+            self.assertEqual(outcome(read_range, SMALL, b"-L low -H high:e", Caller(at)), expected)
+            self.assertEqual(outcome(read_range, SMALL, b"-L low -H high:e", Caller(at, True)), bounds)
 
 
 class RandomTexts(unittest.TestCase):

@@ -1,5 +1,5 @@
-# Document 01's "Names and text", in plain Python over the labels, ranges and alias entries of rules.py.
-# Written from the document and not from the crates, so that the two can check each other.
+# Document 01's "Names and text", in plain Python over the labels, ranges, alias entries and callers of rules.py. Written
+# from the document, which calls the caller a subject, and not from the crates, so that the two can check each other.
 
 import functools
 from dataclasses import dataclass
@@ -65,20 +65,6 @@ class Table:
         entries, bad = self.judged()
         require(bad is None, INVALID, bad)
         return entries
-
-
-# Subjects
-
-@dataclass(frozen=True)
-class Subject:
-    label: Label
-    override: bool = False  # read override
-
-    def valid(self):
-        return self.label.valid()
-
-    def sees(self, label):
-        return self.override or self.label.dominates(label)
 
 
 # Writing

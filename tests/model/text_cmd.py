@@ -6,8 +6,8 @@ import itertools
 import protocol
 import text
 from protocol import Command, whole
-from rules import INVALID, Label, Range, require
-from text import FORMS, VARIANTS, Subject, Table
+from rules import INVALID, Caller, Label, Range, require
+from text import FORMS, VARIANTS, Table
 
 TABLE_BUFFER = 65_536
 TEXT_BUFFER = 16_454  # the longest range and its LF
@@ -37,7 +37,7 @@ class Console:
 
     def __init__(self):
         self.table = Table()
-        self.subject = Subject(Label(0))
+        self.subject = Caller(Label(0))
         self.capacity = MOST_CAPACITY
 
 
@@ -49,7 +49,7 @@ def take_table(console, table):
 
 def take_subject(console, override, label):
     require(override in (0, 1), INVALID)
-    console.subject = Subject(label, override == 1)
+    console.subject = Caller(label, override == 1)
     return "ok"
 
 

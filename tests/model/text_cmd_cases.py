@@ -13,11 +13,12 @@ import segments_cmd
 from cases import MEGABYTE, Program, case, command_line, filled, operand_line
 from protocol import LINE_BUFFER, NUMBERS_END
 from rules import LONGEST_NAME, Range, Tuple, write
-from samples import BORDER_HIERARCHIES, BORDER_LABELS, LABEL, RANGE, TUPLE, WORD_BORDERS, at_times, label, sum_changed
+from samples import (BORDER_HIERARCHIES, BORDER_LABELS, LABEL, RANGE, TOP, TUPLE, WORD_BORDERS, at_times, label,
+                     sum_changed)
 from text import ABBREVIATED, ALIAS_FORM, DEFINITION_FORM, FORMS, MOST_ENTRIES, VARIANTS, WHOLE_NAMES
 from text_cmd import COMMANDS, MOST_CAPACITY, TABLE_BUFFER, TEXT_BUFFER
 from text_samples import (BAD_RANGES, BAD_TEXTS, EAST, ENTRIES, FULL, GOOD_RANGES, GOOD_TEXTS, LONGEST_RANGE, LONGEST_TEXTS,
-                          LOW, REPEATS, SEVERAL, TOP, WEST, any_entries, damaged_text, label_in, label_text_in,
+                          LOW, REPEATS, SEVERAL, WEST, any_entries, damaged_text, label_in, label_text_in,
                           labels_table, numbered_label, of_category, of_hierarchy, of_label, range_in, range_text_in,
                           short_table, spoiled, subject_near, table_of, text_in)
 
@@ -433,7 +434,7 @@ def random_contents(rng, known):
     contents = rng.choice((label_in, range_in))(rng, known)
     near = subject_near(rng, rng.choice((contents.low, contents.high)) if isinstance(contents, Range) else contents)
     if at_times(rng, 0.5):
-        yield subject(near.label, int(near.override))
+        yield subject(near.label, int(near.read_override))
     if at_times(rng, 0.2):
         yield capacity(rng.choice((MOST_CAPACITY, rng.randrange(60))))
     command, operand = written(contents, rng.choice(FORMS), rng.choice(VARIANTS)).splitlines(keepends=True)

@@ -4,15 +4,13 @@
 
 from protocol import LINE_BUFFER
 from rules import (CATEGORIES, HIERARCHIES, LONGEST_ABBREVIATION, LONGEST_NAME, OF_CATEGORY, OF_HIERARCHY, OF_LABEL, Alias,
-                   Label, Range, Refusal, is_name, write)
-from samples import (LABEL, NAME_BYTES, RANGE, any_label, any_name, at_times, damaged, label, label_above, label_below,
-                     some_of)
-from text import (DEFINITION_FORM, FORMS, MOST_ENTRIES, VARIANTS, WHOLE_NAMES, Subject, Table, names_of, write_label,
-                  write_range)
+                   Caller, Label, Range, Refusal, is_name, write)
+from samples import (LABEL, NAME_BYTES, RANGE, TOP, any_label, any_name, at_times, damaged, label, label_above,
+                     label_below, some_of)
+from text import DEFINITION_FORM, FORMS, MOST_ENTRIES, VARIANTS, WHOLE_NAMES, Table, names_of, write_label, write_range
 
 SOME_HIERARCHIES = (0, 20, 30, 40, 199)
 SOME_CATEGORIES = (0, 1, 2, 7, 63, 64, 255)
-TOP = Label(199, CATEGORIES)  # dominates every label
 SOME_LABELS = [label(20), label(20, 7), LABEL, label(40, *SOME_CATEGORIES), TOP]
 
 
@@ -38,8 +36,8 @@ def text_in(table, contents, form=DEFINITION_FORM, variant=WHOLE_NAMES):
     """The text of a label or range for a subject that sees every label; None where names are missing."""
     try:
         if isinstance(contents, Range):
-            return write_range(table, contents, Subject(TOP), form, variant)[1]
-        return write_label(table, contents, Subject(TOP), form, variant)
+            return write_range(table, contents, Caller(TOP), form, variant)[1]
+        return write_label(table, contents, Caller(TOP), form, variant)
     except Refusal:
         return None
 
@@ -243,7 +241,7 @@ def range_in(rng, table):
 def subject_near(rng, seen):
     """A subject that most of the time sees a label."""
     at = rng.choice((TOP, seen, label_above(rng, seen), label_below(rng, seen), any_label(rng)))
-    return Subject(at, at_times(rng, 0.2))
+    return Caller(at, at_times(rng, 0.2))
 
 
 # Random texts
