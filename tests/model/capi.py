@@ -355,7 +355,7 @@ FUNCTIONS = {
     "write_range_text": function("bytes flag caller style range buffer", range_text, WrittenWithStatus()),
     "read_label_text": function("bytes flag caller bytes", label_read, LABEL),
     "read_range_text": function("bytes flag caller bytes", range_read, RANGE),
-    "check": function("credentials object number number", lambda *asked: decide(Request(*asked)), NUMBER),
+    "check": function("caller credentials object number number", lambda *asked: decide(Request(*asked)), NUMBER),
     "make": function("number", State.make, OUTCOME),
     "admit": function("state number number tuple", State.admit, OUTCOME),
     "set_ceiling": function("state number number", State.set_ceiling, OUTCOME),

@@ -1,9 +1,9 @@
-# Document 01's rules of the monitor, in plain Python over the labels, ranges and tuples of rules.py.
-# Written from the document and not from the crates, so that the two can check each other.
+# Document 01's rules of the monitor, with the caller of request 2026-01, in plain Python over the labels, ranges, tuples
+# and callers of rules.py. Written from the documents and not from the crates, so that the two can check each other.
 
 from dataclasses import dataclass
 
-from rules import DENIED, INVALID, NO_PRIVILEGE, Label, Range, Refusal, Tuple
+from rules import DENIED, INVALID, NO_PRIVILEGE, Caller, Label, Range, Tuple, require
 
 # Privileges and intents are in the order of their bits, types and file kinds in that of their numbers.
 PRIVILEGES = READ_OVERRIDE, WRITE_OVERRIDE, RELABEL = "read override", "write override", "relabel"
@@ -50,6 +50,7 @@ class Object:
 
 @dataclass(frozen=True)
 class Request:
+    caller: Caller
     credentials: Credentials
     object: Object
     intents: int
@@ -64,11 +65,17 @@ def bad(request):
     asked, thing = request.asked(), request.object
     return (request.intents == 0 or request.intents > 63
             or {EXECUTE, SEARCH} <= asked
-            or not request.credentials.valid() or not thing.valid()
+            or not request.caller.valid() or not request.credentials.valid() or not thing.valid()
             or thing.label is None and thing.tuple is None
             or EXECUTE in asked and not thing.is_file(REGULAR)
             or SEARCH in asked and not thing.is_file(DIRECTORY)
             or bool(asked & ATTRIBUTE_INTENTS) and request.attribute_type not in (OF_LABEL, OF_TUPLE))
+
+
+def in_sight(request):
+    """Whether the caller sees the credentials' label and the object's, where there is one."""
+    labels = request.credentials.label, request.object.label
+    return all(request.caller.sees(label) for label in labels if label is not None)
 
 
 def tried(request):
@@ -91,14 +98,12 @@ def override(intent):
 
 def decide(request):
     """Grants with 1 if any privilege was needed, else with 0."""
-    if bad(request):
-        raise Refusal(INVALID)
+    require(not bad(request), INVALID)
+    require(in_sight(request), DENIED)
     subject, privileges = request.credentials.label, request.credentials.privileges
     needed = {override(intent) for intent in tried(request) if not met(intent, subject, request.object)}
-    if not needed <= privileges:
-        raise Refusal(DENIED)
+    require(needed <= privileges, DENIED)
     if SET_ATTRIBUTE in request.asked():
         needed.add(RELABEL)
-    if not needed <= privileges:
-        raise Refusal(NO_PRIVILEGE)
+    require(needed <= privileges, NO_PRIVILEGE)
     return 1 if needed else 0

@@ -6,7 +6,7 @@ import functools
 import protocol
 from monitor import FILE_KINDS, PRIVILEGES, TYPES, Credentials, Object, Request, decide, named
 from protocol import LEFT_OUT, Command
-from rules import INVALID, Label, Range, Refusal, Tuple
+from rules import INVALID, Caller, Label, Range, Refusal, Tuple
 
 
 def below(end, number):
@@ -16,16 +16,18 @@ def below(end, number):
     return number
 
 
-def check(privileges, object_type, file_kind, intents, attribute_type, label, bounds, object_label, object_tuple):
+def check(privileges, object_type, file_kind, intents, attribute_type, caller_override, label, bounds, object_label,
+          object_tuple, caller_label):
+    caller = Caller(caller_label, below(2, caller_override) == 1)
     held = named(below(2 ** len(PRIVILEGES), privileges), PRIVILEGES)
     thing = Object(TYPES[below(len(TYPES), object_type)], FILE_KINDS[below(len(FILE_KINDS), file_kind)],
                    object_label, object_tuple)
-    return decide(Request(Credentials(label, bounds, frozenset(held)), thing, intents, attribute_type))
+    return decide(Request(caller, Credentials(label, bounds, frozenset(held)), thing, intents, attribute_type))
 
 
 # The object's label, its tuple or both may be left out; that one of them must be there is the monitor's rule.
-FORMS = [(Label, Range, of_label, of_tuple) for of_label in (Label, LEFT_OUT) for of_tuple in (Tuple, LEFT_OUT)]
-COMMANDS = {b"check": Command(5, FORMS, check)}
+FORMS = [(Label, Range, of_label, of_tuple, Label) for of_label in (Label, LEFT_OUT) for of_tuple in (Tuple, LEFT_OUT)]
+COMMANDS = {b"check": Command(6, FORMS, check)}
 
 answers = functools.partial(protocol.answers, COMMANDS)
 

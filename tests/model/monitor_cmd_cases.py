@@ -1,6 +1,6 @@
 # The requests of monitor_cmd's stored input that follow its worked run: document 01's rules of the monitor case by case,
-# each refusal and boundary, the protocol, then all intents and random requests. A comment line in the input says what
-# each is about. `every_request` has the larger runs, which are not stored.
+# each refusal and boundary, who asks, the protocol, then all intents and random requests. A comment line in the input says
+# what each is about. `every_request` has the larger runs, which are not stored.
 
 import itertools
 
@@ -12,9 +12,10 @@ from monitor import (DIRECTORY, EXECUTE, FIFO, FILE, FILE_KINDS, GET_ATTRIBUTE, 
                      WRITE_OVERRIDE)
 from monitor_cmd import COMMANDS
 from protocol import DASH, NUMBERS_END
-from rules import CATEGORIES, Label, Range, Tuple, write
-from samples import (ALIAS, BORDER_HIERARCHIES, BORDER_LABELS, BORDER_TUPLES, LABEL, RANGE, TUPLE, any_label, any_range,
-                     any_tuple, label, near_label, near_range, range_around, tuple_of, unchecked_line)
+from rules import CATEGORIES, HIERARCHIES, Caller, Label, Range, Tuple, write
+from samples import (ALIAS, BORDER_HIERARCHIES, BORDER_LABELS, BORDER_TUPLES, FULL_TUPLE, LABEL, RANGE, TOP, TUPLE,
+                     WORD_BORDERS, any_label, any_range, any_tuple, at_times, label, label_above, label_below, near_label,
+                     near_range, range_around, tuple_of, unchecked_line)
 
 RANDOM_REQUESTS = 1000
 
@@ -43,24 +44,25 @@ OUTSIDE = tuple_of(user=Range(label(20), label(40, 1)))  # does not, for want of
 
 
 def check(privileges=0, object_type=FILE, file_kind=REGULAR, intents=asking(READ), attribute_type=0, subject=SUBJECT,
-          bounds=BOUNDS, object_label=SUBJECT, object_tuple=None):
-    """A request: a read of a regular file at the subject's own label, but for what is given. Types and kinds are given
-    by name or as any number."""
+          bounds=BOUNDS, object_label=SUBJECT, object_tuple=None, caller=TOP, caller_override=0):
+    """A request: a read of a regular file at the subject's own label, by a caller that sees every label, but for what is
+    given. Types and kinds are given by name or as any number."""
     if object_type in TYPES:
         object_type = TYPES.index(object_type)
     if file_kind in FILE_KINDS:
         file_kind = FILE_KINDS.index(file_kind)
-    numbers = (privileges, object_type, file_kind, intents, attribute_type)
-    return command_line(b"check", numbers) + b"".join(map(operand_line, (subject, bounds, object_label, object_tuple)))
+    numbers = (privileges, object_type, file_kind, intents, attribute_type, caller_override)
+    operands = (subject, bounds, object_label, object_tuple, caller)
+    return command_line(b"check", numbers) + b"".join(map(operand_line, operands))
 
 
 PROGRAM = Program(
     COMMANDS,
     good=(check(), check(object_label=None, object_tuple=INSIDE)),
-    numbered=lambda size: filled(b"check 0 0 0 ", b"0", b"2 0", size) + OPERANDS,
+    numbered=lambda size: filled(b"check 0 0 0 ", b"0", b"2 0 0", size) + OPERANDS,
     with_first=lambda line: check(subject=line),
-    with_last=lambda line: check(object_tuple=line),
-    numbers={b"check": (0, 0, 0, asking(READ), 0)})
+    with_last=lambda line: check(caller=line),
+    numbers={b"check": (0, 0, 0, asking(READ), 0, 0)})
 OPERANDS = check().split(b"\n", 1)[1]
 
 
@@ -159,7 +161,7 @@ def no_faults():
     yield "the subject's label at the low end", dict(subject=BOUNDS.low)
     yield "the subject's label at the high end", dict(subject=BOUNDS.high)
     yield "a range of one label", dict(bounds=Range(SUBJECT, SUBJECT))
-    yield "the range of all labels", dict(bounds=Range(label(0), Label(199, CATEGORIES)))
+    yield "the range of all labels", dict(bounds=Range(label(0), TOP))
     yield "an object's label outside the subject's range", dict(object_label=label(0))
     for number in (OF_LABEL, OF_TUPLE):
         for chosen in ATTRIBUTE_INTENTS:
@@ -195,6 +197,9 @@ def invalid_contents():
         yield case(f"subject's label: {what}", check(subject=unchecked_line(contents)))
         yield case(f"object's label: {what}", check(object_label=unchecked_line(contents)))
         yield case(f"object's label beside a valid tuple: {what}", check(object_label=unchecked_line(contents), object_tuple=INSIDE))
+        for override, (of, has) in itertools.product((0, 1), (("a label", {}), ("a tuple alone", having(None, INSIDE)))):
+            yield case(f"caller's label, {with_override(override)}, object with {of}: {what}",
+                       check(**has, caller=unchecked_line(contents), caller_override=override))
     for what, contents in INVALID_RANGES:
         yield case(f"subject's range: {what}", check(bounds=unchecked_line(contents)))
     for what, contents in INVALID_TUPLES:
@@ -264,12 +269,119 @@ def borders():
         yield from (alone(label(hierarchy), WRITE, None, object_tuple) for hierarchy in BORDER_HIERARCHIES)
 
 
+# Who asks
+
+BLIND = label(0)  # sees neither the subject's label nor the object's, where nothing else is said
+SOME_CALLERS = [Label(hierarchy, frozenset(chosen)) for hierarchy in (10, 20, 25, 30, 35, 40, 50)
+                for size in range(4) for chosen in itertools.combinations((1, 2, 3), size)]
+BOTH = [(f"{what} and a tuple", having(has["object_label"], INSIDE)) for what, has in OBJECTS if has["object_label"]]
+OVERRIDES = [0, holding(READ_OVERRIDE), holding(WRITE_OVERRIDE), holding(READ_OVERRIDE, WRITE_OVERRIDE)]
+
+
+def with_override(number):
+    """The caller's number, in words."""
+    return "with the caller's override" if number else "without the caller's override"
+
+
+def relation(one, other):
+    """How a label stands to another."""
+    if one.equal(other):
+        return "equal to"
+    if one.dominates(other):
+        return "above"
+    return "below" if other.dominates(one) else "incomparable to"
+
+
+def callers_beside(*labels):
+    """A caller's label for each way in which one can stand to these labels, all of them taken together."""
+    found = {}
+    for at in SOME_CALLERS:
+        found.setdefault(tuple(relation(at, one) for one in labels), at)
+    return found
+
+
+def callers_and_labels():
+    """Every way in which a caller can stand to the subject and the object, for each object, which may have no label. The
+    privileges are the subject's, and do not help the caller."""
+    for what, has in (*OBJECTS, *BOTH):
+        labels = [SUBJECT, has["object_label"]] if has["object_label"] else [SUBJECT]
+        for ways, at in callers_beside(*labels).items():
+            stands = " and ".join(f"{way} {whose}" for way, whose in zip(ways, ("the subject's", "the object's")))
+            for override, held in itertools.product((0, 1), (0, ALL_PRIVILEGES)):
+                yield case(f"{what}, a caller's label {stands}, {with_override(override)}, {with_privileges(held)}",
+                           check(held, **has, caller=at, caller_override=override))
+
+
+def callers_and_intents():
+    """Each intent on each type, by callers that see one of the two labels and not the other."""
+    seen = ("the subject's label alone", SUBJECT, ABOVE), ("the object's label alone", BELOW, BELOW)
+    for object_type, intent in itertools.product(TYPES, INTENTS):
+        if object_type == FILE or intent not in (EXECUTE, SEARCH):
+            for (what, caller, at), override in itertools.product(seen, (0, 1)):
+                yield case(f"{intent}, {object_type}, a caller that sees {what}, {with_override(override)}",
+                           check(ALL_PRIVILEGES, object_type, DIRECTORY if intent == SEARCH else REGULAR, asking(intent),
+                                 OF_LABEL, object_label=at, caller=caller, caller_override=override))
+
+
+def order_with_callers():
+    for what, changes in faults():
+        yield case(f"22 before 13 of the caller: {what}", check(**nothing_denied(changes), caller=BLIND))
+    for override, held in itertools.product((0, 1), EVERY_PRIVILEGE):
+        for what, has in (("an equal label", having(SUBJECT, None)), ("a label above", having(ABOVE, None))):
+            yield case(f"13 before 1: set attribute, {what}, {with_override(override)}, {with_privileges(held)}",
+                       check(held, intents=asking(SET_ATTRIBUTE), attribute_type=OF_LABEL, **has, caller=BLIND,
+                             caller_override=override))
+    for (what, has), override in itertools.product(OBJECTS, (0, 1)):
+        yield case(f"a caller that sees every label, {what}, {with_override(override)}: it makes no 1",
+                   check(**has, caller_override=override))
+
+
+def asking_for_themselves():
+    """The caller is the subject. What it may not see it may not ask about, by whatever override of the subject's."""
+    for (what, has), intent in itertools.product(OBJECTS, (WRITE, READ)):
+        for held, override in itertools.product(OVERRIDES, (0, 1)):
+            yield case(f"{intent}, {what}, {with_privileges(held)}, {with_override(override)}",
+                       check(held, intents=asking(intent), **has, caller=SUBJECT, caller_override=override))
+    for held in OVERRIDES:
+        yield case(f"write, a label above, asked by a caller at that label, {with_privileges(held)}",
+                   check(held, intents=asking(WRITE), object_label=ABOVE, caller=ABOVE))
+
+
+def no_part_of_callers():
+    """The ends of the subject's range and of the object's tuple need not be in sight, and neither need a label that is not
+    there."""
+    far = tuple_of(admin=Range(label(180), TOP))
+    for what, has in (("a tuple of all labels", having(None, FULL_TUPLE)), ("a tuple far above", having(None, far)),
+                      ("an equal label and a tuple of all labels", having(SUBJECT, FULL_TUPLE)),
+                      ("an equal label and a tuple far above", having(SUBJECT, far))):
+        for bounds, held in itertools.product((BOUNDS, Range(SUBJECT, SUBJECT), Range(label(0), TOP)), (0, ALL_PRIVILEGES)):
+            yield case(f"{what}, a caller at the subject's label, {with_privileges(held)}",
+                       check(held, bounds=bounds, **has, caller=SUBJECT))
+
+
+def seen_or_not(lower, at, callers):
+    """Requests about a subject, and about an object, at a label, the other being at one that all these callers see."""
+    for caller, (subject, object_label) in itertools.product(callers, ((at, lower), (lower, at))):
+        yield check(ALL_PRIVILEGES, subject=subject, bounds=Range(subject, subject), object_label=object_label, caller=caller)
+
+
+def borders_of_callers():
+    for category in WORD_BORDERS:
+        yield case(f"category {category}, by callers with each other category, with it, and with all",
+                   *seen_or_not(label(20), label(20, category),
+                                (Label(199, CATEGORIES - {category}), label(20, category), TOP)))
+    for hierarchy in BORDER_HIERARCHIES:
+        about = [label(h) for h in (hierarchy - 1, hierarchy, hierarchy + 1) if h in HIERARCHIES]
+        yield case(f"hierarchy {hierarchy}, by callers about there", *seen_or_not(label(0), label(hierarchy), about))
+
+
 # Numbers that mean nothing
 
 OUT_OF_BOUNDS = {
     "privileges": (8, 9, 15, 16, 255, 256, 2 ** 32, 2 ** 32 + 1, 2 ** 63, NUMBERS_END - 1),
     "object_type": (6, 7, 8, 255, 256, 2 ** 32, 2 ** 32 + 1, NUMBERS_END - 1),
     "file_kind": (3, 4, 255, 256, 2 ** 32, 2 ** 32 + 1, NUMBERS_END - 1),
+    "caller_override": (2, 3, 255, 256, 2 ** 32, 2 ** 32 + 1, 2 ** 63, NUMBERS_END - 1),
 }
 
 
@@ -277,11 +389,12 @@ def out_of_bounds():
     for field, numbers in OUT_OF_BOUNDS.items():
         what = field.replace("_", " ")
         for number in numbers:
-            yield case(f"{what} {number}: the four operands are taken", check(**{field: number}))
-            yield case(f"{what} {number}, and the rest is refused too", check(**denied_too({field: number})))
-    yield case("all three, and every operand bad", check(8, 6, 3, 0, 0, b"\n", b"# comment\n", b"--\n", b"20\n"))
+            yield case(f"{what} {number}: the five operands are taken", check(**{field: number}))
+            yield case(f"{what} {number}, and the rest is refused too", check(**denied_too({field: number}), caller=BLIND))
+    yield case("all four, and every operand bad",
+               check(8, 6, 3, 0, 0, b"\n", b"# comment\n", b"--\n", b"20\n", DASH, caller_override=2))
     yield case("the file kind does not count for a fifo, but names nothing", check(object_type=FIFO, file_kind=3))
-    yield case("the greatest numbers there are", check(7, 5, 2))
+    yield case("the greatest numbers there are", check(7, 5, 2, caller_override=1))
 
 
 # The protocol
@@ -302,31 +415,34 @@ def dashes():
 
 def with_operand(at, line):
     """A good request with a label and a tuple, but for one operand."""
-    operands = [SUBJECT, BOUNDS, SUBJECT, INSIDE]
+    operands = [SUBJECT, BOUNDS, SUBJECT, INSIDE, TOP]
     operands[at] = line
     return PROGRAM.request(b"check", *operands)
 
 
 def operands_at_each_place():
-    for at in range(4):
+    for at in range(5):
         for what, line in dashes():
             yield case(f"operand {at + 1}: {what}", with_operand(at, line))
         for operand in (LABEL, RANGE, TUPLE, ALIAS, None):
             what = "left out" if operand is None else f"a {type(operand).__name__.lower()}"
             yield case(f"operand {at + 1}: {what}", with_operand(at, operand))
         yield case(f"operand {at + 1}: invalid, with a right sum", with_operand(at, unchecked_line(label(200))))
-    for operands in itertools.product((SUBJECT, None), (BOUNDS, None), (SUBJECT, None), (INSIDE, None)):
+    for operands in itertools.product((SUBJECT, None), (BOUNDS, None), (SUBJECT, None), (INSIDE, None), (TOP, None)):
         given = [str(at + 1) for at, operand in enumerate(operands) if operand is not None]
         yield case(f"operands given: {' '.join(given) or 'none'}", PROGRAM.request(b"check", *operands))
-    yield case("the first two in the other order", PROGRAM.request(b"check", BOUNDS, SUBJECT, SUBJECT, INSIDE))
-    yield case("the last two in the other order", PROGRAM.request(b"check", SUBJECT, BOUNDS, INSIDE, SUBJECT))
-    yield case("the same with a dash", PROGRAM.request(b"check", SUBJECT, BOUNDS, INSIDE, None))
+    yield case("the first two in the other order", PROGRAM.request(b"check", BOUNDS, SUBJECT, SUBJECT, INSIDE, TOP))
+    yield case("the object's two in the other order", PROGRAM.request(b"check", SUBJECT, BOUNDS, INSIDE, SUBJECT, TOP))
+    yield case("the same with a dash", PROGRAM.request(b"check", SUBJECT, BOUNDS, INSIDE, None, TOP))
+    yield case("the last two in the other order", PROGRAM.request(b"check", SUBJECT, BOUNDS, SUBJECT, TOP, INSIDE))
+    yield case("the same with a dash", PROGRAM.request(b"check", SUBJECT, BOUNDS, SUBJECT, TOP, None))
+    yield case("the caller's label first", PROGRAM.request(b"check", TOP, SUBJECT, BOUNDS, SUBJECT, INSIDE))
 
 
 def misplaced_lines():
     good = check()
     lines = good.splitlines(keepends=True)
-    yield case("empty lines and comments between requests", b"\n\n#\n##\n#check 0 0 0 2 0\n# check 0 0 0 2 0\n\n", good)
+    yield case("empty lines and comments between requests", b"\n\n#\n##\n#check 0 0 0 2 0 0\n# check 0 0 0 2 0 0\n\n", good)
     for at in range(1, len(lines)):
         for what, line in (("an empty line", b"\n"), ("a comment", b"# comment\n")):
             yield case(f"{what} before operand {at}: the last one is not taken", *lines[:at], line, *lines[at:])
@@ -338,7 +454,7 @@ def misplaced_lines():
 
 
 UNKNOWN_WORDS = [*(command_line(word, [0] * command.numbers)[:-1] for word, command in mac_cmd.COMMANDS.items()),
-                 b"checkcheck 0 0 0 2 0", b"check_ 0 0 0 2 0", b"0 0 0 0 2 0", b"0 0 0 2 0", b"make 100", b"table",
+                 b"checkcheck 0 0 0 2 0 0", b"check_ 0 0 0 2 0 0", b"0 0 0 0 2 0 0", b"0 0 0 2 0 0", b"make 100", b"table",
                  b"\0", b"\xff"]
 
 
@@ -373,10 +489,11 @@ EVERY_OBJECT = [
 
 
 def every_request():
-    """Runs that hold every intent, type, kind, attribute type and set of privileges, one for each object."""
+    """Runs that hold every intent, type, kind, attribute type and set of privileges, one for each object, by a caller that
+    sees every label."""
     numbers = itertools.product(EVERY_PRIVILEGE, range(len(TYPES)), range(len(FILE_KINDS)),
                                 range(LAST_INTENTS + 1), range(OF_TUPLE + 2))
-    lines = [command_line(b"check", n) for n in numbers]
+    lines = [command_line(b"check", (*n, 0)) for n in numbers]
     for what, has in EVERY_OBJECT:
         operands = check(**has).split(b"\n", 1)[1]
         yield f"all {len(lines)} requests on {what}", operands.join(lines) + operands
@@ -390,6 +507,15 @@ def random_object(rng, subject):
     object_tuple = near_range(rng, subject).split() if rng.random() < 0.5 else any_tuple(rng)
     there = rng.choices(((True, False), (False, True), (True, True), (False, False)), weights=(12, 6, 6, 1))[0]
     return [operand if is_there else None for operand, is_there in zip((object_label, object_tuple), there)]
+
+
+def random_caller(rng, subject, object_label):
+    """A caller that sees the subject's label, and the object's where there is one, about as often as not."""
+    both = subject if object_label is None else subject.upper_bound(object_label)
+    near_one = near_label(rng, rng.choice((subject, object_label or subject)))
+    below, anywhere = label_below(rng, both), any_label(rng)
+    at = rng.choice((both, label_above(rng, both), near_one, below, below, anywhere, anywhere))
+    return Caller(at, at_times(rng, 0.1))
 
 
 def random_intents(rng, object_type, file_kind):
@@ -411,9 +537,12 @@ def random_request(rng):
     bounds = range_around(rng, subject) if rng.random() < 0.97 else any_range(rng)
     object_type, file_kind = rng.choice((FILE, FIFO, rng.choice(TYPES))), rng.choice(FILE_KINDS)
     chosen = random_intents(rng, object_type, file_kind)
+    object_label, object_tuple = random_object(rng, subject)
+    caller = random_caller(rng, subject, object_label)
     operands = [None if operand is None else cases.damaged_at_times(rng, write(operand), 0.01)
-                for operand in (subject, bounds, *random_object(rng, subject))]
-    return check(rng.choice(EVERY_PRIVILEGE), object_type, file_kind, chosen, random_attribute_type(rng), *operands)
+                for operand in (subject, bounds, object_label, object_tuple, caller.label)]
+    return check(rng.choice(EVERY_PRIVILEGE), object_type, file_kind, chosen, random_attribute_type(rng), *operands,
+                 caller_override=int(caller.read_override))
 
 
 def random_requests(rng):
@@ -430,11 +559,17 @@ SECTIONS = [
     ("Label and tuple together", label_and_tuple),
     ("No label", no_label),
     ("Boundaries of labels and tuples", borders),
-    ("Numbers that name no privileges, type or kind", out_of_bounds),
+    ("Who asks: how the caller's label stands to the subject's and the object's", callers_and_labels),
+    ("Who asks: each intent on each type", callers_and_intents),
+    ("Who asks: the order of the steps", order_with_callers),
+    ("Who asks: a process that asks for itself", asking_for_themselves),
+    ("Who asks: what plays no part", no_part_of_callers),
+    ("Who asks: boundaries of labels", borders_of_callers),
+    ("Numbers that name no privileges, type, kind or override", out_of_bounds),
     ("Bad operands", lambda: cases.bad_operands(PROGRAM)),
     ("What may stand for an operand", operands_at_each_place),
     ("Lines between requests and in the place of operands", misplaced_lines),
-    ("Bad command lines", lambda: cases.bad_words(PROGRAM, range(8), UNKNOWN_WORDS)),
+    ("Bad command lines", lambda: cases.bad_words(PROGRAM, range(9), UNKNOWN_WORDS)),
     ("Numbers", number_forms),
     ("Lines about as long as the line buffer, and longer", lambda: cases.line_sizes(PROGRAM)),
     ("Odd bytes", lambda: cases.odd_bytes(PROGRAM)),

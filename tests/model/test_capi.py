@@ -10,7 +10,7 @@ from capi import (ABBREVIATION_BYTES, ENTRY_SIZE, FUNCTIONS, HEADER, LABEL_SIZE,
                   tuple_numbers)
 from rules import (CATEGORIES, HIERARCHIES, LONGEST_ABBREVIATION, LONGEST_NAME, OF_CATEGORY, OF_HIERARCHY, OF_LABEL, REGIONS,
                    Alias, write)
-from samples import FULL_TUPLE, RANGE, TUPLE, label
+from samples import FULL_TUPLE, RANGE, TOP, TUPLE, label
 from segments import MOST_PAGES, SLOTS, TENANTS, Segment, State, Tenant
 from text import MOST_ENTRIES
 
@@ -24,7 +24,8 @@ OBJECT = (0, 0, 1, 0, *LOW, *NO_TUPLE)  # a regular file at (20,{})
 OBJECT_LABEL, OBJECT_TUPLE = 4, 4 + LABEL_SIZE
 READ = 2
 STYLE = (0, 0)
-SUBJECT = (*LOW_EAST, 0)
+CALLER = (*LOW_EAST, 0)
+SEES_ALL = (*label_numbers(TOP), 0)
 MOST = 2 ** 64 - 1
 
 # No flag, no presence, and 0 or 1 in the first 8 or 32 bits of some.
@@ -115,14 +116,14 @@ class Examples(Numbers):
 
     def test_text(self):
         self.grants(2, "check_alias_table", WHOLE_TABLE, 0)
-        self.assertEqual(answer("write_label_text", (WHOLE_TABLE, 0, SUBJECT, STYLE, LOW_EAST, 9)),
+        self.assertEqual(answer("write_label_text", (WHOLE_TABLE, 0, CALLER, STYLE, LOW_EAST, 9)),
                          ((0, 0, 8), b"low:east\xa5"))
-        self.assertEqual(answer("write_label_text", (WHOLE_TABLE, 0, SUBJECT, STYLE, LOW_EAST, 7)), ((7, 1, 8), b"\xa5" * 7))
+        self.assertEqual(answer("write_label_text", (WHOLE_TABLE, 0, CALLER, STYLE, LOW_EAST, 7)), ((7, 1, 8), b"\xa5" * 7))
         self.assertEqual(answer("write_range_text", (WHOLE_TABLE, 0, (*LOW, 0), STYLE, LOW + LOW_EAST, 11)),
                          ((0, 0, 11, 1), b"-L low -H ?"))
-        self.grants(0, "read_label_text", WHOLE_TABLE, 0, SUBJECT, b"low:e", beside=LOW_EAST)
-        self.grants(0, "read_range_text", WHOLE_TABLE, 0, SUBJECT, b"-L low -H low:east", beside=LOW + LOW_EAST)
-        self.refuses(22, "read_range_text", WHOLE_TABLE, 0, SUBJECT, b"-L low -H ?")
+        self.grants(0, "read_label_text", WHOLE_TABLE, 0, CALLER, b"low:e", beside=LOW_EAST)
+        self.grants(0, "read_range_text", WHOLE_TABLE, 0, CALLER, b"-L low -H low:east", beside=LOW + LOW_EAST)
+        self.refuses(22, "read_range_text", WHOLE_TABLE, 0, CALLER, b"-L low -H ?")
 
     def test_board(self):
         def granted(name, *arguments):
@@ -248,12 +249,12 @@ class AliasTables(Numbers):
 
     def asked(self, table, more=0, override=0, style=STYLE):
         """Every function that takes an alias table, and arguments that are good but for these."""
-        subject = (*LOW_EAST, override)
-        yield "write_label_text", table, more, subject, style, LOW, 99
-        yield "write_range_text", table, more, subject, style, LOW + LOW_EAST, 99
+        caller = (*LOW_EAST, override)
+        yield "write_label_text", table, more, caller, style, LOW, 99
+        yield "write_range_text", table, more, caller, style, LOW + LOW_EAST, 99
         if style == STYLE:
-            yield "read_label_text", table, more, subject, b"low"
-            yield "read_range_text", table, more, subject, b"-L low -H low"
+            yield "read_label_text", table, more, caller, b"low"
+            yield "read_range_text", table, more, caller, b"-L low -H low"
             if override == 0:
                 yield "check_alias_table", table, more
 
@@ -277,16 +278,16 @@ class AliasTables(Numbers):
     def test_the_table_comes_before_labels(self):
         invalid = (200, 0, 0, 0, 0)
         for table, carried in ((WHOLE_TABLE, None), (self.BAD, 0), (WHOLE_TABLE + self.BAD, 2)):
-            self.refuses(22, "write_label_text", table, 0, SUBJECT, STYLE, invalid, 9, carried=carried)
+            self.refuses(22, "write_label_text", table, 0, CALLER, STYLE, invalid, 9, carried=carried)
             self.refuses(22, "write_label_text", table, 0, (*invalid, 1), STYLE, LOW, 9, carried=carried)
-            self.refuses(22, "write_range_text", table, 0, SUBJECT, STYLE, LOW + invalid, 99, carried=carried)
+            self.refuses(22, "write_range_text", table, 0, CALLER, STYLE, LOW + invalid, 99, carried=carried)
             self.refuses(22, "read_label_text", table, 0, (*invalid, 1), b"low", carried=carried)
-            self.refuses(22, "read_range_text", table, 0, SUBJECT, b"low", carried=carried)
+            self.refuses(22, "read_range_text", table, 0, CALLER, b"low", carried=carried)
 
     def test_others_carry_nothing(self):
         self.refuses(13, "write_label_text", WHOLE_TABLE, 0, (*LOW, 0), STYLE, LOW_EAST, 99)
         self.refuses(2, "write_label_text", WHOLE_TABLE, 0, (30, 0, 0, 0, 0, 0), STYLE, (30, 0, 0, 0, 0), 99)
-        self.refuses(22, "read_label_text", WHOLE_TABLE, 0, SUBJECT, b"")
+        self.refuses(22, "read_label_text", WHOLE_TABLE, 0, CALLER, b"")
         self.refuses(22, "read_label_text", WHOLE_TABLE, 0, (*LOW, 0), b"low:east")
 
 
@@ -312,8 +313,8 @@ class Presences(Numbers):
     def test_objects(self):
         """A tuple that is not there is not looked at."""
         for bad in self.bad():
-            self.grants(0, "check", CREDENTIALS, OBJECT[:OBJECT_TUPLE] + bad, READ, 0)
-            self.refuses(22, "check", CREDENTIALS, changed(OBJECT[:OBJECT_TUPLE], 3, 1) + bad, READ, 0)
+            self.grants(0, "check", SEES_ALL, CREDENTIALS, OBJECT[:OBJECT_TUPLE] + bad, READ, 0)
+            self.refuses(22, "check", SEES_ALL, CREDENTIALS, changed(OBJECT[:OBJECT_TUPLE], 3, 1) + bad, READ, 0)
 
     def test_states(self):
         """In a clearance that is asked for, one of an admitted tenant, and where there is no tenant."""
@@ -360,18 +361,20 @@ class Hierarchies(Numbers):
 
     def test_text(self):
         for bad in self.LABELS:
-            self.refuses(22, "write_label_text", WHOLE_TABLE, 0, SUBJECT, STYLE, bad, 99)
+            self.refuses(22, "write_label_text", WHOLE_TABLE, 0, CALLER, STYLE, bad, 99)
             self.refuses(22, "write_label_text", WHOLE_TABLE, 0, (*bad, 1), STYLE, LOW, 99)
-            self.refuses(22, "write_range_text", WHOLE_TABLE, 0, SUBJECT, STYLE, bad + LOW_EAST, 99)
-            self.refuses(22, "write_range_text", WHOLE_TABLE, 0, SUBJECT, STYLE, LOW + bad, 99)
+            self.refuses(22, "write_range_text", WHOLE_TABLE, 0, CALLER, STYLE, bad + LOW_EAST, 99)
+            self.refuses(22, "write_range_text", WHOLE_TABLE, 0, CALLER, STYLE, LOW + bad, 99)
             self.refuses(22, "read_label_text", WHOLE_TABLE, 0, (*bad, 1), b"low")
             self.refuses(22, "read_range_text", WHOLE_TABLE, 0, (*bad, 1), b"-L low -H low")
 
     def test_check(self):
         for number in NO_HIERARCHIES:
             for at in (0, LABEL_SIZE, 2 * LABEL_SIZE):
-                self.refuses(22, "check", changed(CREDENTIALS, at, number), OBJECT, READ, 0)
-            self.refuses(22, "check", CREDENTIALS, changed(OBJECT, OBJECT_LABEL, number), READ, 0)
+                self.refuses(22, "check", SEES_ALL, changed(CREDENTIALS, at, number), OBJECT, READ, 0)
+            self.refuses(22, "check", SEES_ALL, CREDENTIALS, changed(OBJECT, OBJECT_LABEL, number), READ, 0)
+            for override in (0, 1):
+                self.refuses(22, "check", (number, 0, 0, 0, 0, override), CREDENTIALS, OBJECT, READ, 0)
 
     def test_states(self):
         state = state_numbers(State(100).with_tenant(0, Tenant(10, TUPLE)).with_segment(0, Segment(label(20), 1, 0)))
@@ -387,36 +390,56 @@ class Hierarchies(Numbers):
 
 class Checks(Numbers):
     def test_flags(self):
-        self.grants(0, "check", CREDENTIALS, OBJECT, READ, 0)
+        self.grants(0, "check", SEES_ALL, CREDENTIALS, OBJECT, READ, 0)
         for number in NO_FLAGS:
             for at in (15, 16, 17):
-                self.refuses(22, "check", changed(CREDENTIALS, at, number), OBJECT, READ, 0)
+                self.refuses(22, "check", SEES_ALL, changed(CREDENTIALS, at, number), OBJECT, READ, 0)
             for at in (2, 3):
-                self.refuses(22, "check", CREDENTIALS, changed(OBJECT, at, number), READ, 0)
-        self.refuses(22, "check", CREDENTIALS, changed(OBJECT, 2, 0), READ, 0)
+                self.refuses(22, "check", SEES_ALL, CREDENTIALS, changed(OBJECT, at, number), READ, 0)
+            for caller in (SEES_ALL, CALLER, (0,) * len(CALLER)):
+                self.refuses(22, "check", changed(caller, len(caller) - 1, number), CREDENTIALS, OBJECT, READ, 0)
+        self.refuses(22, "check", SEES_ALL, CREDENTIALS, changed(OBJECT, 2, 0), READ, 0)
 
     def test_types(self):
         for number in (6, 256, 257, 2 ** 32, 2 ** 32 + 4, MOST):
-            self.refuses(22, "check", CREDENTIALS, changed(OBJECT, 0, number), READ, 0)
+            self.refuses(22, "check", SEES_ALL, CREDENTIALS, changed(OBJECT, 0, number), READ, 0)
 
     def test_kinds_count_for_files_alone(self):
         for kind in (3, 7, 256, 2 ** 32, MOST):
-            self.refuses(22, "check", CREDENTIALS, changed(OBJECT, 1, kind), READ, 0)
+            self.refuses(22, "check", SEES_ALL, CREDENTIALS, changed(OBJECT, 1, kind), READ, 0)
             for object_type in (1, 2, 3, 4, 5):
-                self.grants(0, "check", CREDENTIALS, (object_type, kind) + OBJECT[2:], READ, 0)
-        self.refuses(22, "check", CREDENTIALS, (1, 0) + OBJECT[2:], 4, 0)  # a fifo is no regular file
+                self.grants(0, "check", SEES_ALL, CREDENTIALS, (object_type, kind) + OBJECT[2:], READ, 0)
+        self.refuses(22, "check", SEES_ALL, CREDENTIALS, (1, 0) + OBJECT[2:], 4, 0)  # a fifo is no regular file
 
     def test_intents_and_attributes(self):
         for intents in (0, 64, 256 + READ, 2 ** 32 + READ, MOST):
-            self.refuses(22, "check", CREDENTIALS, OBJECT, intents, 0)
-        self.refuses(1, "check", CREDENTIALS, OBJECT, 32, 1)
-        self.grants(1, "check", changed(CREDENTIALS, 17, 1), OBJECT, 32, 1)
+            self.refuses(22, "check", SEES_ALL, CREDENTIALS, OBJECT, intents, 0)
+        self.refuses(1, "check", SEES_ALL, CREDENTIALS, OBJECT, 32, 1)
+        self.grants(1, "check", SEES_ALL, changed(CREDENTIALS, 17, 1), OBJECT, 32, 1)
         for attribute in (0, 3, 257, 2 ** 32 + 1, MOST):
-            self.refuses(22, "check", changed(CREDENTIALS, 17, 1), OBJECT, 32, attribute)
-            self.grants(0, "check", CREDENTIALS, OBJECT, READ, attribute)
+            self.refuses(22, "check", SEES_ALL, changed(CREDENTIALS, 17, 1), OBJECT, 32, attribute)
+            self.grants(0, "check", SEES_ALL, CREDENTIALS, OBJECT, READ, attribute)
 
     def test_denied(self):
-        self.refuses(13, "check", CREDENTIALS, changed(OBJECT, OBJECT_LABEL, 30), READ, 0)
+        self.refuses(13, "check", SEES_ALL, CREDENTIALS, changed(OBJECT, OBJECT_LABEL, 30), READ, 0)
+
+    def test_callers(self):
+        """The credentials are at (20,{}). A caller without the read override has to dominate that label and the object's."""
+        reading_up = changed(CREDENTIALS, 15, 1), changed(OBJECT, OBJECT_LABEL, 30), READ, 0
+        for caller, own, up in (((20, 0, 0, 0, 0), 0, None), ((30, 0, 0, 0, 0), 0, 1), ((19, 2, 0, 0, 0), None, None)):
+            for granted, asked in ((own, (CREDENTIALS, OBJECT, READ, 0)), (up, reading_up)):
+                if granted is None:
+                    self.refuses(13, "check", (*caller, 0), *asked)
+                else:
+                    self.grants(granted, "check", (*caller, 0), *asked)
+            self.grants(0, "check", (*caller, 1), CREDENTIALS, OBJECT, READ, 0)
+            self.grants(1, "check", (*caller, 1), *reading_up)
+
+    def test_a_label_that_is_not_there_is_not_looked_at(self):
+        for held in ((30, 0, 0, 0, 0), (200, 0, 0, 0, 0), (MOST,) * LABEL_SIZE):
+            tuple_alone = (0, 0, 0, 1, *held, *CLEARANCE)
+            self.grants(0, "check", (*LOW, 0), CREDENTIALS, tuple_alone, READ, 0)
+            self.refuses(13, "check", (19, 0, 0, 0, 0, 0), CREDENTIALS, tuple_alone, READ, 0)
 
 
 class States(Numbers):
@@ -463,9 +486,9 @@ class BesideARefusal(Numbers):
                 (LABEL_SIZE, "with_category", LOW, 256), (RANGE_SIZE, "range_meet", bad_range, LOW + LOW),
                 (TUPLE_SIZE, "range_split", bad_range), (TUPLE_SIZE, "tuple_meet", changed(NO_TUPLE, 0, 2), NO_TUPLE),
                 (LABEL_SIZE, "read_label", b"\n"), (RANGE_SIZE, "read_range", b"\n"), (TUPLE_SIZE, "read_tuple", b"\n"),
-                (ENTRY_SIZE, "read_entry", b"\n"), (LABEL_SIZE, "read_label_text", b"", 0, SUBJECT, b"low"),
-                (RANGE_SIZE, "read_range_text", b"", 0, SUBJECT, b"low"),
-                (1, "write_range_text", b"", 0, SUBJECT, STYLE, bad_range, 9)):
+                (ENTRY_SIZE, "read_entry", b"\n"), (LABEL_SIZE, "read_label_text", b"", 0, CALLER, b"low"),
+                (RANGE_SIZE, "read_range_text", b"", 0, CALLER, b"low"),
+                (1, "write_range_text", b"", 0, CALLER, STYLE, bad_range, 9)):
             self.refuses(22, *request, beside=beside)
 
     def test_make(self):

@@ -1,5 +1,5 @@
 # Tests of rules.py and monitor.py: document 01's examples, the laws of hex lines on random contents, each sentence on
-# the monitor, and that what the stored inputs have as faulty has the fault that it is there for.
+# the monitor and its caller, and that what the stored inputs have as faulty has the fault that it is there for.
 # Run: python3 tests/model/test_rules.py
 
 import collections
@@ -14,8 +14,8 @@ import rules
 import samples
 from monitor import (DIRECTORY, FIFO, FILE, FILE_KINDS, MESSAGE_QUEUE, OTHER, PROCESS, READ_OVERRIDE, REGULAR, RELABEL,
                      SEMAPHORE, SHARED_MEMORY, TYPES, WRITE_OVERRIDE, Credentials, Object, Request, decide)
-from rules import Alias, Label, Range, Refusal, Tuple, read, write
-from samples import ALIAS, FULL_TUPLE, RANGE, label
+from rules import CATEGORIES, Alias, Caller, Label, Range, Refusal, Tuple, read, write
+from samples import ALIAS, FULL_TUPLE, RANGE, TOP, WORD_BORDERS, label
 
 SEED = 1
 ROUNDS = 300
@@ -185,15 +185,16 @@ SUBJECT_RANGE = Range(label(20), label(40, 1, 2))
 CONTAINS = Tuple((None, Range(label(20), label(40, 1)), None))
 CONTAINS_NOT = Tuple((Range(label(0), label(19, 1)), Range(label(20), label(29, 1)), None))
 UPSIDE_DOWN = Range(label(40), label(20))
+SEES_ALL = Caller(TOP)
 
 
 def outcome(intents, attribute_type=0, privileges=(), type=FILE, kind=REGULAR, subject=SUBJECT, bounds=SUBJECT_RANGE,
-            label=SUBJECT, tuple=None):
+            label=SUBJECT, tuple=None, caller=SEES_ALL):
     """The monitor's answer: "0" or "1" for a grant, "E" and the number for a refusal. Where nothing else is said, the
-    object is a regular file at the subject's label, and the subject has no privilege."""
+    object is a regular file at the subject's label, the subject has no privilege, and the caller sees every label."""
     credentials = Credentials(subject, bounds, frozenset(privileges))
     try:
-        return str(decide(Request(credentials, Object(type, kind, label, tuple), intents, attribute_type)))
+        return str(decide(Request(caller, credentials, Object(type, kind, label, tuple), intents, attribute_type)))
     except Refusal as refusal:
         return f"E{refusal.number}"
 
@@ -351,32 +352,135 @@ class MonitorDecisions(unittest.TestCase):
         self.assertEqual(outcome(READ | SET, 1, [READ_OVERRIDE, WRITE_OVERRIDE], label=label(31, 1)), "E1")
 
 
+class MonitorCallers(unittest.TestCase):
+    """Request 2026-01: who asks. The subject is at (30,{1})."""
+
+    EVERY_PRIVILEGE = READ_OVERRIDE, WRITE_OVERRIDE, RELABEL
+    BLIND = label(0)
+
+    def by_both(self, caller, expected, intents=READ, **asked):
+        """A caller at a label gets the one answer without the read override, and the other with it."""
+        got = [outcome(intents, 1, caller=Caller(caller, override), **asked) for override in (False, True)]
+        self.assertEqual(" ".join(got), expected, (caller, intents, asked))
+
+    def test_dominates_the_credentials_label(self):
+        for caller, expected in ((SUBJECT, "0 0"), (label(31, 1), "0 0"), (label(30, 1, 255), "0 0"), (label(29, 1), "E13 0"),
+                                 (label(30), "E13 0"), (label(31), "E13 0"), (label(199, 2), "E13 0"), (label(0), "E13 0")):
+            self.by_both(caller, expected, label=label(0))
+            self.by_both(caller, expected, label=None, tuple=CONTAINS)
+
+    def test_dominates_the_object_label(self):
+        """The object is at (31,{1,2}), and the subject reads it by its own override."""
+        above = label(31, 1, 2)
+        for caller, expected in ((above, "1 1"), (label(32, 1, 2, 3), "1 1"), (SUBJECT, "E13 1"), (label(31, 1), "E13 1"),
+                                 (label(30, 1, 2), "E13 1"), (label(199, 1, 3), "E13 1"), (label(0), "E13 1")):
+            self.by_both(caller, expected, privileges=[READ_OVERRIDE], label=above)
+            self.by_both(caller, expected, privileges=[READ_OVERRIDE], label=above, tuple=CONTAINS)
+
+    def test_dominates_both(self):
+        """(40,{}) and (30,{1}) don't dominate each other, so each alone sees one of the two, and (40,{1}) both."""
+        for caller, expected in ((label(40), "E13 1"), (SUBJECT, "E13 1"), (label(40, 1), "1 1"), (label(39, 1), "E13 1")):
+            self.by_both(caller, expected, privileges=[READ_OVERRIDE], label=label(40))
+
+    def test_each_category(self):
+        for category in WORD_BORDERS:
+            all_but, one, none = Label(199, CATEGORIES - {category}), label(20, category), label(20)
+            for subject, at in ((one, none), (one, one), (none, one)):
+                asked = dict(subject=subject, bounds=Range(subject, subject), privileges=[READ_OVERRIDE], label=at)
+                granted = "0" if subject == one else "1"
+                self.by_both(all_but, f"E13 {granted}", **asked)
+                self.by_both(one, f"{granted} {granted}", **asked)
+
+    def test_ends_play_no_part(self):
+        """Neither the high end of the credentials' range nor those of a tuple have to be in sight."""
+        far = Tuple((None, None, Range(label(180), TOP)))
+        for bounds in (SUBJECT_RANGE, Range(label(0), TOP)):
+            self.by_both(SUBJECT, "0 0", bounds=bounds)
+            self.by_both(SUBJECT, "0 0", bounds=bounds, label=None, tuple=FULL_TUPLE)
+            self.by_both(SUBJECT, "0 0", bounds=bounds, tuple=far)
+            self.by_both(SUBJECT, "1 1", bounds=bounds, privileges=[READ_OVERRIDE], label=None, tuple=far)
+
+    def test_overrides_are_not_shared(self):
+        """Those of the credentials don't help the caller, nor the caller's the intents."""
+        self.by_both(self.BLIND, "E13 0", privileges=self.EVERY_PRIVILEGE)
+        self.by_both(TOP, "E13 E13", label=label(31, 1))
+        self.by_both(self.BLIND, "E13 E13", label=label(31, 1))
+        self.by_both(self.BLIND, "E13 1", privileges=[READ_OVERRIDE], label=label(31, 1))
+
+    def test_override_never_answers_1(self):
+        for caller in (TOP, SUBJECT):
+            self.by_both(caller, "0 0")
+            self.by_both(caller, "0 0", intents=WRITE, privileges=self.EVERY_PRIVILEGE)
+            self.by_both(caller, "0 0", type=FIFO)
+        self.by_both(self.BLIND, "E13 0")
+        self.by_both(self.BLIND, "E13 0", intents=WRITE)
+        self.by_both(self.BLIND, "E13 0", label=None, tuple=CONTAINS)
+
+    def test_order(self):
+        """22, then the caller's 13, which comes before 1 and whatever the intents would get."""
+        for bad in (dict(intents=0), dict(intents=64), dict(intents=EXECUTE | SEARCH), dict(intents=EXECUTE, type=FIFO),
+                    dict(intents=SEARCH), dict(bounds=UPSIDE_DOWN), dict(subject=label(41)), dict(label=None),
+                    dict(label=label(200)), dict(tuple=Tuple((SUBJECT_RANGE, None, None)))):
+            self.by_both(self.BLIND, "E22 E22", **bad)
+        self.assertEqual(outcome(GET, 3, caller=Caller(self.BLIND)), "E22")
+        self.by_both(self.BLIND, "E13 E1", intents=SET)
+        self.by_both(self.BLIND, "E13 1", intents=SET, privileges=[RELABEL])
+        self.by_both(self.BLIND, "E13 E13", intents=SET, label=label(31, 1))
+        for intents in (WRITE, READ, GET, WRITE | READ, EXECUTE):
+            self.by_both(self.BLIND, "E13 0", intents=intents)
+
+    def test_invalid_label(self):
+        """22 with the first checks, with the override too, for a tuple alone, and where the rest would be refused."""
+        for bad in (label(200), label(255), Label(2 ** 32 + 199, CATEGORIES), Label(199, CATEGORIES | {256})):
+            self.by_both(bad, "E22 E22")
+            self.by_both(bad, "E22 E22", label=None, tuple=CONTAINS)
+            self.by_both(bad, "E22 E22", privileges=self.EVERY_PRIVILEGE)
+            self.by_both(bad, "E22 E22", label=label(31, 1))
+            self.by_both(bad, "E22 E22", intents=SET)
+
+    def test_asks_for_itself(self):
+        """What a process may not see it may not ask about: it can't write up by write override alone."""
+        up, down = label(31, 1), label(29)
+        self.by_both(SUBJECT, "E13 1", intents=WRITE, privileges=[WRITE_OVERRIDE], label=up)
+        self.by_both(up, "1 1", intents=WRITE, privileges=[WRITE_OVERRIDE], label=up)
+        self.by_both(SUBJECT, "E13 1", privileges=[READ_OVERRIDE], label=up)
+        self.by_both(SUBJECT, "1 1", intents=WRITE, privileges=[WRITE_OVERRIDE], label=down)
+        self.by_both(SUBJECT, "0 0", intents=WRITE | READ)
+
+
 class MonitorLines(unittest.TestCase):
     """docs/PROGRAMS.md on the lines of monitor_cmd."""
 
-    GOOD = [b"check 0 0 0 2 0\n", write(SUBJECT), write(SUBJECT_RANGE), write(SUBJECT), b"-\n"]
+    GOOD = [b"check 0 0 0 2 0 0\n", write(SUBJECT), write(SUBJECT_RANGE), write(SUBJECT), b"-\n", write(SUBJECT)]
 
     def answers(self, *lines):
         return monitor_cmd.answers(b"".join(lines)).decode().splitlines()
 
     def test_numbers_out_of_bounds_take_the_operands(self):
-        for line in (b"check 8 0 0 2 0\n", b"check 0 6 0 2 0\n", b"check 0 0 3 2 0\n", b"check 0 1 3 2 0\n"):
+        for line in (b"check 8 0 0 2 0 0\n", b"check 0 6 0 2 0 0\n", b"check 0 0 3 2 0 0\n", b"check 0 1 3 2 0 0\n",
+                     b"check 0 0 0 2 0 2\n", b"check 0 0 0 2 0 4294967297\n", b"check 0 0 0 2 0 18446744073709551615\n"):
             self.assertEqual(self.answers(line, *self.GOOD[1:], *self.GOOD), ["error 22", "0"])
-        self.assertEqual(self.answers(b"check 7 5 2 2 9\n", *self.GOOD[1:], *self.GOOD), ["0", "0"])
+        self.assertEqual(self.answers(b"check 7 5 2 2 9 1\n", *self.GOOD[1:], *self.GOOD), ["0", "0"])
 
     def test_wrong_count_of_numbers_takes_none(self):
-        for line in (b"check 0 0 0 2\n", b"check 0 0 0 2 0 0\n"):
+        for line in (b"check 0 0 0 2 0\n", b"check 0 0 0 2 0 0 0\n", b"check 0 0 0 2 0 0 0 0\n"):
             self.assertEqual(self.answers(line, *self.GOOD), ["error 22", "0"])
 
+    def test_callers(self):
+        """The last number is whether the caller has the override, the last operand its label."""
+        for override, at, expected in ((0, label(29, 1), "error 13"), (1, label(29, 1), "0"), (0, SUBJECT, "0"), (1, SUBJECT, "0")):
+            self.assertEqual(self.answers(b"check 0 0 0 2 0 %d\n" % override, *self.GOOD[1:-1], write(at)), [expected])
+
     def test_dash(self):
-        """Only the last two operands may be left out, and `-` is all that the line has."""
-        command, subject, bounds, at, _ = self.GOOD
+        """Only the object's two operands may be left out, and `-` is all that the line has."""
+        command, subject, bounds, at, _, caller = self.GOOD
         for lines, expected in (((subject, bounds, at, b"-\n"), "0"), ((subject, bounds, b"-\n", write(CONTAINS)), "0"),
                                 ((subject, bounds, at, write(CONTAINS)), "0"), ((subject, bounds, b"-\n", b"-\n"), "error 22"),
                                 ((b"-\n", bounds, at, b"-\n"), "error 22"), ((subject, b"-\n", at, b"-\n"), "error 22"),
                                 ((subject, bounds, at, b"- \n"), "error 22"), ((subject, bounds, at, b"--\n"), "error 22"),
                                 ((subject, bounds, at, b"-\r\n"), "error 22"), ((subject, bounds, at, b"\n"), "error 22")):
-            self.assertEqual(self.answers(command, *lines, *self.GOOD), [expected, "0"])
+            self.assertEqual(self.answers(command, *lines, caller, *self.GOOD), [expected, "0"])
+            self.assertEqual(self.answers(command, *lines, b"-\n", *self.GOOD), ["error 22", "0"])
 
 
 class StoredCases(unittest.TestCase):
@@ -407,12 +511,23 @@ class StoredCases(unittest.TestCase):
             request = monitor_cmd_cases.check(**monitor_cmd_cases.nothing_denied(changes))
             self.assertIn(monitor_cmd.answers(request), (b"0\n", b"1\n"), what)
 
+    def test_callers(self):
+        """How many ways there are for a caller to stand to (30,{1,2}) and to a label above, equal, below and incomparable:
+        whoever is below one label is below all that dominate it, and whoever is above is above all that it dominates."""
+        for at, ways in ((label(40, 1, 2), 8), (label(30, 1, 2), 4), (label(20, 1), 8), (label(40, 1), 9)):
+            self.assertEqual(len(monitor_cmd_cases.callers_beside(label(30, 1, 2), at)), ways)
+
     def test_random_requests(self):
-        """Each answer of the monitor is common among them."""
-        requests = b"".join(monitor_cmd_cases.random_requests(random.Random(SEED)))
-        counted = collections.Counter(monitor_cmd.answers(requests).splitlines())
-        self.assertEqual(set(counted), {b"0", b"1", b"error 1", b"error 13", b"error 22"})
-        self.assertGreaterEqual(min(counted.values()), 0.08 * monitor_cmd_cases.RANDOM_REQUESTS)
+        """Each answer of the monitor is common among them, and so is one that another caller would not get."""
+        rng = random.Random(SEED)
+        requests = [monitor_cmd_cases.random_request(rng) for _ in range(monitor_cmd_cases.RANDOM_REQUESTS)]
+        answers = [monitor_cmd.answers(request) for request in requests]
+        counted = collections.Counter(answers)
+        self.assertEqual(set(counted), {b"0\n", b"1\n", b"error 1\n", b"error 13\n", b"error 22\n"})
+        self.assertGreaterEqual(min(counted.values()), 0.04 * len(requests))
+        to_any = [monitor_cmd.answers(request[:request[:-1].rindex(b"\n") + 1] + write(TOP)) for request in requests]
+        by_the_caller = sum(answer == b"error 13\n" != other for answer, other in zip(answers, to_any))
+        self.assertGreaterEqual(by_the_caller, 0.2 * len(requests))
 
 
 if __name__ == "__main__":
