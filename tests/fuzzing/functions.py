@@ -7,7 +7,7 @@ from capi import ABBREVIATION_BYTES, NAME_BYTES, entry_numbers, label_numbers
 from capi import FUNCTIONS as MODELLED
 from header import FUNCTIONS
 from monitor import FILE, FILE_KINDS, TYPES
-from monitor_cmd_cases import random_attribute_type, random_intents, random_object
+from monitor_cmd_cases import random_attribute_type, random_caller, random_intents, random_object
 from pools import Pools, damaged_state
 from rules import Alias, Label, Range, Tuple, write
 from samples import (ANY, LETTERS, WORD_BORDERS, any_alias, any_category, any_label, any_range, any_tuple, at_times,
@@ -85,9 +85,8 @@ def either_end(rng, bounds):
     return rng.choice((bounds.low, bounds.high))
 
 
-def subject_numbers(rng, seen):
-    subject = subject_near(rng, seen)
-    return bent(rng, "lurm_subject", (*label_numbers(subject.label), int(subject.override)), 0.04)
+def caller_numbers(rng, caller):
+    return bent(rng, "lurm_caller", (*label_numbers(caller.label), int(caller.read_override)), 0.04)
 
 
 def text_to_write(contents_in, seen_of):
@@ -96,7 +95,7 @@ def text_to_write(contents_in, seen_of):
         contents = contents_in(rng, known)
         form, variant = rng.choice(FORMS), rng.choice(VARIANTS)
         text = text_in(known, contents, form, variant) or b""
-        return (data, flag(rng, 0.04), subject_numbers(rng, seen_of(rng, contents)),
+        return (data, flag(rng, 0.04), caller_numbers(rng, subject_near(rng, seen_of(rng, contents))),
                 bent(rng, "lurm_style", (form, variant), 0.03), numbers_of(rng, contents, 0.04), length_about(rng, len(text)))
     return arguments
 
@@ -110,7 +109,7 @@ def text_to_read(contents_in, seen_of, text_in_table, fixed):
             text = text_in_table(rng, known)
         if at_times(rng, 0.25):
             text = rng.choice((damaged_text(rng, text), spoilt(rng, text), rng.choice(fixed), rng.randbytes(rng.randrange(99))))
-        return data, flag(rng, 0.04), subject_numbers(rng, seen_of(rng, contents)), text
+        return data, flag(rng, 0.04), caller_numbers(rng, subject_near(rng, seen_of(rng, contents))), text
     return arguments
 
 
@@ -122,9 +121,8 @@ def credentials(rng, subject):
                                           *(rng.randrange(2) for _ in range(3))), 0.05)
 
 
-def thing(rng, subject, object_type, kind):
+def thing(rng, label, ranges, object_type, kind):
     """An object. What it does not have is zeros or anything, and so is the kind of what is no file."""
-    label, ranges = random_object(rng, subject)
     has = label is not None, ranges is not None
     if at_times(rng, 0.5):
         label, ranges = label or any_label(rng), ranges or any_tuple(rng)
@@ -139,8 +137,9 @@ def to_check(rng, pools, at):
     subject = any_label(rng)
     object_type, kind = rng.choice((TYPES[0], TYPES[1], rng.choice(TYPES))), rng.choice(FILE_KINDS)
     intents = random_intents(rng, object_type, kind) if at_times(rng, 0.9) else rng.randrange(rng.choice((64, 128)))
-    return (credentials(rng, subject), thing(rng, subject, object_type, kind), number(rng, intents),
-            number(rng, random_attribute_type(rng)))
+    label, ranges = random_object(rng, subject)
+    return (caller_numbers(rng, random_caller(rng, subject, label)), credentials(rng, subject),
+            thing(rng, label, ranges, object_type, kind), number(rng, intents), number(rng, random_attribute_type(rng)))
 
 
 # Shared memory
