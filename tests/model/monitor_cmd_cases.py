@@ -510,12 +510,12 @@ def random_object(rng, subject):
 
 
 def random_caller(rng, subject, object_label):
-    """A caller that sees the subject's label, and the object's where there is one, about as often as not."""
+    """A caller that sees the subject's label, and the object's where there is one, two times in three or so: what is
+    decided after it is asked for often too."""
     both = subject if object_label is None else subject.upper_bound(object_label)
     near_one = near_label(rng, rng.choice((subject, object_label or subject)))
-    below, anywhere = label_below(rng, both), any_label(rng)
-    at = rng.choice((both, label_above(rng, both), near_one, below, below, anywhere, anywhere))
-    return Caller(at, at_times(rng, 0.1))
+    sees, may_not = (both, label_above(rng, both)), (near_one, label_below(rng, both), any_label(rng))
+    return Caller(rng.choice(sees if at_times(rng, 0.4) else may_not), at_times(rng, 0.1))
 
 
 def random_intents(rng, object_type, file_kind):
