@@ -136,8 +136,9 @@ fn caller_sees(r: Request) -> bool
     ensures { λ b. ⌜ b ≡ callerSees r ⌝ }
 {
     let c = r.caller;
+    let subject = r.credentials;
     let o = r.object;
-    caller::sees(c, r.credentials.label) & (!o.present.label | caller::sees(c, o.label))
+    caller::sees(c, subject.label) & (!o.present.label | caller::sees(c, o.label))
 }
 
 // Whether the test of an access is met under a label.
