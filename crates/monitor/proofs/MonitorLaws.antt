@@ -13,7 +13,7 @@ use Rattle.label.specs.declared.Label.{Label}
 use Rattle.label.specs.declared.caller.Caller.{Caller}
 use Rattle.range.specs.Tuple
 use Rattle.range.specs.declared.tuple.Tuple.{Tuple}
-use Rattle.label.proofs.AnswerLaws.{grant-passed, grants-same, passed, require-same, stopped}
+use Rattle.label.proofs.AnswerLaws.{grant-passed, grants-same, passed, stopped}
 use Rattle.label.proofs.LabelLaws.{dominates-refl}
 use Rattle.label.proofs.CallerLaws.{sees-dominated, sees-still, withOverride}
 use Rattle.label.proofs.BoolLaws.{both, either, first-true, not-so, or-first, or-second, same-truth, second-true}
@@ -238,21 +238,29 @@ implies-still : (p q s : Bool) → (q ≡ true → s ≡ true) → implies p q �
 implies-still true q s h e = h e
 implies-still false q s h e = refl
 
--- the subject's privileges, and whether the caller has the read override
-abbrev pub withBoth : Request → Privileges → Bool → Request
-withBoth r q o = withCaller (withPrivileges r q) (withOverride (r .caller) o)
+-- a caller that sees what it asks about sees it where it gains the override
+caller-still : (r : Request) (o : Bool) → (r .caller .«read_override» ≡ true → o ≡ true) → callerSees r ≡ true
+    → callerSees (withCaller r (withOverride (r .caller) o)) ≡ true
+unfolding callerSees
+caller-still r o k e =
+    let c = r .caller in
+    let subject = seesOf c (r .credentials .label) in
+    both
+    (sees-still c o (r .credentials .label) k (first-true subject _ e))
+    (implies-still (r .object .present .label) _ _ (sees-still c o (r .object .label) k) (second-true subject _ e))
+
+-- with other privileges of the subject, and with the read override of the caller or without
+abbrev pub withGained : Request → Privileges → Bool → Request
+withGained r q o = withCaller (withPrivileges r q) (withOverride (r .caller) o)
 
 -- what is granted is granted with the same answer where there are more privileges, the subject's or the caller's
 pub more-privileges : (r : Request) (q : Privileges) (o : Bool) (n : ℕ) → AmongPrivileges (r .credentials .privileges) q
-    → (r .caller .«read_override» ≡ true → o ≡ true) → decide r ≡ granted n → decide (withBoth r q o) ≡ granted n
+    → (r .caller .«read_override» ≡ true → o ≡ true) → decide r ≡ granted n → decide (withGained r q o) ≡ granted n
 unfolding validOf credentialsValid callerSees grantBy
 more-privileges r q o n h k e =
-    parts-granted (withBoth r q o) n (record {
+    parts-granted (withGained r q o) n (record {
       valid = g .valid;
-      seen =
-          both
-          (sees-still (r .caller) o (r .credentials .label) k (first-true (seesOf (r .caller) (r .credentials .label)) _ (g .seen)))
-          (implies-still (r .object .present .label) _ _ (sees-still (r .caller) o (r .object .label) k) (second-true (seesOf (r .caller) (r .credentials .label)) _ (g .seen)));
+      seen = caller-still r o k (g .seen);
       allowed = not-so _ (from-any (denied (withPrivileges r q)) table (λ x m d. true≢false (sym (any-of (denied r) x table m (still x d)) ∙ g .allowed)));
       relabel = relabel-still (asks (r .intents) intentSet) _ _ (h .relabel) (g .relabel);
       answer = g .answer;
