@@ -179,7 +179,7 @@ fn needed(r: Request, inside: bool) -> Privileges
     }
 }
 
-// What is answered where privileges are needed: 13 for the intents, 1 for relabel, and the grants.
+// What is answered where privileges are needed: document 01's second and third step, and the grants.
 fn answer(needed: Privileges, p: Privileges) -> Decision
     ensures { λ d. ⌜ decisionOf d ≡ answerBy needed p ⌝ }
 {
