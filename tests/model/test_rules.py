@@ -518,14 +518,16 @@ class StoredCases(unittest.TestCase):
             self.assertEqual(len(monitor_cmd_cases.callers_beside(label(30, 1, 2), at)), ways)
 
     def test_random_requests(self):
-        """Each answer of the monitor is common among them, and so is one that another caller would not get."""
+        """Each answer of the monitor is common among them, more so where the caller sees every label, and so is one that another
+        caller would not get."""
         rng = random.Random(SEED)
         requests = [monitor_cmd_cases.random_request(rng) for _ in range(monitor_cmd_cases.RANDOM_REQUESTS)]
         answers = [monitor_cmd.answers(request) for request in requests]
-        counted = collections.Counter(answers)
-        self.assertEqual(set(counted), {b"0\n", b"1\n", b"error 1\n", b"error 13\n", b"error 22\n"})
-        self.assertGreaterEqual(min(counted.values()), 0.06 * len(requests))
         to_any = [monitor_cmd.answers(request[:request[:-1].rindex(b"\n") + 1] + write(TOP)) for request in requests]
+        for given, share in ((to_any, 0.08), (answers, 0.06)):
+            counted = collections.Counter(given)
+            self.assertEqual(set(counted), {b"0\n", b"1\n", b"error 1\n", b"error 13\n", b"error 22\n"})
+            self.assertGreaterEqual(min(counted.values()), share * len(requests))
         by_the_caller = sum(answer == b"error 13\n" != other for answer, other in zip(answers, to_any))
         self.assertGreaterEqual(by_the_caller, 0.2 * len(requests))
 

@@ -45,8 +45,8 @@ abbrev tupled : Tuple → Object
 tupled t = objectOf File Regular false zeroLabel true t
 
 -- a caller that sees all labels of these examples
-abbrev everyone : Caller
-everyone = record { label = exampleOf 199 []; «read_override» = false }
+abbrev highest : Caller
+highest = record { label = exampleOf 199 []; «read_override» = false }
 
 -- the subject (h,{}) in the range of the user region
 abbrev by : ℕ → Privileges → Object → ℕ → ℕ → Request
@@ -56,7 +56,7 @@ by h p o intents attribute =
       object = o;
       intents = intents;
       attribute = attribute;
-      caller = everyone;
+      caller = highest;
     }
 
 -- the same asked by (h,{}), with the read override or without

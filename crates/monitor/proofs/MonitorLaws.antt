@@ -15,7 +15,7 @@ use Rattle.range.specs.Tuple
 use Rattle.range.specs.declared.tuple.Tuple.{Tuple}
 use Rattle.label.proofs.AnswerLaws.{grant-passed, grants-same, passed, stopped}
 use Rattle.label.proofs.LabelLaws.{dominates-refl}
-use Rattle.label.proofs.CallerLaws.{sees-dominated, sees-still, withOverride}
+use Rattle.label.proofs.CallerLaws.{sees-all, sees-dominated, sees-still, withOverride}
 use Rattle.label.proofs.BoolLaws.{both, either, first-true, not-so, or-first, or-second, same-truth, second-true}
 use Rattle.monitor.specs.Monitor.{Row, any, applies, asks, attributeValid, callerSees, credentialsValid, decide, decideBy, denied, grantBy, implies, intentGet, intentSet, intentsBy, isFile, kindValid, metOf, objectValid, overrideOf, table, unmet, validOf}
 use Rattle.monitor.specs.Needs.{answerBy, neededOf}
@@ -148,17 +148,36 @@ pub parts-granted : (r : Request) (n : ℕ) → Granted r n → decide r ≡ gra
 unfolding decideBy intentsBy
 parts-granted r n g = rw (g .valid, g .seen, g .allowed, g .relabel, g .answer)
 
--- ---- a caller without the override
+-- ---- what the caller has to see
+
+-- it goes by the caller and the two labels alone: not by privileges, nor by the ends of the subject's range and of the object's tuple
+pub caller-by-labels : (r s : Request) → r .caller ≡ s .caller → r .credentials .label ≡ s .credentials .label
+    → r .object .present .label ≡ s .object .present .label → r .object .label ≡ s .object .label → callerSees r ≡ callerSees s
+unfolding callerSees
+caller-by-labels r s c l p o = rw (c, l, p, o)
 
 abbrev pub callerDominates : Request → Bool
 callerDominates r =
     dominatesOf (r .caller .label) (r .credentials .label)
     && implies (r .object .present .label) (dominatesOf (r .caller .label) (r .object .label))
 
-pub caller-dominates : (r : Request) → r .caller .«read_override» ≡ false → callerSees r ≡ callerDominates r
+caller-dominates : (r : Request) → r .caller .«read_override» ≡ false → callerSees r ≡ callerDominates r
 unfolding callerSees
 caller-dominates r e =
     rw (sees-dominated (r .caller) (r .credentials .label) e, sees-dominated (r .caller) (r .object .label) e)
+
+caller-overrides : (r : Request) → r .caller .«read_override» ≡ true → callerSees r ≡ true
+unfolding callerSees
+caller-overrides r e =
+    both (sees-all (r .caller) (r .credentials .label) e) (or-second (not (r .object .present .label)) (sees-all (r .caller) (r .object .label) e))
+
+-- the override, or a label that dominates both
+pub caller-passes : (r : Request) → callerSees r ≡ (r .caller .«read_override» || callerDominates r)
+caller-passes r = by (r .caller .«read_override») refl
+  where
+    by : (o : Bool) → r .caller .«read_override» ≡ o → callerSees r ≡ (r .caller .«read_override» || callerDominates r)
+    by true e = caller-overrides r e ∙ sym (or-first (callerDominates r) e)
+    by false e = caller-dominates r e ∙ rw e
 
 -- ---- a grant where there is no privilege at all
 
@@ -324,11 +343,11 @@ invalid-caller r e =
     decide-needed r ∙ stopped (validOf r) 22 _ (not-so (validOf r) (λ h. true≢false (sym (valid-parts r h .caller) ∙ e)))
 
 -- one that does not see what it asks about is refused with 13, whatever privileges the subject has and whatever it intends
-pub unseeing-caller : (r : Request) (p : Privileges) (intents attribute : ℕ) → callerSees r ≡ false
+pub caller-denied : (r : Request) (p : Privileges) (intents attribute : ℕ) → callerSees r ≡ false
     → validOf (withIntents (withPrivileges r p) intents attribute) ≡ true
     → decide (withIntents (withPrivileges r p) intents attribute) ≡ refused 13 none
 unfolding decideBy callerSees
-unseeing-caller r p intents attribute e v = passed _ 22 _ v ∙ stopped _ 13 _ e
+caller-denied r p intents attribute e v = passed _ 22 _ v ∙ stopped _ 13 _ e
 
 -- one that may ask
 pub record MayAsk (r : Request) (c : Caller) : Type 0 where

@@ -19,6 +19,15 @@ pub(crate) const NUMBERS: usize = 6;
 // How many operand lines a request has: the subject's label and range, the object's label and tuple, the caller's label.
 pub(crate) const OPERANDS: usize = 5;
 
+// How many operand lines are still to come where each is due; the caller's label is the last.
+const SUBJECT_DUE: usize = 5;
+
+const RANGE_DUE: usize = 4;
+
+const LABEL_DUE: usize = 3;
+
+const TUPLE_DUE: usize = 2;
+
 // What is known of a request, and whether all of it is good so far.
 pub(crate) struct Draft {
     pub good: bool,
@@ -56,15 +65,6 @@ fn left_out(line: &[u8]) -> bool {
     (line[0] == b'-') & (line[1] == b'\n')
 }
 
-fn with_subject(mut d: Draft, line: &[u8]) -> Draft {
-    let read = hexline::read_label(line);
-    let outcome = read.outcome;
-    let l = read.label;
-    d.subject = l;
-    d.good = d.good & granted(outcome);
-    d
-}
-
 fn with_range(mut d: Draft, line: &[u8]) -> Draft {
     let read = hexline::read_range(line);
     let outcome = read.outcome;
@@ -74,23 +74,26 @@ fn with_range(mut d: Draft, line: &[u8]) -> Draft {
     d
 }
 
-fn with_label(mut d: Draft, line: &[u8]) -> Draft {
-    if left_out(line) {
-        return d;
-    }
+// The label that is due: the subject's, the object's or the caller's.
+fn with_label(mut d: Draft, due: usize, line: &[u8]) -> Draft {
     let read = hexline::read_label(line);
     let outcome = read.outcome;
     let l = read.label;
-    d.present.label = true;
-    d.label = l;
     d.good = d.good & granted(outcome);
+    if due == SUBJECT_DUE {
+        d.subject = l;
+        return d;
+    }
+    if due == LABEL_DUE {
+        d.present.label = true;
+        d.label = l;
+        return d;
+    }
+    d.caller = l;
     d
 }
 
 fn with_tuple(mut d: Draft, line: &[u8]) -> Draft {
-    if left_out(line) {
-        return d;
-    }
     let read = hexline::read_tuple(line);
     let outcome = read.outcome;
     let t = read.tuple;
@@ -100,30 +103,18 @@ fn with_tuple(mut d: Draft, line: &[u8]) -> Draft {
     d
 }
 
-fn with_caller(mut d: Draft, line: &[u8]) -> Draft {
-    let read = hexline::read_label(line);
-    let outcome = read.outcome;
-    let l = read.label;
-    d.caller = l;
-    d.good = d.good & granted(outcome);
-    d
-}
-
 // The draft with one more operand line, where `due` of them were still to come.
 pub(crate) fn with_operand(d: Draft, due: usize, line: &[u8]) -> Draft {
-    if due == 5 {
-        return with_subject(d, line);
+    if ((due == LABEL_DUE) | (due == TUPLE_DUE)) & left_out(line) {
+        return d;
     }
-    if due == 4 {
+    if due == RANGE_DUE {
         return with_range(d, line);
     }
-    if due == 3 {
-        return with_label(d, line);
-    }
-    if due == 2 {
+    if due == TUPLE_DUE {
         return with_tuple(d, line);
     }
-    with_caller(d, line)
+    with_label(d, due, line)
 }
 
 fn privileges_of(n: u64) -> Privileges {
