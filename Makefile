@@ -20,14 +20,14 @@ LIBRARY_PAGE = $(PAGES)/man3/lurmenize.3
 all: $(LIBRARY) $(PROGRAMS) $(LIBRARY_PAGE)
 
 # What has changed since $@ was built. Which crates it is made of is rt's to know, so that all are asked: a library that is older than its header must
-# not be installed with it.
+# not be installed with it. What rt finds to be as it should be is touched, or it would be asked for again each time.
 CHANGED = find crates crates.txt -type f \( -name crates.txt -o -path '*/src/*' -o -path '*/specs/*' -o -path '*/proofs/*' \) -newer $@
 
 $(LIBRARY): FORCE
-	@test -f $@ && test -z "$$($(CHANGED))" || rt staticlib lurmenize
+	@test -f $@ && test -z "$$($(CHANGED))" || { rt staticlib lurmenize && touch $@; }
 
 $(PROGRAMS): FORCE
-	@test -f $@ && test -z "$$($(CHANGED))" || rt check $(@F)
+	@test -f $@ && test -z "$$($(CHANGED))" || { rt check $(@F) && touch $@; }
 
 # All pages are made at once. Those of the functions are links to the library's.
 $(LIBRARY_PAGE): include/lurmenize.h docs/LINKING.md docs/PROGRAMS.md tools/man_pages tools/c_header.py tools/roff.py
