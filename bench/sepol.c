@@ -1,22 +1,21 @@
 /* Dominance as libsepol decides it, for labels of this library. */
 
+#include <stddef.h>
 #include <stdint.h>
 #include <stdlib.h>
 
 #include <sepol/policydb/mls_types.h>
 
-/* A level with that hierarchy as its sensitivity and the categories of four words; null where there is no memory. */
-struct mls_level *bench_sepol_level(uint32_t hierarchy, const uint64_t *words)
+/* A level with that hierarchy as its sensitivity and these categories; null where there is no memory. */
+struct mls_level *bench_sepol_level(uint32_t hierarchy, const uint8_t *categories, size_t count)
 {
     struct mls_level *level = malloc(sizeof *level);
     if (!level)
         return NULL;
     mls_level_init(level);
     level->sens = hierarchy;
-    for (unsigned category = 0; category < 256; category++) {
-        if (!(words[category / 64] >> category % 64 & 1))
-            continue;
-        if (ebitmap_set_bit(&level->cat, category, 1) < 0) {
+    for (size_t i = 0; i < count; i++) {
+        if (ebitmap_set_bit(&level->cat, categories[i], 1) < 0) {
             mls_level_destroy(level);
             free(level);
             return NULL;

@@ -10,7 +10,7 @@ use crate::ordinary::line::{read_label, write_label};
 use crate::ordinary::monitor::{check, Class, Credentials, FileKind, Object};
 use crate::ordinary::range::{Range, Tuple};
 use crate::ordinary::table::check_table;
-use crate::ordinary::text::{read_label_text, write_label_text, Form, Style, Variant};
+use crate::ordinary::text::{read_label_text, write_label_text, write_label_text_by_walk, Form, Style, Variant};
 use crate::ordinary::Refusal;
 use crate::random::Random;
 use lurmenize::raw;
@@ -123,6 +123,9 @@ fn texts() {
         let (who, how, what, out) = (caller.into(), style.into(), written.into(), proved.as_mut_ptr());
         assert_eq!(count_answer(wrote), unsafe { raw::lurm_write_label_text(pointer, length, more.into(), who, how, what, out, room) });
         assert_eq!(ordinary, proved);
+        let mut by_walk = [0xa5; 128];
+        assert_eq!(write_label_text_by_walk(&table, more, &caller, style, &written, &mut by_walk[..room]), wrote);
+        assert_eq!(ordinary, by_walk);
         let text = &mut ordinary[..wrote.unwrap_or(9)];
         spoil(random, text);
         let read = label_answer(read_label_text(&table, more, &caller, text));

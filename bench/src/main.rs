@@ -13,23 +13,25 @@ mod report;
 mod sepol;
 
 use cases::Case;
+use report::FurtherTables;
 use std::process::ExitCode;
 
-const USAGE: &str = "bench [--list] [--case NAME] [--rounds N]";
+const USAGE: &str = "bench [--list] [--case NAME]... [--rounds N]";
 
 struct Options {
     list: bool,
-    case: Option<String>,
+    /// The names of those to run; all where there are none.
+    cases: Vec<String>,
     rounds: usize,
 }
 
 fn options() -> Option<Options> {
-    let mut options = Options { list: false, case: None, rounds: 31 };
+    let mut options = Options { list: false, cases: Vec::new(), rounds: 31 };
     let mut arguments = std::env::args().skip(1);
     while let Some(argument) = arguments.next() {
         match argument.as_str() {
             "--list" => options.list = true,
-            "--case" => options.case = Some(arguments.next()?),
+            "--case" => options.cases.push(arguments.next()?),
             "--rounds" => options.rounds = arguments.next()?.parse().ok().filter(|rounds| *rounds > 0)?,
             _ => return None,
         }
@@ -37,18 +39,16 @@ fn options() -> Option<Options> {
     Some(options)
 }
 
-/// Measures each case and prints its row at once; rows for libsepol come last.
+/// Measures each case and prints its row at once; tables of further sides come last.
 fn measure(cases: &[Case], rounds: usize) -> Result<(), String> {
     println!("{}", report::HEAD);
-    let mut sepol_rows = Vec::new();
+    let mut further = FurtherTables::default();
     for case in cases {
         let times = case.prepare().measure(rounds).map_err(|message| format!("{}: {message}", case.name))?;
         println!("{}", report::row(&case.name, &times));
-        sepol_rows.extend(report::sepol_row(&case.name, &times));
+        further.add(case, &times);
     }
-    if !sepol_rows.is_empty() {
-        println!("{}\n{}", report::SEPOL_HEAD, sepol_rows.join("\n"));
-    }
+    further.print();
     if let Some(reason) = option_env!("BENCH_NO_SEPOL") {
         println!("\nNot compared with libsepol: {reason}.");
     }
@@ -62,13 +62,11 @@ fn main() -> ExitCode {
         return ExitCode::FAILURE;
     };
     let mut cases = cases::all();
-    if let Some(name) = &options.case {
-        cases.retain(|case| case.name == *name);
-    }
-    if cases.is_empty() {
-        eprintln!("there is no such case; --list names them");
+    if let Some(name) = options.cases.iter().find(|name| cases.iter().all(|case| case.name != **name)) {
+        eprintln!("there is no case {name}; --list names them");
         return ExitCode::FAILURE;
     }
+    cases.retain(|case| options.cases.is_empty() || options.cases.contains(&case.name));
     if options.list {
         cases.iter().for_each(|case| println!("{}", case.name));
         return ExitCode::SUCCESS;

@@ -1,5 +1,6 @@
 //! What was measured, as Markdown.
 
+use crate::cases::{Case, Further};
 use crate::harness::Times;
 
 /// Numbers in rising order, by which quartiles are read off.
@@ -35,9 +36,13 @@ pub const HEAD: &str = "\
 | Case | Ordinary, ns | Quartiles | Min..max | Proved, ns | Quartiles | Min..max | Ratio | By round |
 |---|---|---|---|---|---|---|---|---|";
 
-pub const SEPOL_HEAD: &str = "
+const SEPOL_HEAD: &str = "
 | Case | libsepol, ns | Quartiles | Min..max | Proved / libsepol | By round |
 |---|---|---|---|---|---|";
+
+const WALK_HEAD: &str = "
+| Case and version | From one to the next, ns | Quartiles | Min..max | Walk over all, ns | Quartiles | Min..max | Walk / next | By round |
+|---|---|---|---|---|---|---|---|---|";
 
 fn spread(times: &[f64]) -> String {
     Sorted::new(times.iter().copied()).spread()
@@ -49,10 +54,41 @@ pub fn row(name: &str, times: &Times) -> String {
     format!("| {name} | {} | {} | {} |", spread(ordinary), spread(proved), ratio(proved, ordinary))
 }
 
-/// A row of the third side, where a case has one.
-pub fn sepol_row(name: &str, times: &Times) -> Option<String> {
+/// A row of libsepol, where it is linked and the case is one that it has.
+fn sepol_row(name: &str, times: &Times) -> Option<String> {
     let sepol = times.get(2)?;
     Some(format!("| {name} | {} | {} |", spread(sepol), ratio(&times[1], sepol)))
+}
+
+/// A row for each version that is there by a walk too.
+fn walk_rows<'a>(name: &'a str, times: &'a Times) -> impl Iterator<Item = String> + 'a {
+    let versions = ["ordinary", "proved"].into_iter().zip(times).zip(&times[2..]);
+    versions
+        .map(move |((version, next), walk)| format!("| {name}, {version} | {} | {} | {} |", spread(next), spread(walk), ratio(walk, next)))
+}
+
+/// The tables of further sides, which are printed after that of all cases.
+#[derive(Default)]
+pub struct FurtherTables {
+    sepol: Vec<String>,
+    walks: Vec<String>,
+}
+
+impl FurtherTables {
+    pub fn add(&mut self, case: &Case, times: &Times) {
+        match case.further {
+            Further::Libsepol => self.sepol.extend(sepol_row(&case.name, times)),
+            Further::Walks => self.walks.extend(walk_rows(&case.name, times)),
+        }
+    }
+
+    pub fn print(&self) {
+        for (head, rows) in [(WALK_HEAD, &self.walks), (SEPOL_HEAD, &self.sepol)] {
+            if !rows.is_empty() {
+                println!("{head}\n{}", rows.join("\n"));
+            }
+        }
+    }
 }
 
 /// What the figures were taken with.

@@ -9,7 +9,7 @@ struct RawLevel {
 }
 
 extern "C" {
-    fn bench_sepol_level(hierarchy: u32, words: *const u64) -> *mut RawLevel;
+    fn bench_sepol_level(hierarchy: u32, categories: *const u8, count: usize) -> *mut RawLevel;
     fn bench_sepol_free(level: *mut RawLevel);
     fn bench_sepol_dominates(a: *const RawLevel, b: *const RawLevel) -> i32;
 }
@@ -19,8 +19,9 @@ pub struct Level(NonNull<RawLevel>);
 
 impl Level {
     pub fn new(label: &Label) -> Level {
-        // SAFETY: the function reads the four words that it is handed.
-        let level = unsafe { bench_sepol_level(label.hierarchy.into(), label.categories.as_ptr()) };
+        let categories: Vec<u8> = label.category_numbers().collect();
+        // SAFETY: pointer and length are those of the numbers.
+        let level = unsafe { bench_sepol_level(label.hierarchy.into(), categories.as_ptr(), categories.len()) };
         Level(NonNull::new(level).expect("memory for a level"))
     }
 

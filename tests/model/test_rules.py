@@ -69,6 +69,17 @@ class Examples(RulesTest):
         self.assertTrue(label(199).valid())
         self.assertFalse(label(200).valid())
 
+    def test_listing(self):
+        """Document 01, "Labels and regions": categories are listed in rising order. Document 02, 2026-02: from one to the next."""
+        for categories in ((), (0,), (255,), (7, 255), (63, 64, 200), WORD_BORDERS, range(256)):
+            held, listed, start = label(20, *categories), [], 0
+            while (found := held.next_category(start)) is not None:
+                listed.append(found)
+                start = found + 1
+            self.assertEqual(listed, sorted(categories))
+            for start in (256, 2 ** 64 - 1):
+                self.assertIsNone(held.next_category(start))
+
     def test_lines(self):
         for line, contents in ((b"0300fd\n", Tuple()),
                                (b"040114036c6f770092\n", Alias(rules.OF_HIERARCHY, 20, b"low")),

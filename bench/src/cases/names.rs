@@ -41,7 +41,7 @@ impl NamedTable {
     }
 
     /// A label of three categories whose hierarchy and categories have names.
-    fn definable_label(&self, random: &mut Random) -> Label {
+    pub fn definable_label(&self, random: &mut Random) -> Label {
         let mut categories = self.categories.clone();
         random.shuffle(&mut categories);
         let mut label = Label { hierarchy: random.pick(&self.hierarchies), categories: [0; 4] };

@@ -4,19 +4,20 @@ use super::labels::label;
 use super::names::NamedTable;
 use super::{prepared, Case};
 use crate::convert::{answer, label_answer};
-use crate::harness::{side, Sides};
+use crate::harness::{side, Side, Sides};
 use crate::ordinary::caller::Caller;
 use crate::ordinary::label::Label;
 use crate::ordinary::table::check_table;
 use crate::ordinary::text::{read_label_text, write_label_text, Form, Style, Variant};
+use crate::ordinary::Refusal;
 use crate::random::Random;
 use lurmenize::raw;
 use std::rc::Rc;
 
-const SIZES: [usize; 3] = [8, 64, 512];
-const LABELS: usize = 256;
+pub const SIZES: [usize; 3] = [8, 64, 512];
+pub const LABELS: usize = 256;
 /// Room for any text of three categories. It is not cleared between calls, for either version.
-const BUFFER: [u8; 256] = [0xa5; 256];
+pub const BUFFER: [u8; 256] = [0xa5; 256];
 
 /// Tables to check: fewer where they are longer, so that all fit the processor's second cache.
 fn tables(random: &mut Random, entries: usize) -> Vec<Vec<u8>> {
@@ -46,37 +47,52 @@ fn style(random: &mut Random) -> Style {
     Style { form, variant: random.pick(&[Variant::Names, Variant::Abbreviations]) }
 }
 
-type Writing = (Caller, Style, Label);
+pub type Writing = (Caller, Style, Label);
+
+/// The answer, and the buffer after the call.
+pub type Written = (raw::Answer, [u8; 256]);
 
 fn writings(random: &mut Random, table: &NamedTable) -> Vec<Writing> {
     prepared(LABELS, random, |random| (caller(random), style(random), table.label(random)))
 }
 
-fn write(random: &mut Random, entries: usize) -> Sides<(raw::Answer, [u8; 256])> {
+/// Texts by an ordinary writer.
+pub fn ordinary_texts(
+    table: &Rc<[u8]>,
+    writings: &[Writing],
+    write: impl Fn(&[u8], bool, &Caller, Style, &Label, &mut [u8]) -> Result<usize, Refusal> + 'static,
+) -> Box<dyn Side<Written>> {
+    let table = table.clone();
+    side(
+        BUFFER,
+        writings.to_vec(),
+        move |buffer, (caller, style, label)| write(&table, false, caller, *style, label, buffer),
+        |buffer, result| (answer(result.map(|length| length as u64)), *buffer),
+    )
+}
+
+/// What the header declares as `lurm_write_label_text`.
+pub type RawWriter = unsafe extern "C" fn(*const u8, usize, u64, raw::Caller, raw::Style, raw::Label, *mut u8, usize) -> raw::Answer;
+
+/// Texts by a proved writer.
+pub fn proved_texts(table: &Rc<[u8]>, writings: &[Writing], write: RawWriter) -> Box<dyn Side<Written>> {
+    let table = table.clone();
+    side(
+        BUFFER,
+        writings.iter().map(|(caller, style, label)| ((*caller).into(), (*style).into(), (*label).into())).collect(),
+        move |buffer, (caller, style, label): &(raw::Caller, raw::Style, raw::Label)| {
+            let (bytes, out) = (table.as_ptr(), buffer.as_mut_ptr());
+            // SAFETY: pointers and lengths are those of the table and the buffer.
+            unsafe { write(bytes, table.len(), 0, *caller, *style, *label, out, buffer.len()) }
+        },
+        |buffer, answer| (answer, *buffer),
+    )
+}
+
+fn write(random: &mut Random, entries: usize) -> Sides<Written> {
     let table = NamedTable::new(random, entries);
-    let writings = writings(random, &table);
-    let raw_writings: Vec<(raw::Caller, raw::Style, raw::Label)> =
-        writings.iter().map(|(caller, style, label)| ((*caller).into(), (*style).into(), (*label).into())).collect();
-    let bytes: Rc<[u8]> = table.bytes.into();
-    let raw_bytes = bytes.clone();
-    vec![
-        side(
-            BUFFER,
-            writings,
-            move |buffer, (caller, style, label)| write_label_text(&bytes, false, caller, *style, label, buffer),
-            |buffer, result| (answer(result.map(|length| length as u64)), *buffer),
-        ),
-        side(
-            BUFFER,
-            raw_writings,
-            move |buffer, (caller, style, label)| {
-                let (table, out) = (raw_bytes.as_ptr(), buffer.as_mut_ptr());
-                // SAFETY: pointers and lengths are those of the table and the buffer.
-                unsafe { raw::lurm_write_label_text(table, raw_bytes.len(), 0, *caller, *style, *label, out, buffer.len()) }
-            },
-            |buffer, answer| (answer, *buffer),
-        ),
-    ]
+    let (writings, bytes) = (writings(random, &table), table.bytes.into());
+    vec![ordinary_texts(&bytes, &writings, write_label_text), proved_texts(&bytes, &writings, raw::lurm_write_label_text)]
 }
 
 /// What is written of each label, with the caller that reads it back.

@@ -59,10 +59,37 @@ impl Label {
             })
         })
     }
+
+    /// The same by a walk over all categories, for the comparison of the two ways.
+    pub fn category_numbers_by_walk(&self) -> impl Iterator<Item = u8> + '_ {
+        (0..=u8::MAX).filter(|category| self.has_category(*category))
+    }
 }
 
 fn require_valid(labels: &[&Label]) -> Result<(), Refusal> {
     require(labels.iter().all(|label| label.is_valid()), Refusal::Invalid)
+}
+
+/// Puts numbers at the front of `out`, and answers how many they are.
+#[inline(always)]
+fn put_numbers(numbers: impl Iterator<Item = u8>, out: &mut [u8]) -> usize {
+    let mut count = 0;
+    for number in numbers {
+        out[count] = number;
+        count += 1;
+    }
+    count
+}
+
+/// The categories of a label in rising order, at the front of `out`, and how many they are.
+#[inline(never)]
+pub fn list_categories(label: &Label, out: &mut [u8]) -> usize {
+    put_numbers(label.category_numbers(), out)
+}
+
+#[inline(never)]
+pub fn list_categories_by_walk(label: &Label, out: &mut [u8]) -> usize {
+    put_numbers(label.category_numbers_by_walk(), out)
 }
 
 #[inline(never)]

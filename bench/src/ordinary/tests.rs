@@ -3,7 +3,7 @@
 
 use super::board::{Board, Place, Tenant, TenantId, PLACES, TENANTS};
 use super::caller::Caller;
-use super::label::{dominates, lower_bound, upper_bound, Label};
+use super::label::{dominates, list_categories, list_categories_by_walk, lower_bound, upper_bound, Label};
 use super::line::{read_label, write_label};
 use super::monitor::{check, intent, Class, Credentials, FileKind, Object};
 use super::range::{Range, Tuple};
@@ -55,6 +55,19 @@ fn lines() {
         assert_eq!(read_label(&LINE[..index]), Err(Refusal::Invalid));
     }
     assert_eq!(read_label(b"0300fd\n"), Err(Refusal::Invalid));
+}
+
+#[test]
+fn categories() {
+    let all: Vec<u8> = (0..=255).collect();
+    for numbers in [&[][..], &[0], &[255], &[7, 63, 64, 200], &all] {
+        for list in [list_categories, list_categories_by_walk] {
+            let mut out = [0xa5; 256];
+            assert_eq!(list(&label(20, numbers), &mut out), numbers.len());
+            assert_eq!(out[..numbers.len()], *numbers);
+            assert!(out[numbers.len()..].iter().all(|byte| *byte == 0xa5));
+        }
+    }
 }
 
 #[test]

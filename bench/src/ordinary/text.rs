@@ -30,8 +30,8 @@ fn written<'a>(entry: &Entry<'a>, variant: Variant) -> &'a [u8] {
     }
 }
 
-/// The parts of a label's text, which follow one another: names and what joins them.
-fn parts<'a>(table: &Table<'a>, style: Style, label: &Label) -> Result<Vec<&'a [u8]>, Refusal> {
+/// The parts of a label's text, which follow one another: names and what joins them. `categories` are those of the label.
+fn parts<'a>(table: &Table<'a>, style: Style, label: &Label, categories: impl Iterator<Item = u8>) -> Result<Vec<&'a [u8]>, Refusal> {
     if style.form == Form::Alias {
         if let Some(entry) = table.entry(Value::Label(*label)) {
             return Ok(vec![written(entry, style.variant)]);
@@ -39,7 +39,7 @@ fn parts<'a>(table: &Table<'a>, style: Style, label: &Label) -> Result<Vec<&'a [
     }
     let name = |value| table.entry(value).map(|entry| written(entry, style.variant)).ok_or(Refusal::NoName);
     let mut parts = vec![name(Value::Hierarchy(label.hierarchy))?];
-    for category in label.category_numbers() {
+    for category in categories {
         parts.push(if parts.len() == 1 { b":" } else { b"," });
         parts.push(name(Value::Category(category))?);
     }
@@ -48,11 +48,37 @@ fn parts<'a>(table: &Table<'a>, style: Style, label: &Label) -> Result<Vec<&'a [
 
 #[inline(never)]
 pub fn write_label_text(table: &[u8], more: bool, caller: &Caller, style: Style, label: &Label, out: &mut [u8]) -> Result<usize, Refusal> {
+    write_listed(table, more, caller, style, label, label.category_numbers(), out)
+}
+
+/// The same, with the categories found by a walk over all of them.
+#[inline(never)]
+pub fn write_label_text_by_walk(
+    table: &[u8],
+    more: bool,
+    caller: &Caller,
+    style: Style,
+    label: &Label,
+    out: &mut [u8],
+) -> Result<usize, Refusal> {
+    write_listed(table, more, caller, style, label, label.category_numbers_by_walk(), out)
+}
+
+#[inline(always)]
+fn write_listed(
+    table: &[u8],
+    more: bool,
+    caller: &Caller,
+    style: Style,
+    label: &Label,
+    categories: impl Iterator<Item = u8>,
+    out: &mut [u8],
+) -> Result<usize, Refusal> {
     let mut buffer = Vec::new();
     let table = Table::read(table, more, &mut buffer)?;
     require(label.is_valid() && caller.label.is_valid(), Refusal::Invalid)?;
     require(caller.may_see(label), Refusal::Denied)?;
-    let parts = parts(&table, style, label)?;
+    let parts = parts(&table, style, label, categories)?;
     let length = parts.iter().map(|part| part.len()).sum();
     let mut rest = out.get_mut(..length).ok_or(Refusal::BufferShort(length))?;
     for part in parts {

@@ -97,30 +97,37 @@ impl Label {
     /// assert_eq!(label.categories().collect::<Vec<u8>>(), [1, 64, 255]);
     /// ```
     pub fn categories(&self) -> Categories {
-        Categories { left: self.categories }
+        let left = self.categories.iter().map(|word| word.count_ones() as usize).sum();
+        Categories { set: Label { hierarchy: 0, categories: self.categories }, from: 0, left }
     }
 }
 
-/// The categories of a label in rising order, by [`Label::categories`]. It goes from one to the next, whatever lies between them.
+/// The categories of a label in rising order, by [`Label::categories`]. It goes from one to the next by
+/// [`raw::lurm_next_category`], whatever lies between them.
 #[derive(Clone, Debug)]
 pub struct Categories {
-    /// The set of those that are still to come.
-    left: [u64; raw::WORDS],
+    /// The set, with a valid hierarchy: the step refuses an invalid label, and the hierarchy has no part in what it finds.
+    set: Label,
+    /// The next one is the least at or above this.
+    from: u64,
+    /// How many are still to come.
+    left: usize,
 }
 
 impl Iterator for Categories {
     type Item = u8;
 
     fn next(&mut self) -> Option<u8> {
-        let (at, word) = (0..).zip(&mut self.left).find(|(_, word)| **word != 0)?;
-        let bit = word.trailing_zeros();
-        *word &= *word - 1;
-        u8::try_from(u64::BITS * at + bit).ok()
+        let found = raw::lurm_next_category(self.set, self.from).value;
+        // Where there is none, `found` is one past the last category, which is no `u8`.
+        let category = u8::try_from(found).ok()?;
+        self.from = found + 1;
+        self.left -= 1;
+        Some(category)
     }
 
     fn size_hint(&self) -> (usize, Option<usize>) {
-        let count = self.left.iter().map(|word| word.count_ones() as usize).sum();
-        (count, Some(count))
+        (self.left, Some(self.left))
     }
 }
 

@@ -47,24 +47,21 @@ fn categories_are_not_cut() {
     assert_eq!(Label::new(20, &[255]).has_category(254), Ok(false));
 }
 
-/// The categories of a label, as the library goes from one to the next.
-fn categories_of(label: &Label) -> Vec<u8> {
-    let next = |from: u64| Some(raw::lurm_next_category(*label, from).value).filter(|category| *category < raw::CATEGORIES);
-    std::iter::successors(next(0), |category| next(category + 1)).map(|category| category.try_into().unwrap()).collect()
-}
-
 #[test]
-fn categories_rise_and_are_the_librarys() {
+fn categories_rise_and_are_all_there() {
     let all: Vec<u8> = (0..=255).collect();
     for categories in [&[][..], &[0], &[255], &[63, 64], &[0, 63, 64, 127, 128, 191, 192, 255], &all] {
         let (label, invalid) = (Label::new(20, categories), Label::new(u64::MAX, categories));
         assert_eq!(label.categories().collect::<Vec<u8>>(), categories);
-        assert_eq!(categories_of(&label), categories);
         assert!(invalid.categories().eq(label.categories()));
-        assert_eq!(label.categories().len(), categories.len());
+        assert!(label.categories().all(|category| label.has_category(category.into()) == Ok(true)));
+        let mut left = label.categories();
+        for known in (0..=categories.len()).rev() {
+            assert_eq!((left.len(), left.next().is_some()), (known, known > 0));
+        }
     }
-    let mut over = Label::new(20, &[7]).categories();
-    assert_eq!((over.next(), over.next(), over.next()), (Some(7), None, None));
+    let mut over = Label::new(20, &[255]).categories();
+    assert_eq!((over.next(), over.next(), over.next(), over.len()), (Some(255), None, None, 0));
 }
 
 #[test]
