@@ -7,7 +7,7 @@ from capi import ABBREVIATION_BYTES, NAME_BYTES, entry_numbers, label_numbers
 from capi import FUNCTIONS as MODELLED
 from header import FUNCTIONS
 from monitor import FILE, FILE_KINDS, TYPES
-from monitor_cmd_cases import random_attribute_type, random_caller, random_intents, random_object
+from monitor_cmd_cases import random_attribute_type, random_caller, random_intents, random_object, random_type
 from pools import Pools, damaged_state
 from rules import Alias, Label, Range, Tuple, write
 from samples import (ANY, LETTERS, WORD_BORDERS, any_alias, any_category, any_label, any_range, any_tuple, at_times,
@@ -135,7 +135,7 @@ def thing(rng, label, ranges, object_type, kind):
 
 def to_check(rng, pools, at):
     subject = any_label(rng)
-    object_type, kind = rng.choice((TYPES[0], TYPES[1], rng.choice(TYPES))), rng.choice(FILE_KINDS)
+    object_type, kind = random_type(rng), rng.choice(FILE_KINDS)
     intents = random_intents(rng, object_type, kind) if at_times(rng, 0.9) else rng.randrange(rng.choice((64, 128)))
     label, ranges = random_object(rng, subject)
     return (caller_numbers(rng, random_caller(rng, subject, label)), credentials(rng, subject),

@@ -1,5 +1,6 @@
-# Document 01's rules of the monitor, with the caller of request 2026-01, in plain Python over the labels, ranges, tuples
-# and callers of rules.py. Written from the documents and not from the crates, so that the two can check each other.
+# Document 01's rules of the monitor, with the caller of request 2026-01 and the receiving of request 2026-03, in plain
+# Python over the labels, ranges, tuples and callers of rules.py. Written from the documents and not from the crates, so
+# that the two can check each other.
 
 from dataclasses import dataclass
 
@@ -16,6 +17,7 @@ OF_LABEL, OF_TUPLE = 1, 2  # attribute types
 
 ATTRIBUTE_INTENTS = {GET_ATTRIBUTE, SET_ATTRIBUTE}
 CHANGES = {WRITE, SET_ATTRIBUTE}
+DESTRUCTIVE_READS = FIFO, MESSAGE_QUEUE  # to read one of these takes away what is read
 
 
 def named(number, names):
@@ -79,9 +81,9 @@ def in_sight(request):
 
 
 def tried(request):
-    """The intents that are tried: a fifo read is a read and a write together."""
+    """The intents that are tried: a read that takes away what it reads is a read and a write together."""
     asked = request.asked()
-    return asked | {WRITE} if READ in asked and request.object.type == FIFO else asked
+    return asked | {WRITE} if READ in asked and request.object.type in DESTRUCTIVE_READS else asked
 
 
 def met(intent, subject, thing):

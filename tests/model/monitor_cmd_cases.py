@@ -7,9 +7,9 @@ import itertools
 import cases
 import mac_cmd
 from cases import Program, case, command_line, filled, operand_line
-from monitor import (DIRECTORY, EXECUTE, FIFO, FILE, FILE_KINDS, GET_ATTRIBUTE, INTENTS, OF_LABEL, OF_TUPLE, OTHER,
-                     PRIVILEGES, READ, READ_OVERRIDE, REGULAR, RELABEL, SEARCH, SET_ATTRIBUTE, TYPES, WRITE,
-                     WRITE_OVERRIDE)
+from monitor import (DESTRUCTIVE_READS, DIRECTORY, EXECUTE, FIFO, FILE, FILE_KINDS, GET_ATTRIBUTE, INTENTS, OF_LABEL,
+                     OF_TUPLE, OTHER, PRIVILEGES, READ, READ_OVERRIDE, REGULAR, RELABEL, SEARCH, SET_ATTRIBUTE, TYPES,
+                     WRITE, WRITE_OVERRIDE)
 from monitor_cmd import COMMANDS
 from protocol import DASH, NUMBERS_END
 from rules import CATEGORIES, HIERARCHIES, Caller, Label, Range, Tuple, write
@@ -89,10 +89,12 @@ def with_privileges(number):
 
 
 def askable(intent):
-    """Types and kinds of which an intent may be asked: those of a file, and where it may be, of a fifo."""
+    """Types and kinds of which an intent may be asked: those of a file, and where it may be asked of other types, a read of
+    all of them and the rest of those whose reads are writes too."""
     yield FILE, DIRECTORY if intent == SEARCH else REGULAR
     if intent not in (EXECUTE, SEARCH):
-        yield FIFO, REGULAR
+        yield from ((object_type, REGULAR) for object_type in TYPES
+                    if object_type in DESTRUCTIVE_READS or intent == READ and object_type != FILE)
 
 
 def every_rule():
@@ -251,8 +253,9 @@ def no_label():
             for held in (0, holding(READ_OVERRIDE), holding(WRITE_OVERRIDE), ALL_PRIVILEGES):
                 yield case(f"{intent}, {what}, {with_privileges(held)}",
                            check(held, object_type, file_kind, asking(intent), OF_TUPLE, **having(None, object_tuple)))
-        for held in EVERY_PRIVILEGE:
-            yield case(f"read, fifo, {what}, {with_privileges(held)}", check(held, FIFO, **having(None, object_tuple)))
+        for object_type, held in itertools.product(DESTRUCTIVE_READS, EVERY_PRIVILEGE):
+            yield case(f"read, {object_type}, {what}, {with_privileges(held)}",
+                       check(held, object_type, **having(None, object_tuple)))
 
 
 def alone(subject, intent, object_label, object_tuple=None):
@@ -469,7 +472,7 @@ def number_forms():
 LAST_INTENTS = 64  # one above the last good number
 SOME_OBJECTS = [
     ("a label below", TYPES, holding(WRITE_OVERRIDE), BELOW),
-    ("an incomparable label", (FILE, FIFO), holding(READ_OVERRIDE, RELABEL), BESIDE),
+    ("an incomparable label", (FILE, *DESTRUCTIVE_READS), holding(READ_OVERRIDE, RELABEL), BESIDE),
 ]
 
 
@@ -532,10 +535,15 @@ def random_attribute_type(rng):
     return rng.choice((OF_LABEL, OF_TUPLE)) if rng.random() < 0.95 else rng.choice((0, 3, rng.randrange(NUMBERS_END)))
 
 
+def random_type(rng):
+    """Any, but oftenest a file or one whose reads are writes too."""
+    return rng.choice((FILE, *DESTRUCTIVE_READS, rng.choice(TYPES)))
+
+
 def random_request(rng):
     subject = any_label(rng)
     bounds = range_around(rng, subject) if rng.random() < 0.97 else any_range(rng)
-    object_type, file_kind = rng.choice((FILE, FIFO, rng.choice(TYPES))), rng.choice(FILE_KINDS)
+    object_type, file_kind = random_type(rng), rng.choice(FILE_KINDS)
     chosen = random_intents(rng, object_type, file_kind)
     object_label, object_tuple = random_object(rng, subject)
     caller = random_caller(rng, subject, object_label)

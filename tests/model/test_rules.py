@@ -269,7 +269,7 @@ class MonitorInputs(unittest.TestCase):
 
 
 class MonitorDecisions(unittest.TestCase):
-    """Document 01, "The monitor": steps 2 and 3, and what is granted."""
+    """Document 01, "The monitor": steps 2, with request 2026-03, and 3, and what is granted."""
 
     OBJECTS = {
         "above": dict(label=label(31, 1)),
@@ -281,7 +281,8 @@ class MonitorDecisions(unittest.TestCase):
         "empty": dict(label=None, tuple=Tuple()),
     }
     OVERRIDES = ((), (READ_OVERRIDE,), (WRITE_OVERRIDE,), (READ_OVERRIDE, WRITE_OVERRIDE))
-    OTHER_TYPES = (FILE, PROCESS, MESSAGE_QUEUE, SHARED_MEMORY, SEMAPHORE)
+    DESTRUCTIVE_READS = (FIFO, MESSAGE_QUEUE)
+    OTHER_TYPES = (FILE, PROCESS, SHARED_MEMORY, SEMAPHORE)
 
     # By object, the answers with no override, with read override, with write override and with both.
     BY_DOMINANCE = {
@@ -328,11 +329,29 @@ class MonitorDecisions(unittest.TestCase):
         self.decided(self.BY_BOTH, WRITE | GET)
         self.decided(self.BY_DOMINANCE, READ | GET)
 
-    def test_fifo_read(self):
-        """A read and a write together, whatever kind of file is named."""
-        for kind in FILE_KINDS:
-            self.decided(self.BY_BOTH, READ, type=FIFO, kind=kind)
-        self.decided(self.BY_BOTH, WRITE | READ, type=FIFO)
+    def test_destructive_reads(self):
+        """A read and a write together, whatever kind of file is named and whether the write is asked for or not: of a fifo,
+        and by request 2026-03 of a message queue. Their other intents are as those of any type."""
+        for object_type in self.DESTRUCTIVE_READS:
+            for kind in FILE_KINDS:
+                self.decided(self.BY_BOTH, READ, type=object_type, kind=kind)
+            self.decided(self.BY_BOTH, WRITE | READ, type=object_type)
+            self.decided(self.BY_BOTH, READ | GET, type=object_type)
+
+    def test_receiving(self):
+        """Request 2026-03's examples, and the overrides: a label that dominates and isn't equal passes by the write override
+        alone, one that does neither by both, and so does one that a tuple alone doesn't contain."""
+        low, high, bounds = label(20), label(30), Range(label(20), label(40, 1))
+        contains, contains_not = (Tuple((None, Range(low, label(h)), None)) for h in (40, 25))
+        for subject, queue, expected in ((high, dict(label=low), "E13 E13 1 1"), (high, dict(label=high), "0 0 0 0"),
+                                         (low, dict(label=high), "E13 E13 E13 1"),
+                                         (label(30, 1), dict(label=label(40)), "E13 E13 E13 1"),
+                                         (high, dict(label=None, tuple=contains), "0 0 0 0"),
+                                         (high, dict(label=None, tuple=contains_not), "E13 E13 E13 1"),
+                                         (high, dict(label=None, tuple=Tuple()), "E13 E13 E13 1")):
+            answers = [outcome(READ, 0, overrides, MESSAGE_QUEUE, subject=subject, bounds=bounds, **queue)
+                       for overrides in self.OVERRIDES]
+            self.assertEqual(" ".join(answers), expected, (subject, queue))
 
     def test_set(self):
         """1 if set attribute is asked without relabel, after 13."""
@@ -343,7 +362,8 @@ class MonitorDecisions(unittest.TestCase):
     def test_relabel_is_no_override(self):
         self.decided(self.BY_DOMINANCE, READ, [RELABEL])
         self.decided(self.BY_EQUALITY, WRITE, [RELABEL])
-        self.decided(self.BY_BOTH, READ, [RELABEL], type=FIFO)
+        for object_type in self.DESTRUCTIVE_READS:
+            self.decided(self.BY_BOTH, READ, [RELABEL], type=object_type)
 
     def test_label_governs(self):
         """The tuple neither widens what the label denies nor narrows what it allows."""
@@ -423,6 +443,7 @@ class MonitorCallers(unittest.TestCase):
             self.by_both(caller, "0 0")
             self.by_both(caller, "0 0", intents=WRITE, privileges=self.EVERY_PRIVILEGE)
             self.by_both(caller, "0 0", type=FIFO)
+            self.by_both(caller, "0 0", type=MESSAGE_QUEUE)
         self.by_both(self.BLIND, "E13 0")
         self.by_both(self.BLIND, "E13 0", intents=WRITE)
         self.by_both(self.BLIND, "E13 0", label=None, tuple=CONTAINS)
