@@ -10,7 +10,7 @@ use lib.Dec.{eqb, leb, ltb}
 use lib.ListN.{length}
 use borrow.Author.Tests.{eqb-true, eq-eqb, leb-true, le-leb, ltb-true}
 use Rattle.label.specs.Label.{Typed, dominatesOf, equalOf, labelOf, lowerBoundOf, upperBoundOf, validOf, withCategoryOf}
-use Rattle.label.specs.Words.{categories, has, includesOf, singleOf, unionOf, wordAt}
+use Rattle.label.specs.Words.{categories, has, includesOf, sameOf, singleOf, unionOf, wordAt}
 use Rattle.label.specs.declared.Label.{Label}
 use Rattle.label.proofs.BoolLaws.{both, exactly-both, first-true, second-true, swap-and}
 use Rattle.label.proofs.SingleLaws.{has-single, includes-single}
@@ -60,6 +60,16 @@ equal-exact a b l = (λ e. ap₂ labelOf (eqb-true (a .hierarchy) (b .hierarchy)
   where
     back : a ≡ b → equalOf a b ≡ true
     back e = subst (λ (x : Label). equalOf a x ≡ true) e (both (eq-eqb (a .hierarchy) (a .hierarchy) refl) (same-refl (a .categories)))
+
+-- of labels with any number of words
+pub equal-dominates : (a b : Label) → equalOf a b ≡ true → dominatesOf a b ≡ true
+unfolding equalOf sameOf
+equal-dominates a b e =
+    let h : a .hierarchy ≡ b .hierarchy = eqb-true (a .hierarchy) (b .hierarchy) (first-true _ _ e) in
+    parts-dominate a b (record {
+      hierarchy = omega (arith, h);
+      categories = first-true (includesOf (a .categories) (b .categories)) _ (second-true (eqb (a .hierarchy) (b .hierarchy)) _ e);
+    })
 
 -- ---- the bounds' hierarchies
 

@@ -1,4 +1,5 @@
 pub mod ValidLaws
 pub mod NeedsLaws
 pub mod MonitorLaws
+pub mod ReadLaws
 pub mod MonitorExamples

@@ -1,4 +1,4 @@
--- The rules of document 01's "The monitor" on examples, by computation. Assumes nothing.
+-- The rules of document 01's "The monitor", with requests 2026-01 and 2026-03, on examples, by computation. Assumes nothing.
 use mathlib.Core.Bool.{Bool, true, false}
 use mathlib.Core.List.{List, [], _∷_, map}
 use mathlib.Core.Option.{none}
@@ -23,7 +23,7 @@ use Rattle.monitor.specs.declared.FileKind.{FileKind}
 use Rattle.monitor.specs.declared.FileKind.the-variants.{Regular, Directory}
 use Rattle.monitor.specs.declared.Object.{Object}
 use Rattle.monitor.specs.declared.ObjectClass.{ObjectClass}
-use Rattle.monitor.specs.declared.ObjectClass.the-variants.{File, Fifo, MessageQueue}
+use Rattle.monitor.specs.declared.ObjectClass.the-variants.{File, Fifo, MessageQueue, Process, SharedMemory, Semaphore}
 use Rattle.monitor.specs.declared.Privileges.{Privileges}
 use Rattle.monitor.specs.declared.Request.{Request}
 
@@ -41,8 +41,8 @@ labelled c h = objectOf c Regular true (exampleOf h []) false emptyTuple
 abbrev user : Tuple
 user = tupleOf (absent ∷ present (rangeOf (exampleOf 20 []) (exampleOf 40 [])) ∷ absent ∷ [])
 
-abbrev tupled : Tuple → Object
-tupled t = objectOf File Regular false zeroLabel true t
+abbrev tupled : ObjectClass → Tuple → Object
+tupled c t = objectOf c Regular false zeroLabel true t
 
 -- a caller that sees all labels of these examples
 abbrev highest : Caller
@@ -101,17 +101,36 @@ examples =
     ∷ (by 30 alone (labelled File 20) 1 0, refusal 13)
     ∷ (by 30 read-override (labelled File 20) 1 0, refusal 13)
     ∷ (by 30 write-override (labelled File 20) 1 0, granted 1)
-    -- a fifo read is a read and a write together, and no other read is
+    -- a fifo read is a read and a write together
     ∷ (by 30 alone (labelled Fifo 30) 2 0, granted 0)
     ∷ (by 30 alone (labelled Fifo 20) 2 0, refusal 13)
     ∷ (by 30 write-override (labelled Fifo 20) 2 0, granted 1)
     ∷ (by 20 write-override (labelled Fifo 30) 2 0, refusal 13)
     ∷ (by 20 both-overrides (labelled Fifo 30) 2 0, granted 1)
-    ∷ (by 30 alone (labelled MessageQueue 20) 2 0, granted 0)
+    -- so is a receive from a message queue: the first two are request 2026-03's examples
+    ∷ (by 30 alone (labelled MessageQueue 20) 2 0, refusal 13)
+    ∷ (by 30 alone (labelled MessageQueue 30) 2 0, granted 0)
+    ∷ (by 30 read-override (labelled MessageQueue 20) 2 0, refusal 13)
+    ∷ (by 30 write-override (labelled MessageQueue 20) 2 0, granted 1)
+    ∷ (by 20 read-override (labelled MessageQueue 30) 2 0, refusal 13)
+    ∷ (by 20 write-override (labelled MessageQueue 30) 2 0, refusal 13)
+    ∷ (by 20 both-overrides (labelled MessageQueue 30) 2 0, granted 1)
+    ∷ (by 30 alone (tupled MessageQueue user) 2 0, granted 0)
+    ∷ (by 50 read-override (tupled MessageQueue user) 2 0, refusal 13)
+    ∷ (by 50 write-override (tupled MessageQueue user) 2 0, refusal 13)
+    ∷ (by 50 both-overrides (tupled MessageQueue user) 2 0, granted 1)
+    -- what else is done to a queue, and the reads of other classes, are as those of files
+    ∷ (by 30 alone (labelled MessageQueue 20) 1 0, refusal 13)
+    ∷ (by 20 write-override (labelled MessageQueue 30) 1 0, granted 1)
+    ∷ (by 30 alone (labelled MessageQueue 20) 16 1, granted 0)
+    ∷ (by 30 alone (labelled Process 20) 2 0, granted 0)
+    ∷ (by 30 alone (labelled SharedMemory 20) 2 0, granted 0)
+    ∷ (by 30 alone (labelled Semaphore 20) 2 0, granted 0)
+    ∷ (by 20 read-override (labelled Semaphore 30) 2 0, granted 1)
     -- under a tuple alone, which may be empty, each intent needs it to contain the subject's label
-    ∷ (by 30 alone (tupled user) 3 0, granted 0)
-    ∷ (by 50 alone (tupled user) 2 0, refusal 13)
-    ∷ (by 30 alone (tupled emptyTuple) 2 0, refusal 13)
+    ∷ (by 30 alone (tupled File user) 3 0, granted 0)
+    ∷ (by 50 alone (tupled File user) 2 0, refusal 13)
+    ∷ (by 30 alone (tupled File emptyTuple) 2 0, refusal 13)
     -- a label governs
     ∷ (by 30 alone (objectOf File Regular true (exampleOf 40 []) true user) 2 0, refusal 13)
     ∷ (by 50 alone (objectOf File Regular true (exampleOf 50 []) true user) 3 0, granted 0)

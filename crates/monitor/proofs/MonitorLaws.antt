@@ -179,6 +179,26 @@ caller-passes r = by (r .caller .«read_override») refl
     by true e = caller-overrides r e ∙ sym (or-first (callerDominates r) e)
     by false e = caller-dominates r e ∙ rw e
 
+-- ---- what a grant says of each row
+
+met-alone : (a m o : Bool) → (a && not (m || o)) ≡ false → o ≡ false → a ≡ true → m ≡ true
+met-alone true true o e f h = refl
+met-alone true false true e f h = sym f
+met-alone true false false e f h = sym e
+met-alone false m o e f h = absurd (true≢false (sym h))
+
+-- the test of a row that is asked for is met where the subject lacks its override
+pub granted-met : (r : Request) (n : ℕ) (x : Row) → In x table → decide r ≡ granted n → applies r x ≡ true
+    → overrideOf (x .access) (r .credentials .privileges) ≡ false → metOf (r .credentials .label) (r .object) (x .access) ≡ true
+granted-met r n x m e a o =
+    met-alone
+    (applies r x)
+    (metOf (r .credentials .label) (r .object) (x .access))
+    (overrideOf (x .access) (r .credentials .privileges))
+    (none-of (denied r) x table m (granted-parts r n e .allowed))
+    o
+    a
+
 -- ---- a grant where there is no privilege at all
 
 abbrev pub noPrivileges : Privileges
@@ -195,12 +215,6 @@ no-override : (a : Access) (p : Privileges) → p ≡ noPrivileges → overrideO
 no-override Observe p e = ap (λ (q : Privileges). q .read) e
 no-override Modify p e = ap (λ (q : Privileges). q .write) e
 
-met-alone : (a m o : Bool) → (a && not (m || o)) ≡ false → o ≡ false → a ≡ true → m ≡ true
-met-alone true true o e f h = refl
-met-alone true false true e f h = sym f
-met-alone true false false e f h = sym e
-met-alone false m o e f h = absurd (true≢false (sym h))
-
 pub unprivileged-grant : (r : Request) (n : ℕ) → r .credentials .privileges ≡ noPrivileges → decide r ≡ granted n → Unprivileged r n
 unfolding grantBy
 unprivileged-grant r n p e =
@@ -210,14 +224,7 @@ unprivileged-grant r n p e =
     g = granted-parts r n e
 
     met : (x : Row) → In x table → applies r x ≡ true → metOf (r .credentials .label) (r .object) (x .access) ≡ true
-    met x m a =
-        met-alone
-        (applies r x)
-        (metOf (r .credentials .label) (r .object) (x .access))
-        (overrideOf (x .access) (r .credentials .privileges))
-        (none-of (denied r) x table m (g .allowed))
-        (no-override (x .access) (r .credentials .privileges) p)
-        a
+    met x m a = granted-met r n x m e a (no-override (x .access) (r .credentials .privileges) p)
 
     no-row : any (unmet r) table ≡ false
     no-row =
@@ -302,7 +309,7 @@ more-privileges r q o n h k e =
 
 -- a decision goes by whether the request is valid, by whether the caller sees what it asks about, by the privileges that are needed and by those
 -- that are there
-same-decision : (r s : Request) → validOf r ≡ validOf s → callerSees r ≡ callerSees s → neededOf r ≡ neededOf s
+pub same-decision : (r s : Request) → validOf r ≡ validOf s → callerSees r ≡ callerSees s → neededOf r ≡ neededOf s
     → r .credentials .privileges ≡ s .credentials .privileges → decide r ≡ decide s
 same-decision r s v c n p =
     decide-needed r

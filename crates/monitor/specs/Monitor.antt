@@ -1,4 +1,4 @@
--- Document 01, "The monitor", with document 02's request 2026-01, who may ask it. Assumes nothing.
+-- Document 01, "The monitor", with document 02's requests 2026-01, who may ask it, and 2026-03, receiving a message. Assumes nothing.
 use mathlib.Core.Bool.{Bool, true, false, cond, not, _&&_, _||_}
 use mathlib.Core.List.{List, [], _∷_}
 use Prim.Native.Nat.{ℕ}
@@ -147,12 +147,12 @@ row intent access on = record { intent = intent; access = access; on = on }
 abbrev pub anyClass : ObjectClass → Bool
 anyClass c = true
 
--- where a read takes away what it reads: it is a read and a write together
+-- where a read takes away what it reads: it is a read and a write together. The fifo is document 01's, the message queue request 2026-03's
 abbrev pub destructiveRead : ObjectClass → Bool
 destructiveRead File = false
 destructiveRead Fifo = true
 destructiveRead Process = false
-destructiveRead MessageQueue = false
+destructiveRead MessageQueue = true
 destructiveRead SharedMemory = false
 destructiveRead Semaphore = false
 

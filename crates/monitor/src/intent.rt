@@ -35,7 +35,7 @@ fn destructive_read(class: ObjectClass) -> bool
         ObjectClass::File => false,
         ObjectClass::Fifo => true,
         ObjectClass::Process => false,
-        ObjectClass::MessageQueue => false,
+        ObjectClass::MessageQueue => true,
         ObjectClass::SharedMemory => false,
         ObjectClass::Semaphore => false,
     }
