@@ -147,6 +147,20 @@ static void decide(const char *question, lurm_caller caller, lurm_credentials su
         printf("%s\n", answer.value == 0 ? "granted" : "granted by privilege");
 }
 
+/* A receive takes the message off the queue, so that it is a read and a write: the subject's own label grants it, and a lower one alone does not. */
+static void receiving(lurm_caller caller, lurm_credentials subject, lurm_label lower)
+{
+    lurm_object queue = {0};
+
+    queue.type = LURM_CLASS_MESSAGE_QUEUE;
+    queue.has_label = 1;
+    queue.label = subject.label;
+    subject.write_override = 0;
+    decide("the first receives from a queue at its own label", caller, subject, queue, LURM_INTENT_READ, 0);
+    queue.label = lower;
+    decide("the first receives from a queue at (20,{1})", caller, subject, queue, LURM_INTENT_READ, 0);
+}
+
 /* The first tenant asks about itself: the caller has the label and the read override of the subject. The second may not see the first. */
 static void decisions(lurm_label first, lurm_label second)
 {
@@ -173,6 +187,7 @@ static void decisions(lurm_label first, lurm_label second)
     decide("the first sets its label", self, subject, file, LURM_INTENT_SET_ATTRIBUTE, LURM_ATTRIBUTE_LABEL);
     subject.relabel = 1;
     decide("the first sets its label with the privilege to relabel", self, subject, file, LURM_INTENT_SET_ATTRIBUTE, LURM_ATTRIBUTE_LABEL);
+    receiving(self, subject, file.label);
 }
 
 /* ---- Names and text ---- */

@@ -39,9 +39,9 @@ extern "C" {
 /* ---- Version ---- */
 
 #define LURM_VERSION_MAJOR 0
-#define LURM_VERSION_MINOR 3
+#define LURM_VERSION_MINOR 4
 #define LURM_VERSION_PATCH 0
-#define LURM_VERSION_STRING "0.3.0"
+#define LURM_VERSION_STRING "0.4.0"
 #define LURM_VERSION (LURM_VERSION_MAJOR * 1000000 + LURM_VERSION_MINOR * 1000 + LURM_VERSION_PATCH)
 
 /* The LURM_VERSION of the library that is linked. Structs of another minor version may differ, until 1.0.0. */
@@ -298,6 +298,7 @@ typedef struct lurm_credentials {
     uint64_t relabel;
 } lurm_credentials;
 
+/* To read a fifo, or to receive from a message queue, takes away what is read: LURM_INTENT_READ of one is a read and a write together. */
 #define LURM_CLASS_FILE 0
 #define LURM_CLASS_FIFO 1
 #define LURM_CLASS_PROCESS 2

@@ -1,4 +1,4 @@
-/* The monitor: attempts for each of its steps, with who asks by request 2026-01 of document 02. */
+/* The monitor: attempts for each of its steps, with who asks by request 2026-01 of document 02 and what is received by request 2026-03. */
 #include "cases.h"
 
 #define READ LURM_INTENT_READ
@@ -76,6 +76,33 @@ static void decided(void)
     ATTEMPT(lurm_check, refused(LURM_EINVAL), top, credentials(2, 0, 0), lower, READ, 0);
 }
 
+/* To receive from a message queue is to read and to write it. The subject is at (30,{}); the queue has that label, one below, one above, or a
+ * tuple. */
+static void received(void)
+{
+    lurm_caller top = caller(highest(), 0);
+    lurm_credentials plain = credentials(0, 0, 0), read = credentials(1, 0, 0), write = credentials(0, 1, 0), overrides = credentials(1, 1, 0);
+    lurm_object same = labelled(LURM_CLASS_MESSAGE_QUEUE, 0, label(30, 0)), lower = labelled(LURM_CLASS_MESSAGE_QUEUE, 0, label(20, 0));
+    lurm_object higher = labelled(LURM_CLASS_MESSAGE_QUEUE, 0, label(40, 0)), all = cleared(LURM_CLASS_MESSAGE_QUEUE, every_label());
+    lurm_object none = same;
+
+    none.has_label = 0; /* and its tuple is empty */
+    none.has_tuple = 1;
+    ATTEMPT(lurm_check, granted(0), top, plain, same, READ, 0);
+    ATTEMPT(lurm_check, refused(LURM_EACCES), top, plain, lower, READ, 0);
+    ATTEMPT(lurm_check, refused(LURM_EACCES), top, read, lower, READ, 0);
+    ATTEMPT(lurm_check, granted(1), top, write, lower, READ, 0);
+    ATTEMPT(lurm_check, refused(LURM_EACCES), top, read, higher, READ, 0);
+    ATTEMPT(lurm_check, refused(LURM_EACCES), top, write, higher, READ, 0);
+    ATTEMPT(lurm_check, granted(1), top, overrides, higher, READ, 0);
+    ATTEMPT(lurm_check, granted(1), top, write, higher, WRITE, 0); /* to send is to write alone */
+    ATTEMPT(lurm_check, granted(0), top, plain, all, READ, 0);
+    ATTEMPT(lurm_check, refused(LURM_EACCES), top, write, none, READ, 0);
+    ATTEMPT(lurm_check, granted(1), top, overrides, none, READ, 0);
+    ATTEMPT(lurm_check, granted(0), top, plain, labelled(LURM_CLASS_SHARED_MEMORY, 0, label(20, 0)), READ, 0);
+    ATTEMPT(lurm_check, granted(0), top, plain, labelled(LURM_CLASS_SEMAPHORE, 0, label(20, 0)), READ, 0);
+}
+
 /* Who asks. The subject is at (30,{}), between (20,{}) and (40,{}); what the caller has to see is the two labels and no end of a range or tuple. */
 static void asked(void)
 {
@@ -122,6 +149,7 @@ static void in_order(void)
 void monitor_cases(void)
 {
     decided();
+    received();
     asked();
     in_order();
 }

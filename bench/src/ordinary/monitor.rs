@@ -38,6 +38,13 @@ pub enum Class {
     Semaphore,
 }
 
+impl Class {
+    /// Whether a read takes away what it reads, and so is a write too.
+    fn read_is_destructive(self) -> bool {
+        matches!(self, Class::Fifo | Class::MessageQueue)
+    }
+}
+
 /// What is asked for. A label governs where there is a tuple too.
 #[derive(Clone, Copy, Debug)]
 pub struct Object {
@@ -102,7 +109,7 @@ pub fn check_inlined(caller: &Caller, credentials: &Credentials, object: &Object
     let sets = intents & intent::SET_ATTRIBUTE != 0;
     let reads = intents & intent::READ != 0;
     let observes = intents & !(intent::WRITE | intent::SET_ATTRIBUTE) != 0;
-    let modifies = intents & intent::WRITE != 0 || sets || (reads && object.class == Class::Fifo);
+    let modifies = intents & intent::WRITE != 0 || sets || (reads && object.class.read_is_destructive());
     let (may_observe, may_modify) = object.accesses(&credentials.label);
     let needs_read_override = observes && !may_observe;
     let needs_write_override = modifies && !may_modify;

@@ -127,6 +127,10 @@ fn fifo(label: Label) -> Object {
     Object { class: Class::Fifo, ..file(label) }
 }
 
+fn queue(label: Label) -> Object {
+    Object { class: Class::MessageQueue, ..file(label) }
+}
+
 fn memory(tuple: Tuple) -> Object {
     Object { class: Class::SharedMemory, label: None, tuple: Some(tuple) }
 }
@@ -146,8 +150,10 @@ fn plain() -> Credentials {
 #[test]
 fn decisions() {
     let plain = plain();
+    let writer = Credentials { write_override: true, ..plain };
     let (low, own, high) = (label(20, &[]), label(30, &[]), label(40, &[]));
     let contains = user(low, high);
+    let cleared_queue = Object { class: Class::MessageQueue, ..memory(user(low, label(25, &[]))) };
     let both = Object { tuple: Some(contains), ..file(high) };
     let directory = Object { class: Class::File(FileKind::Directory), ..file(low) };
     let outside = Credentials { label: label(50, &[]), ..plain };
@@ -159,9 +165,17 @@ fn decisions() {
         (plain, file(low), intent::WRITE, Err(Refusal::Denied)),
         (plain, file(own), intent::WRITE, Ok(false)),
         (plain, file(low), intent::READ | intent::WRITE, Err(Refusal::Denied)),
-        (Credentials { write_override: true, ..plain }, file(low), intent::READ | intent::WRITE, Ok(true)),
+        (writer, file(low), intent::READ | intent::WRITE, Ok(true)),
         (plain, fifo(low), intent::READ, Err(Refusal::Denied)),
         (plain, fifo(own), intent::READ, Ok(false)),
+        (plain, queue(low), intent::READ, Err(Refusal::Denied)),
+        (plain, queue(own), intent::READ, Ok(false)),
+        (writer, queue(low), intent::READ, Ok(true)),
+        (writer, queue(high), intent::READ, Err(Refusal::Denied)),
+        (Credentials { read_override: true, ..writer }, queue(high), intent::READ, Ok(true)),
+        (writer, cleared_queue, intent::READ, Err(Refusal::Denied)),
+        (Credentials { read_override: true, ..writer }, cleared_queue, intent::READ, Ok(true)),
+        (plain, Object { class: Class::SharedMemory, ..file(low) }, intent::READ, Ok(false)),
         (plain, memory(contains), intent::WRITE, Ok(false)),
         (plain, memory(user(low, label(25, &[]))), intent::WRITE, Err(Refusal::Denied)),
         (plain, both, intent::READ, Err(Refusal::Denied)),

@@ -47,11 +47,11 @@ pub enum FileKind {
 pub enum Class {
     /// A file of some kind.
     File(FileKind),
-    /// A fifo. To read it is to write it too.
+    /// A fifo. To read it takes away what is read, and so is to write it too.
     Fifo,
     /// A process.
     Process,
-    /// A message queue.
+    /// A message queue. To read it is to receive a message, which takes it away, and so is to write it too.
     MessageQueue,
     /// A segment of shared memory.
     SharedMemory,
@@ -115,7 +115,7 @@ pub struct Intents {
 impl Intents {
     /// To write.
     pub const WRITE: Intents = Intents { sum: raw::INTENT_WRITE, attribute: 0 };
-    /// To read.
+    /// To read. Of a [`Class::Fifo`] and a [`Class::MessageQueue`] that is to write too.
     pub const READ: Intents = Intents { sum: raw::INTENT_READ, attribute: 0 };
     /// To execute a regular file.
     pub const EXECUTE: Intents = Intents { sum: raw::INTENT_EXECUTE, attribute: 0 };

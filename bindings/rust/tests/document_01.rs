@@ -1,4 +1,4 @@
-//! The examples of document 01, in its order, and its table of the monitor in a few requests, with who asks by document 02.
+//! The examples of document 01, in its order, and its table of the monitor in a few requests, with what document 02 adds: who asks, and receiving.
 
 use lurmenize::*;
 
@@ -92,8 +92,8 @@ fn decisions() {
     let subject = Credentials { label: high, range: range(low, high), ..Credentials::default() };
     let caller = Caller { label: high, read_override: false };
     let fifo = Object { class: Class::Fifo, label: Some(low), tuple: None };
-    let queue = Object { class: Class::MessageQueue, ..fifo };
-    assert_eq!(check(&caller, &subject, &queue, Intents::READ), Ok(Decision::Granted));
+    let memory = Object { class: Class::SharedMemory, ..fifo };
+    assert_eq!(check(&caller, &subject, &memory, Intents::READ), Ok(Decision::Granted));
     assert_eq!(check(&caller, &subject, &fifo, Intents::READ), Err(Refusal::Access));
     let writer = Credentials { write_override: true, ..subject };
     assert_eq!(check(&caller, &writer, &fifo, Intents::READ), Ok(Decision::Privileged));
@@ -113,9 +113,9 @@ fn callers() {
     let (low, own, high) = (label(20, &[]), label(30, &[1]), label(40, &[1, 2]));
     let subject = Credentials { label: own, range: range(low, high), ..Credentials::default() };
     let all = Credentials { read_override: true, write_override: true, relabel: true, ..subject };
-    let queue = |label, tuple| Object { class: Class::MessageQueue, label, tuple };
+    let memory = |label, tuple| Object { class: Class::SharedMemory, label, tuple };
     let clearance = range(low, high).split().unwrap();
-    let (lower, higher, cleared) = (queue(Some(low), None), queue(Some(high), Some(clearance)), queue(None, Some(clearance)));
+    let (lower, higher, cleared) = (memory(Some(low), None), memory(Some(high), Some(clearance)), memory(None, Some(clearance)));
     let [at_low, at_own, at_high] = [low, own, high].map(|label| Caller { label, read_override: false });
     let seeing = Caller { read_override: true, ..at_low };
     assert_eq!(check(&at_own, &subject, &lower, Intents::READ), Ok(Decision::Granted));
@@ -133,6 +133,34 @@ fn callers() {
     assert_eq!(check(&at_high, &no_relabel, &higher, Intents::SET_LABEL), Err(Refusal::Perm));
     assert_eq!(check(&at_low, &all, &lower, Intents::default()), Err(Refusal::Invalid));
     assert_eq!(check(&Caller { label: label(200, &[]), read_override: true }, &subject, &lower, Intents::READ), Err(Refusal::Invalid));
+}
+
+/// Document 02's request 2026-03: to receive is to read and to write, so that it takes equality, the write override where the subject dominates, and
+/// both overrides elsewhere. What else is done to a queue, and the reads of other objects, are no receiving.
+#[test]
+fn receiving() {
+    let [low, own, high] = [20, 30, 40].map(|hierarchy| label(hierarchy, &[]));
+    let none = Credentials { label: own, range: range(low, high), ..Credentials::default() };
+    let [read, write] = [Credentials { read_override: true, ..none }, Credentials { write_override: true, ..none }];
+    let both = Credentials { read_override: true, ..write };
+    let caller = Caller { label: high, read_override: false };
+    let at = |class, label| Object { class, label: Some(label), tuple: None };
+    let cleared = |low, high| Object { class: Class::MessageQueue, label: None, tuple: Some(range(low, high).split().unwrap()) };
+    let answers = |object, intents| [none, read, write, both].map(|subject| check(&caller, &subject, &object, intents));
+    let (denied, granted, privileged) = (Err(Refusal::Access), Ok(Decision::Granted), Ok(Decision::Privileged));
+    for class in [Class::MessageQueue, Class::Fifo] {
+        assert_eq!(answers(at(class, low), Intents::READ), [denied, denied, privileged, privileged]);
+        assert_eq!(answers(at(class, own), Intents::READ), [granted; 4]);
+        assert_eq!(answers(at(class, high), Intents::READ), [denied, denied, denied, privileged]);
+        assert_eq!(answers(at(class, high), Intents::WRITE), [denied, denied, privileged, privileged]);
+        assert_eq!(answers(at(class, low), Intents::GET_LABEL), [granted; 4]);
+    }
+    assert_eq!(answers(cleared(low, high), Intents::READ), [granted; 4]);
+    assert_eq!(answers(cleared(low, low), Intents::READ), [denied, denied, denied, privileged]);
+    for class in [Class::File(FileKind::Regular), Class::Process, Class::SharedMemory, Class::Semaphore] {
+        assert_eq!(answers(at(class, low), Intents::READ), [granted; 4]);
+        assert_eq!(answers(at(class, high), Intents::READ), [denied, privileged, denied, privileged]);
+    }
 }
 
 #[test]
