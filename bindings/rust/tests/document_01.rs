@@ -136,7 +136,7 @@ fn callers() {
 }
 
 /// Document 02's request 2026-03: to receive is to read and to write, so that it takes equality, the write override where the subject dominates, and
-/// both overrides elsewhere. What else is done to a queue, and the reads of other objects, are no receiving.
+/// both overrides elsewhere. What else is done to a queue is decided as for any object, and a read that takes nothing away by dominance.
 #[test]
 fn receiving() {
     let [low, own, high] = [20, 30, 40].map(|hierarchy| label(hierarchy, &[]));
