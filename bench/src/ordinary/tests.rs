@@ -153,7 +153,7 @@ fn decisions() {
     let writer = Credentials { write_override: true, ..plain };
     let (low, own, high) = (label(20, &[]), label(30, &[]), label(40, &[]));
     let contains = user(low, high);
-    let cleared_queue = Object { class: Class::MessageQueue, ..memory(user(low, label(25, &[]))) };
+    let queue_with_tuple = Object { class: Class::MessageQueue, ..memory(user(low, label(25, &[]))) };
     let both = Object { tuple: Some(contains), ..file(high) };
     let directory = Object { class: Class::File(FileKind::Directory), ..file(low) };
     let outside = Credentials { label: label(50, &[]), ..plain };
@@ -173,8 +173,8 @@ fn decisions() {
         (writer, queue(low), intent::READ, Ok(true)),
         (writer, queue(high), intent::READ, Err(Refusal::Denied)),
         (Credentials { read_override: true, ..writer }, queue(high), intent::READ, Ok(true)),
-        (writer, cleared_queue, intent::READ, Err(Refusal::Denied)),
-        (Credentials { read_override: true, ..writer }, cleared_queue, intent::READ, Ok(true)),
+        (writer, queue_with_tuple, intent::READ, Err(Refusal::Denied)),
+        (Credentials { read_override: true, ..writer }, queue_with_tuple, intent::READ, Ok(true)),
         (plain, Object { class: Class::SharedMemory, ..file(low) }, intent::READ, Ok(false)),
         (plain, memory(contains), intent::WRITE, Ok(false)),
         (plain, memory(user(low, label(25, &[]))), intent::WRITE, Err(Refusal::Denied)),
