@@ -4,7 +4,7 @@ use mathlib.Core.Option.{Option}
 use mathlib.Core.Path.{_≡_, refl, _∙_}
 use Prim.Native.Nat.{ℕ, _<_}
 use borrow.Author.Tests.{lt-leb}
-use Rattle.label.specs.Answer.{refused}
+use Rattle.common.specs.Answer.{refused}
 use Rattle.segments.specs.Calls.{Decides, stepOf}
 use Rattle.segments.specs.Replies.{applied, isRefusal, leaving}
 use Rattle.segments.specs.Segments.{slots}
@@ -13,13 +13,13 @@ use Rattle.segments.specs.declared.Change.{Change}
 use Rattle.segments.specs.declared.SegmentTable.{SegmentTable}
 use Rattle.segments.proofs.ResultsLaws.{decides-results, decides-slot}
 use Rattle.abi.specs.Outcome as outcomes
-use Rattle.abi.specs.declared.outcome.Outcome.{Outcome}
+use Rattle.abi.specs.declared.outcome.COutcome.{COutcome}
 use Rattle.abi.proofs.AnswerLaws.{call-answered}
 
 pub applied-back : (s : SegmentTable) (c : Change) → c .slot .0 < slots → outcomes.appliedTo s c ≡ outcomes.handedBack (applied s c)
 applied-back s c l = rw (lt-leb slots (c .slot .0) l, or-false (isRefusal (c .answer .reply)))
 
-pub call-applied : (s : SegmentTable) {c : Call} {x : Change} {o : Outcome} → Decides s c x → (x .slot .0 < slots → o ≡ outcomes.handedBack (applied s x)) → o ≡ outcomes.stepOutcome (stepOf s c)
+pub call-applied : (s : SegmentTable) {c : Call} {x : Change} {o : COutcome} → Decides s c x → (x .slot .0 < slots → o ≡ outcomes.handedBack (applied s x)) → o ≡ outcomes.stepOutcome (stepOf s c)
 call-applied s d h = h (decides-slot _ _ d) ∙ call-answered (decides-results _ _ d)
 
 -- every number of it

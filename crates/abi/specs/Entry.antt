@@ -1,4 +1,4 @@
--- Alias entries as C has them: what an entry names is a number of its own. Assumes nothing.
+-- Alias entries as C has them: what an entry names is a number of its own.
 use mathlib.Core.Bool.{Bool, true, false, cond, _&&_, _||_}
 use Prim.Native.Nat.{ℕ}
 use lib.Dec.{eqb}
@@ -8,34 +8,34 @@ use Rattle.hexline.specs.Entry.{abbreviationSize, abbreviationText, nameSize, n
 use Rattle.hexline.specs.declared.entry.Entry as coreEntry
 use Rattle.hexline.specs.declared.entry.Value.{Value}
 use Rattle.hexline.specs.declared.entry.Value.the-variants.{Hierarchy, Category, WholeLabel}
-use Rattle.abi.specs.declared.entry.Entry.{Entry}
+use Rattle.abi.specs.declared.entry.CEntry.{CEntry}
 
 -- 1 a hierarchy; 2 a category; 3 a label, which has no number
-unfoldable pub formedOf : Entry → Bool
+unfoldable pub formedOf : CEntry → Bool
 formedOf e = eqb (e .names) 1 || eqb (e .names) 2 || (eqb (e .names) 3 && eqb (e .number) 0)
 
-unfoldable pub valueOf : ℕ → ℕ → Value
-valueOf names number = cond (eqb names 1) (Hierarchy number) (cond (eqb names 2) (Category number) WholeLabel)
+unfoldable pub namedValue : ℕ → ℕ → Value
+namedValue names number = cond (eqb names 1) (Hierarchy number) (cond (eqb names 2) (Category number) WholeLabel)
 
-abbrev pub decodedOf : Entry → coreEntry.Entry
-decodedOf e = record { value = valueOf (e .names) (e .number); label = e .label; name = e .name; abbreviation = e .abbreviation }
+abbrev pub decodedOf : CEntry → coreEntry.Entry
+decodedOf e = record { value = namedValue (e .names) (e .number); label = e .label; name = e .name; abbreviation = e .abbreviation }
 
-abbrev pub classOf : Value → ℕ
-classOf (Hierarchy h) = 1
-classOf (Category c) = 2
-classOf WholeLabel = 3
+abbrev pub namedClass : Value → ℕ
+namedClass (Hierarchy h) = 1
+namedClass (Category c) = 2
+namedClass WholeLabel = 3
 
-abbrev pub numberOf : Value → ℕ
-numberOf (Hierarchy h) = h
-numberOf (Category c) = c
-numberOf WholeLabel = 0
+abbrev pub valueNumber : Value → ℕ
+valueNumber (Hierarchy h) = h
+valueNumber (Category c) = c
+valueNumber WholeLabel = 0
 
-abbrev pub encodedOf : coreEntry.Entry → Entry
-encodedOf e = record { names = classOf (e .value); number = numberOf (e .value); label = e .label; name = e .name; abbreviation = e .abbreviation }
+abbrev pub encodedOf : coreEntry.Entry → CEntry
+encodedOf e = record { names = namedClass (e .value); number = valueNumber (e .value); label = e .label; name = e .name; abbreviation = e .abbreviation }
 
 -- the entry of zeros, which names nothing: what stands beside a refusal
-abbrev pub zeros : Entry
-zeros = record {
+abbrev pub zeroCEntry : CEntry
+zeroCEntry = record {
   names = 0;
   number = 0;
   label = Label.zeroLabel;

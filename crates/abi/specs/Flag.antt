@@ -1,4 +1,4 @@
--- Flags as C has them: 0 is false, 1 is true, and there is no other. Assumes nothing.
+-- Flags as C has them: 0 is false, 1 is true, and there is no other.
 use mathlib.Core.Bool.{Bool, cond}
 use Prim.Native.Nat.{ℕ}
 use lib.Dec.{eqb, leb}

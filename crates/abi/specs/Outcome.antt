@@ -2,23 +2,23 @@
 use mathlib.Core.Bool.{cond, _||_}
 use Prim.Native.Nat.{ℕ}
 use lib.Dec.{leb}
-use Rattle.label.specs.Answer as answers
+use Rattle.common.specs.Answer as answers
 use Rattle.label.specs.declared.Label.{Label}
 use Rattle.segments.specs.Replies.{Grant, Step, done, isRefusal, opened, shown}
 use Rattle.segments.specs.Segments as core
 use Rattle.segments.specs.declared.Change.{Change}
-use Rattle.segments.specs.declared.Outcome as coreOutcome
+use Rattle.segments.specs.declared.CallOutcome as coreOutcome
 use Rattle.segments.specs.declared.Reply.{Reply}
 use Rattle.segments.specs.declared.Reply.the-variants.{Done, Opened, Shown, Refused}
 use Rattle.segments.specs.declared.Segment.{Segment}
 use Rattle.segments.specs.declared.SegmentTable.{SegmentTable}
 use Rattle.abi.specs.Answer.{grant, numbered, refusalBy}
-use Rattle.abi.specs.declared.answer.Answer.{Answer}
-use Rattle.abi.specs.declared.outcome.Outcome.{Outcome}
+use Rattle.abi.specs.declared.answer.CAnswer.{CAnswer}
+use Rattle.abi.specs.declared.outcome.COutcome.{COutcome}
 
 -- ---- what a call hands back: the state, the answer, and what a look shows
 
-abbrev pub outcome : SegmentTable → Answer → Segment → Outcome
+abbrev pub outcome : SegmentTable → CAnswer → Segment → COutcome
 outcome s a x = record { state = s; answer = a; shown = x }
 
 -- an open answers its slot; the others have no number to answer
@@ -34,12 +34,12 @@ shownOf (answers.granted (opened p)) = core.zeroSegment
 shownOf (answers.granted (shown x)) = x
 shownOf (answers.refused n detail) = core.zeroSegment
 
-abbrev pub stepOutcome : Step → Outcome
+abbrev pub stepOutcome : Step → COutcome
 stepOutcome x = outcome (x .table) (numbered grantNumber (x .answer)) (shownOf (x .answer))
 
 -- ---- what the code's outcome says. For functions that are not exported
 
-abbrev pub replyAnswer : Reply → Answer
+abbrev pub replyAnswer : Reply → CAnswer
 replyAnswer Done = grant 0
 replyAnswer (Opened p) = grant (p .0)
 replyAnswer (Shown x) = grant 0
@@ -51,11 +51,11 @@ segmentBeside (Opened p) l = core.zeroSegment
 segmentBeside (Shown x) l = core.segmentOf l (x .pages) (x .version)
 segmentBeside (Refused e) l = core.zeroSegment
 
-abbrev pub handedBack : coreOutcome.Outcome → Outcome
+abbrev pub handedBack : coreOutcome.CallOutcome → COutcome
 handedBack o = outcome (o .table) (replyAnswer (o .answer .reply)) (segmentBeside (o .answer .reply) (o .answer .label))
 
 -- what a call hands back that makes this change, if it is no refusal and there is such a slot
-abbrev pub appliedTo : SegmentTable → Change → Outcome
+abbrev pub appliedTo : SegmentTable → Change → COutcome
 appliedTo s c =
     outcome (cond (isRefusal (c .answer .reply) || leb core.slots (c .slot .0)) s (core.withSegment s (c .slot) (c .segment))) (replyAnswer (c .answer .reply))
     (segmentBeside (c .answer .reply) (c .answer .label))

@@ -1,21 +1,21 @@
--- What the monitor is asked, as C has it. Assumes nothing.
+-- What the monitor is asked, as C has it.
 use mathlib.Core.Bool.{Bool, not, _&&_, _||_}
 use Prim.Native.Nat.{ℕ}
 use lib.Dec.{eqb, leb}
-use Rattle.monitor.specs.Numbers.{classOf, kindOf}
+use Rattle.monitor.specs.Numbers.{objectClassOf, fileKindOf}
 use Rattle.monitor.specs.declared.Credentials as coreCredentials
 use Rattle.monitor.specs.declared.Object as coreObject
 use Rattle.monitor.specs.declared.Request as coreRequest
 use Rattle.abi.specs.Caller.{callerOf}
 use Rattle.abi.specs.Flag
-use Rattle.abi.specs.declared.caller.Caller.{Caller}
-use Rattle.abi.specs.declared.request.Credentials.{Credentials}
-use Rattle.abi.specs.declared.request.Object.{Object}
+use Rattle.abi.specs.declared.caller.CCaller.{CCaller}
+use Rattle.abi.specs.declared.request.CCredentials.{CCredentials}
+use Rattle.abi.specs.declared.request.CObject.{CObject}
 
-abbrev pub credentialsFormed : Credentials → Bool
+abbrev pub credentialsFormed : CCredentials → Bool
 credentialsFormed c = Flag.formedOf (c .«read_override») && Flag.formedOf (c .«write_override») && Flag.formedOf (c .relabel)
 
-abbrev pub credentialsOf : Credentials → coreCredentials.Credentials
+abbrev pub credentialsOf : CCredentials → coreCredentials.Credentials
 credentialsOf c = record {
   label = c .label;
   range = c .range;
@@ -27,24 +27,24 @@ credentialsOf c = record {
 }
 
 -- six classes; three kinds, which count for a file only
-abbrev pub objectFormed : Object → Bool
+abbrev pub objectFormed : CObject → Bool
 objectFormed o =
     leb (o .class) 5
     && (not (eqb (o .class) 0) || leb (o .kind) 2)
     && Flag.formedOf (o .«has_label»)
     && Flag.formedOf (o .«has_tuple»)
 
-abbrev pub objectOf : Object → coreObject.Object
+abbrev pub objectOf : CObject → coreObject.Object
 objectOf o = record {
-  class = classOf (o .class);
-  kind = kindOf (o .kind);
+  class = objectClassOf (o .class);
+  kind = fileKindOf (o .kind);
   present = record { label = Flag.decodedOf (o .«has_label»); tuple = Flag.decodedOf (o .«has_tuple») };
   label = o .label;
   tuple = o .tuple;
 }
 
-abbrev pub requestOf : Caller → Credentials → Object → ℕ → ℕ → coreRequest.Request
-requestOf k c o intents attribute = record {
+abbrev pub monitorRequest : CCaller → CCredentials → CObject → ℕ → ℕ → coreRequest.Request
+monitorRequest k c o intents attribute = record {
   credentials = credentialsOf c;
   object = objectOf o;
   intents = intents;

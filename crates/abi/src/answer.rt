@@ -1,25 +1,25 @@
 // Answers. A grant and a refusal are told apart by `refusal`, which no grant has and no refusal lacks, and a refusal that carries one more number
 // from one that does not by `carries`.
 use crate::entry;
-use crate::entry::Entry;
+use crate::entry::CEntry;
+use common::answer::Number;
+use common::answer::Outcome;
+use common::answer::Test;
+use common::answer::Written;
+use common::errno;
+use common::errno::Carried;
+use common::errno::Errno;
 use hexline::Kind;
 use label::Label;
 use label::Next;
-use label::answer::Number;
-use label::answer::Outcome;
-use label::answer::Test;
-use label::answer::Written;
-use label::errno;
-use label::errno::Carried;
-use label::errno::Errno;
 use label::words::WORDS;
 use monitor::Decision;
 use range::Range;
 use range::tuple::Tuple;
 ghost use mathlib.Core.Path.{_≡_};
-ghost use Rattle.label.specs.Answer.{numberAnswerOf, outcomeOf, testOf};
-ghost use Rattle.label.specs.Buffer.{writtenOf};
-ghost use Rattle.label.specs.Errno.{carriedOf};
+ghost use Rattle.common.specs.Answer.{numberAnswerOf, outcomeOf, testOf};
+ghost use Rattle.common.specs.Buffer.{writtenOf};
+ghost use Rattle.common.specs.Errno.{carriedOf};
 ghost use Rattle.label.specs.Label.{nextAnswerOf};
 ghost use Rattle.hexline.specs.Line.{kindAnswerOf};
 ghost use Rattle.monitor.specs.Monitor.{decisionOf};
@@ -28,47 +28,47 @@ ghost use Rattle.abi.specs.Answer.{entryAnswer, grant, nextNumber, numbe
 // A refusal's number, or 0 for a grant; whether a refusal carries one more number, 1 or 0; and the number that a grant answers or a refusal
 // carries, else 0.
 #[repr(C)]
-pub struct Answer {
+pub struct CAnswer {
     pub refusal: u32,
     pub carries: u32,
     pub value: u64,
 }
 
 #[repr(C)]
-pub struct LabelAnswer {
-    pub answer: Answer,
+pub struct CLabelAnswer {
+    pub answer: CAnswer,
     pub label: Label,
 }
 
 #[repr(C)]
-pub struct RangeAnswer {
-    pub answer: Answer,
+pub struct CRangeAnswer {
+    pub answer: CAnswer,
     pub range: Range,
 }
 
 #[repr(C)]
-pub struct TupleAnswer {
-    pub answer: Answer,
+pub struct CTupleAnswer {
+    pub answer: CAnswer,
     pub tuple: Tuple,
 }
 
 #[repr(C)]
-pub struct EntryAnswer {
-    pub answer: Answer,
-    pub entry: Entry,
+pub struct CEntryAnswer {
+    pub answer: CAnswer,
+    pub entry: CEntry,
 }
 
 // The status of a range that was written, beside the length.
 #[repr(C)]
-pub struct RangeWritten {
-    pub answer: Answer,
+pub struct CRangeWritten {
+    pub answer: CAnswer,
     pub status: u64,
 }
 
-pub fn granted(value: u64) -> Answer
+pub fn granted(value: u64) -> CAnswer
     ensures { λ r. ⌜ r ≡ grant value ⌝ }
 {
-    Answer {
+    CAnswer {
         refusal: 0,
         carries: 0,
         value,
@@ -76,16 +76,16 @@ pub fn granted(value: u64) -> Answer
 }
 
 // A refusal of a number, and of what it carries.
-fn refusal_of(number: u8, c: Carried) -> Answer
+fn refusal_of(number: u8, c: Carried) -> CAnswer
     ensures { λ r. ⌜ r ≡ refusal number (carriedOf c) ⌝ }
 {
     match c {
-        Carried::Number(n) => Answer {
+        Carried::Number(n) => CAnswer {
             refusal: number as u32,
             carries: 1,
             value: n as u64,
         },
-        Carried::Nothing => Answer {
+        Carried::Nothing => CAnswer {
             refusal: number as u32,
             carries: 0,
             value: 0,
@@ -93,13 +93,13 @@ fn refusal_of(number: u8, c: Carried) -> Answer
     }
 }
 
-pub fn refused(e: Errno) -> Answer
+pub fn refused(e: Errno) -> CAnswer
     ensures { λ r. ⌜ r ≡ refusalBy e ⌝ }
 {
     refusal_of(errno::number(e), errno::detail(e))
 }
 
-pub fn of_test(t: Test) -> Answer
+pub fn of_test(t: Test) -> CAnswer
     ensures { λ r. ⌜ r ≡ testAnswer (testOf t) ⌝ }
 {
     match t {
@@ -113,7 +113,7 @@ pub fn of_test(t: Test) -> Answer
     }
 }
 
-pub fn of_number(n: Number) -> Answer
+pub fn of_number(n: Number) -> CAnswer
     ensures { λ r. ⌜ r ≡ numberAnswer (numberAnswerOf n) ⌝ }
 {
     match n {
@@ -123,7 +123,7 @@ pub fn of_number(n: Number) -> Answer
 }
 
 // The least category at or above a number; where there is none, the number of categories, which is none of them.
-pub fn of_next(n: Next) -> Answer
+pub fn of_next(n: Next) -> CAnswer
     ensures { λ r. ⌜ r ≡ numbered nextNumber (nextAnswerOf n) ⌝ }
 {
     match n {
@@ -133,7 +133,7 @@ pub fn of_next(n: Next) -> Answer
     }
 }
 
-pub fn of_written(w: Written) -> Answer
+pub fn of_written(w: Written) -> CAnswer
     ensures { λ r. ⌜ r ≡ numberAnswer (writtenOf w) ⌝ }
 {
     match w {
@@ -142,7 +142,7 @@ pub fn of_written(w: Written) -> Answer
     }
 }
 
-pub fn of_kind(k: Kind) -> Answer
+pub fn of_kind(k: Kind) -> CAnswer
     ensures { λ r. ⌜ r ≡ numberAnswer (kindAnswerOf k) ⌝ }
 {
     match k {
@@ -154,7 +154,7 @@ pub fn of_kind(k: Kind) -> Answer
     }
 }
 
-pub fn of_decision(d: Decision) -> Answer
+pub fn of_decision(d: Decision) -> CAnswer
     ensures { λ r. ⌜ r ≡ numberAnswer (decisionOf d) ⌝ }
 {
     match d {
@@ -165,7 +165,7 @@ pub fn of_decision(d: Decision) -> Answer
 }
 
 // An outcome that answers no number, or the number that stands beside it.
-pub fn of_outcome(o: Outcome, value: u64) -> Answer
+pub fn of_outcome(o: Outcome, value: u64) -> CAnswer
     ensures { λ r. ⌜ r ≡ outcomeAnswer o value ⌝ }
 {
     match o {
@@ -174,53 +174,53 @@ pub fn of_outcome(o: Outcome, value: u64) -> Answer
     }
 }
 
-pub fn of_label(o: Outcome, label: Label) -> LabelAnswer
+pub fn of_label(o: Outcome, label: Label) -> CLabelAnswer
     ensures { λ r. ⌜ r ≡ withLabel (outcomeAnswer o 0) label ⌝ }
 {
-    LabelAnswer {
+    CLabelAnswer {
         answer: of_outcome(o, 0),
         label,
     }
 }
 
-pub fn of_range(o: Outcome, range: Range) -> RangeAnswer
+pub fn of_range(o: Outcome, range: Range) -> CRangeAnswer
     ensures { λ r. ⌜ r ≡ withRange (outcomeAnswer o 0) range ⌝ }
 {
-    RangeAnswer {
+    CRangeAnswer {
         answer: of_outcome(o, 0),
         range,
     }
 }
 
-pub fn of_tuple(o: Outcome, t: Tuple) -> TupleAnswer
+pub fn of_tuple(o: Outcome, t: Tuple) -> CTupleAnswer
     ensures { λ r. ⌜ r ≡ withTuple (outcomeAnswer o 0) t ⌝ }
 {
-    TupleAnswer {
+    CTupleAnswer {
         answer: of_outcome(o, 0),
         tuple: t,
     }
 }
 
-pub fn of_entry(o: Outcome, e: hexline::entry::Entry) -> EntryAnswer
+pub fn of_entry(o: Outcome, e: hexline::entry::Entry) -> CEntryAnswer
     ensures { λ r. ⌜ r ≡ entryAnswer (outcomeOf o e) ⌝ }
 {
     match o {
-        Outcome::Granted => EntryAnswer {
+        Outcome::Granted => CEntryAnswer {
             answer: granted(0),
             entry: entry::encode(e),
         },
-        Outcome::Refused(x) => EntryAnswer {
+        Outcome::Refused(x) => CEntryAnswer {
             answer: refused(x),
             entry: entry::zero(),
         },
     }
 }
 
-pub fn of_range_written(w: text::RangeWritten) -> RangeWritten
+pub fn of_range_written(w: text::RangeWritten) -> CRangeWritten
     ensures { λ r. ⌜ r ≡ rangeWritten w ⌝ }
 {
     let written = w.written;
-    RangeWritten {
+    CRangeWritten {
         answer: of_written(written),
         status: w.status as u64,
     }

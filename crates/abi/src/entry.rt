@@ -6,10 +6,10 @@ use hexline::entry::Value;
 use label::Label;
 ghost use mathlib.Core.Path.{_≡_};
 ghost use mathlib.Core.Bool.{true};
-ghost use Rattle.abi.specs.Entry.{classOf, decodedOf, encodedOf, formedOf, numberOf, valueOf, zeros};
+ghost use Rattle.abi.specs.Entry.{namedClass, decodedOf, encodedOf, formedOf, valueNumber, namedValue, zeroCEntry};
 
 #[repr(C)]
-pub struct Entry {
+pub struct CEntry {
     pub names: u64,
     pub number: u64,
     pub label: Label,
@@ -18,14 +18,14 @@ pub struct Entry {
 }
 
 // Whether an entry names what can be named: a label has no number.
-pub fn formed(e: Entry) -> bool
+pub fn formed(e: CEntry) -> bool
     ensures { λ r. ⌜ r ≡ formedOf e ⌝ }
 {
     (e.names == 1) | (e.names == 2) | ((e.names == 3) & (e.number == 0))
 }
 
 fn value(names: u64, number: u64) -> Value
-    ensures { λ r. ⌜ r ≡ valueOf names number ⌝ }
+    ensures { λ r. ⌜ r ≡ namedValue names number ⌝ }
 {
     if names == 1 {
         return Value::Hierarchy(number);
@@ -36,7 +36,7 @@ fn value(names: u64, number: u64) -> Value
     Value::WholeLabel
 }
 
-pub fn decode(e: Entry) -> entry::Entry
+pub fn decode(e: CEntry) -> entry::Entry
     ensures { λ r. ⌜ r ≡ decodedOf e ⌝ }
 {
     let label = e.label;
@@ -51,7 +51,7 @@ pub fn decode(e: Entry) -> entry::Entry
 }
 
 fn class(v: Value) -> u64
-    ensures { λ r. ⌜ r ≡ classOf v ⌝ }
+    ensures { λ r. ⌜ r ≡ namedClass v ⌝ }
 {
     match v {
         Value::Hierarchy(_) => 1,
@@ -61,7 +61,7 @@ fn class(v: Value) -> u64
 }
 
 fn number(v: Value) -> u64
-    ensures { λ r. ⌜ r ≡ numberOf v ⌝ }
+    ensures { λ r. ⌜ r ≡ valueNumber v ⌝ }
 {
     match v {
         Value::Hierarchy(h) => h,
@@ -70,14 +70,14 @@ fn number(v: Value) -> u64
     }
 }
 
-pub fn encode(e: entry::Entry) -> Entry
+pub fn encode(e: entry::Entry) -> CEntry
     ensures { λ r. ⌜ r ≡ encodedOf e ⌝ }
 {
     let v = e.value;
     let label = e.label;
     let name = e.name;
     let abbreviation = e.abbreviation;
-    Entry {
+    CEntry {
         names: class(v),
         number: number(v),
         label,
@@ -87,14 +87,14 @@ pub fn encode(e: entry::Entry) -> Entry
 }
 
 // The entry of zeros: it names nothing.
-pub fn zero() -> Entry
-    ensures { λ r. ⌜ r ≡ zeros ⌝ }
+pub fn zero() -> CEntry
+    ensures { λ r. ⌜ r ≡ zeroCEntry ⌝ }
 {
     let none = entry::zero();
     let label = none.label;
     let name = none.name;
     let abbreviation = none.abbreviation;
-    Entry {
+    CEntry {
         names: 0,
         number: 0,
         label,

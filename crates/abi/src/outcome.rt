@@ -1,6 +1,6 @@
 // What a call on a state hands back.
 use crate::answer;
-use crate::answer::Answer;
+use crate::answer::CAnswer;
 use label::Label;
 use segments::Change;
 use segments::Reply;
@@ -17,13 +17,13 @@ ghost use Rattle.abi.specs.Outcome.{appliedTo, handedBack, replyAnswer, 
 
 // The state that a call leaves, its answer, and what a look shows: zeros beside any other.
 #[repr(C)]
-pub struct Outcome {
+pub struct COutcome {
     pub state: SegmentTable,
-    pub answer: Answer,
+    pub answer: CAnswer,
     pub shown: Segment,
 }
 
-fn reply(r: Reply) -> Answer
+fn reply(r: Reply) -> CAnswer
     ensures { λ a. ⌜ a ≡ replyAnswer r ⌝ }
 {
     match r {
@@ -60,13 +60,13 @@ fn shown(r: Reply, label: Label) -> Segment
 }
 
 // What a call of the state hands back.
-pub fn hand_back(o: segments::Outcome) -> Outcome
+pub fn hand_back(o: segments::CallOutcome) -> COutcome
     ensures { λ r. ⌜ r ≡ handedBack o ⌝ }
 {
     let a = o.answer;
     let r = a.reply;
     let state = o.table;
-    Outcome {
+    COutcome {
         state,
         answer: reply(r),
         shown: shown(r, a.label),
@@ -84,20 +84,20 @@ fn with_segment(s: SegmentTable, p: Slot, x: Segment) -> SegmentTable
 }
 
 // What a call hands back that changes the state so; no slot that is not there is changed.
-pub fn apply(state: SegmentTable, change: Change) -> Outcome
+pub fn apply(state: SegmentTable, change: Change) -> COutcome
     ensures { λ r. ⌜ r ≡ appliedTo state change ⌝ }
     ensures { λ r. ⌜ (change .slot .0 < core.slots → r ≡ handedBack (applied state change)) ⌝ }
 {
     let a = change.answer;
     let r = a.reply;
     if segments::refuses(r) | (SLOTS as u64 <= change.slot.0) {
-        return Outcome {
+        return COutcome {
             state,
             answer: reply(r),
             shown: shown(r, a.label),
         };
     }
-    Outcome {
+    COutcome {
         state: with_segment(state, change.slot, change.segment),
         answer: reply(r),
         shown: shown(r, a.label),

@@ -9,7 +9,7 @@ ghost use mathlib.Core.Path.{_≡_};
 ghost use Rattle.abi.specs.Request.{credentialsFormed, credentialsOf, objectFormed, objectOf};
 
 #[repr(C)]
-pub struct Credentials {
+pub struct CCredentials {
     pub label: Label,
     pub range: Range,
     pub read_override: u64,
@@ -19,7 +19,7 @@ pub struct Credentials {
 
 // Class: 0 file, 1 fifo, 2 process, 3 message queue, 4 shared memory, 5 semaphore. Kind: 0 regular, 1 directory, 2 other; it counts for a file.
 #[repr(C)]
-pub struct Object {
+pub struct CObject {
     pub class: u64,
     pub kind: u64,
     pub has_label: u64,
@@ -28,13 +28,13 @@ pub struct Object {
     pub tuple: Tuple,
 }
 
-pub fn credentials_formed(c: Credentials) -> bool
+pub fn credentials_formed(c: CCredentials) -> bool
     ensures { λ r. ⌜ r ≡ credentialsFormed c ⌝ }
 {
     (c.read_override <= 1) & (c.write_override <= 1) & (c.relabel <= 1)
 }
 
-pub fn decode_credentials(c: Credentials) -> monitor::Credentials
+pub fn decode_credentials(c: CCredentials) -> monitor::Credentials
     ensures { λ r. ⌜ r ≡ credentialsOf c ⌝ }
 {
     let label = c.label;
@@ -51,13 +51,13 @@ pub fn decode_credentials(c: Credentials) -> monitor::Credentials
 }
 
 // Whether the class, the kind of a file, and the flags are some that there are.
-pub fn object_formed(o: Object) -> bool
+pub fn object_formed(o: CObject) -> bool
     ensures { λ r. ⌜ r ≡ objectFormed o ⌝ }
 {
     (o.class <= 5) & ((o.class != 0) | (o.kind <= 2)) & (o.has_label <= 1) & (o.has_tuple <= 1)
 }
 
-pub fn decode_object(o: Object) -> monitor::Object
+pub fn decode_object(o: CObject) -> monitor::Object
     ensures { λ r. ⌜ r ≡ objectOf o ⌝ }
 {
     let label = o.label;

@@ -1,4 +1,4 @@
-pub mod KeyLaws
+pub mod HashLaws
 pub mod LinesLaws
 pub mod LookupLaws
 pub mod TableLaws

@@ -1,4 +1,4 @@
--- The laws of lines: the first of them and the rest, where they begin, and that cutting by their starts gives them back. Assumes nothing.
+-- The laws of lines: the first of them and the rest, where they begin, and that cutting by their starts gives them back.
 use mathlib.Core.Bool.{Bool, true, false, cond}
 use mathlib.Core.List.{List, [], _∷_, flatten}
 use mathlib.Core.Logic.{⊎-elim}
@@ -11,12 +11,12 @@ use lib.Dec.{eqb}
 use lib.ListN.{drop, getD, length, replicate, set, take, drop-of-length-le, length-drop, length-set, length-take, take-append-drop}
 use lib.Seq.{drop-drop, getD-drop, getD-set-other, getD-set-same, getD-take, length-take-le, take-length}
 use borrow.Author.Tests.{le-leb, lt-leb}
-use Rattle.label.proofs.IndexLaws.{le-or-lt, tabulate-at, tabulate-is, tabulate-length, tabulate-one}
-use Rattle.label.proofs.SearchLaws.{same-or-not}
+use Rattle.common.proofs.IndexLaws.{le-or-lt, tabulate-at, tabulate-is, tabulate-length, tabulate-one}
+use Rattle.common.proofs.SearchLaws.{same-or-not}
 use Rattle.octets.specs.Bytes.{indexOf, lf}
 use Rattle.octets.proofs.ByteLaws.{index-append}
-use Rattle.alias.specs.Lines.{bytesBefore, indexedOf, lineAt, linesBy, linesOf, maxLines, partAt, startFirst, startOf}
-use Rattle.alias.specs.Walk.{firstLength, lineEnd}
+use Rattle.alias.specs.Lines.{bytesBefore, indexedOf, lineAt, linesBy, linesOf, maxLines, partAt, startFirst, lineStart}
+use Rattle.alias.specs.Internal.Walk.{firstLength, lineEnd}
 
 -- ---- the first line, and the rest
 
@@ -150,30 +150,30 @@ module _ (bytes : List ℕ) (k at : ℕ) (begins : at ≡ bytesBefore (linesOf b
 
 -- ---- the starts of lines
 
-start-in : (ls : List (List ℕ)) (k : ℕ) → k ≤ length ls → startOf ls k ≡ bytesBefore ls k
-unfolding startOf
+start-in : (ls : List (List ℕ)) (k : ℕ) → k ≤ length ls → lineStart ls k ≡ bytesBefore ls k
+unfolding lineStart
 start-in ls k h = rw (le-leb k (length ls) h)
 
-start-out : (ls : List (List ℕ)) (k : ℕ) → length ls < k → startOf ls k ≡ 0
-unfolding startOf
+start-out : (ls : List (List ℕ)) (k : ℕ) → length ls < k → lineStart ls k ≡ 0
+unfolding lineStart
 start-out ls k h = rw (lt-leb k (length ls) h)
 
 -- of the first m lines
-start-of-first : (ls : List (List ℕ)) (m k : ℕ) → k ≤ m → m ≤ length ls → startOf (take m ls) k ≡ bytesBefore ls k
+start-of-first : (ls : List (List ℕ)) (m k : ℕ) → k ≤ m → m ≤ length ls → lineStart (take m ls) k ≡ bytesBefore ls k
 start-of-first ls m k h l = let e = length-take-le m ls l in start-in (take m ls) k (omega arith) ∙ before-take ls m k h
 
 pub starts-none : replicate (maxLines + 1) 0 ≡ indexedOf [] .starts
-unfolding startOf bytesBefore
-starts-none = tabulate-one (startOf []) (maxLines + 1) 0 (λ i l. go i)
+unfolding lineStart bytesBefore
+starts-none = tabulate-one (lineStart []) (maxLines + 1) 0 (λ i l. go i)
   where
-    go : (i : ℕ) → startOf [] i ≡ 0
+    go : (i : ℕ) → lineStart [] i ≡ 0
     go zero = refl
     go (suc i) = start-out [] (suc i) (omega arith)
 
 -- one line more
 pub starts-next : (ls : List (List ℕ)) (k : ℕ) → k < length ls → k < maxLines
     → set (indexedOf (take k ls) .starts) (k + 1) (bytesBefore ls (k + 1)) ≡ indexedOf (take (k + 1) ls) .starts
-starts-next ls k h m = tabulate-is (startOf (take (k + 1) ls)) (set xs (k + 1) v) (maxLines + 1) 0 (length-set xs (k + 1) v ∙ size) at-index
+starts-next ls k h m = tabulate-is (lineStart (take (k + 1) ls)) (set xs (k + 1) v) (maxLines + 1) 0 (length-set xs (k + 1) v ∙ size) at-index
   where
     xs : List ℕ
     xs = indexedOf (take k ls) .starts
@@ -182,9 +182,9 @@ starts-next ls k h m = tabulate-is (startOf (take (k + 1) ls)) (set xs (k + 1) v
     v = bytesBefore ls (k + 1)
 
     size : length xs ≡ maxLines + 1
-    size = tabulate-length (startOf (take k ls)) (maxLines + 1)
+    size = tabulate-length (lineStart (take k ls)) (maxLines + 1)
 
-    same : (i : ℕ) → (i ≡ k + 1 → ⊥) → startOf (take k ls) i ≡ startOf (take (k + 1) ls) i
+    same : (i : ℕ) → (i ≡ k + 1 → ⊥) → lineStart (take k ls) i ≡ lineStart (take (k + 1) ls) i
     same i ne =
         ⊎-elim
         (λ (l : i ≤ k). start-of-first ls k i l (omega arith) ∙ sym (start-of-first ls (k + 1) i (omega arith) (omega arith)))
@@ -194,12 +194,12 @@ starts-next ls k h m = tabulate-is (startOf (take (k + 1) ls)) (set xs (k + 1) v
         start-out (take k ls) i (omega arith) ∙ sym (start-out (take (k + 1) ls) i (omega (arith, ne))))
         (le-or-lt i k)
 
-    at-index : (i : ℕ) → i < maxLines + 1 → getD (set xs (k + 1) v) i 0 ≡ startOf (take (k + 1) ls) i
+    at-index : (i : ℕ) → i < maxLines + 1 → getD (set xs (k + 1) v) i 0 ≡ lineStart (take (k + 1) ls) i
     at-index i l =
         let s = size in
         ⊎-elim
         (λ (e : i ≡ k + 1). rw e (getD-set-same xs (k + 1) v 0 (omega arith) ∙ sym (start-of-first ls (k + 1) (k + 1) (omega arith) (omega arith))))
-        (λ (ne : i ≡ k + 1 → ⊥). getD-set-other xs (k + 1) i v 0 ne ∙ tabulate-at (startOf (take k ls)) (maxLines + 1) i 0 l ∙ same i ne)
+        (λ (ne : i ≡ k + 1 → ⊥). getD-set-other xs (k + 1) i v 0 ne ∙ tabulate-at (lineStart (take k ls)) (maxLines + 1) i 0 l ∙ same i ne)
         (same-or-not i (k + 1))
 
 -- the first k lines, cut by their starts
@@ -224,7 +224,7 @@ first-lines-by-starts bytes k h =
     starts = take (length ms + 1) all-starts
 
     size : length starts ≡ length ms + 1
-    size = let t = tabulate-length (startOf ms) (maxLines + 1) in length-take-le (length ms + 1) all-starts (omega arith)
+    size = let t = tabulate-length (lineStart ms) (maxLines + 1) in length-take-le (length ms + 1) all-starts (omega arith)
 
     few : (length ms ≤ k) × (length ms ≤ length ls)
     few = let t = length-take k ls in (omega arith, omega arith)
@@ -232,7 +232,7 @@ first-lines-by-starts bytes k h =
     start : (i : ℕ) → i ≤ length ms → getD starts i 0 ≡ bytesBefore ls i
     start i l =
         let f = few in
-        getD-take (length ms + 1) all-starts i 0 (omega arith) ∙ tabulate-at (startOf ms) (maxLines + 1) i 0 (omega arith) ∙ start-in ms i l
+        getD-take (length ms + 1) all-starts i 0 (omega arith) ∙ tabulate-at (lineStart ms) (maxLines + 1) i 0 (omega arith) ∙ start-in ms i l
         ∙ before-take ls k i (omega arith)
 
     begun-line : (i : ℕ) → i < length ls → bytesBefore ls i < length bytes

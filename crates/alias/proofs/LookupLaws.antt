@@ -1,4 +1,4 @@
--- What the loops over a table's lines and over the bytes of names need of the definitions. Assumes nothing.
+-- What the loops over a table's lines and over the bytes of names need of the definitions.
 use mathlib.Core.Bool.{Bool, false, true, cond, _&&_, _||_}
 use mathlib.Core.List.{List, [], _∷_}
 use mathlib.Core.Option.{some}
@@ -9,10 +9,10 @@ use native.Mathlib.Omega.{arith}
 use denote.Enum.Declared.{tagOf}
 use lib.Dec.{leb}
 use lib.ListN.{drop, getD, length, length-map, List·getD-eq-default}
-use Rattle.label.specs.Index.{firstFrom, lastBelow}
+use Rattle.common.specs.Index.{firstFrom, lastBelow}
 use Rattle.label.specs.declared.Label.{Label}
-use Rattle.label.proofs.IndexLaws.{tabulate-at, tabulate-length}
-use Rattle.label.proofs.SearchLaws.{search-hit, search-pass}
+use Rattle.common.proofs.IndexLaws.{tabulate-at, tabulate-length}
+use Rattle.common.proofs.SearchLaws.{search-hit, search-pass}
 use Rattle.octets.specs.Bytes.{sameBytes}
 use Rattle.octets.proofs.ByteLaws.{lengths-differ, same-end, same-pass, same-stop}
 use Rattle.frame.specs.Frame.{bodyOf}

@@ -1,5 +1,5 @@
 -- The laws of a table that was tested: its lines are those that the starts give, its entries are good, and a text names one of them at most.
--- Assumes nothing.
+--
 use mathlib.Core.Bool.{Bool, true, false, cond, true≢false}
 use mathlib.Core.List.{List, [], _∷_, append-nil}
 use mathlib.Core.Logic.{_⊎_, inl, inr, ⊎-elim}
@@ -12,23 +12,23 @@ use lib.Dec.{leb}
 use lib.ListN.{length, take, length-append, length-map, List·getD-append}
 use lib.Seq.{getD-at}
 use borrow.Author.Tests.{leb-false, not-false}
-use Rattle.label.specs.Answer.{granted, isGranted}
-use Rattle.label.proofs.AnswerLaws.{grants-same}
-use Rattle.label.proofs.BoolLaws.{both, either, first-true, neither, or-first, or-second, second-true}
-use Rattle.label.proofs.IndexLaws.{le-or-lt}
-use Rattle.label.proofs.SearchLaws.{first-none, none-of}
+use Rattle.common.specs.Answer.{granted, isGranted}
+use Rattle.common.proofs.AnswerLaws.{grants-same}
+use Rattle.common.proofs.BoolLaws.{both, either, first-true, neither, or-first, or-second, second-true}
+use Rattle.common.proofs.IndexLaws.{le-or-lt}
+use Rattle.common.proofs.SearchLaws.{first-none, none-of}
 use Rattle.octets.specs.Bytes.{sameBytes}
 use Rattle.octets.proofs.ByteLaws.{same-is}
 use Rattle.frame.specs.Frame.{framedOf, spelledOf}
 use Rattle.hexline.specs.Entry
 use Rattle.hexline.specs.Entry.{TypedEntry, abbreviationBytes, nameBytes}
-use Rattle.hexline.specs.Line.{readEntryOf, standingIn}
+use Rattle.hexline.specs.Line.{readEntryLine, standingIn}
 use Rattle.hexline.specs.declared.entry.Entry.{Entry}
 use Rattle.hexline.proofs.StandingLaws.{entry-standing, standing-read, standing-typed}
 use Rattle.alias.specs.Lines.{entriesOf, entryAt, indexedOf, lineAt, linesBy, linesOf, maxLines}
 use Rattle.alias.specs.Lookup.{calledOf}
-use Rattle.alias.specs.Table.{badAt, checkOf, judgedOf, repeatsAt, sharesOf, verdictOf}
-use Rattle.alias.specs.Walk.{faultyAt, faultyOf}
+use Rattle.alias.specs.Table.{badAt, checkTable, judgedLines, repeatsAt, sharesOf, verdictOf}
+use Rattle.alias.specs.Internal.Walk.{faultyAt, faultyOf}
 use Rattle.alias.specs.declared.LineStarts.{LineStarts}
 use Rattle.alias.proofs.LinesLaws.{lines-by-starts}
 use Rattle.alias.proofs.LookupLaws.{entry-of}
@@ -36,31 +36,31 @@ use Rattle.alias.proofs.LookupLaws.{entry-of}
 -- ---- the lines to be judged
 
 -- a line of no bytes is not accepted
-no-bytes : isGranted (readEntryOf []) ≡ false
+no-bytes : isGranted (readEntryLine []) ≡ false
 unfolding framedOf spelledOf
 no-bytes = refl
 
 module _ (more : Bool) (bytes : List ℕ) where
-  judged-at : (k : ℕ) → k < length (linesOf bytes) → lineAt (judgedOf more bytes) k ≡ lineAt (linesOf bytes) k
-  unfolding judgedOf
+  judged-at : (k : ℕ) → k < length (linesOf bytes) → lineAt (judgedLines more bytes) k ≡ lineAt (linesOf bytes) k
+  unfolding judgedLines
   judged-at k h = List·getD-append (linesOf bytes) (cond more ([] ∷ []) []) [] k h
 
-  pub judged-faulty : (k : ℕ) → k < length (linesOf bytes) → faultyAt (judgedOf more bytes) k ≡ faultyAt (linesOf bytes) k
+  pub judged-faulty : (k : ℕ) → k < length (linesOf bytes) → faultyAt (judgedLines more bytes) k ≡ faultyAt (linesOf bytes) k
   judged-faulty k h = rw (judged-at k h)
 
-  pub judged-longer : length (linesOf bytes) ≤ length (judgedOf more bytes)
-  unfolding judgedOf
+  pub judged-longer : length (linesOf bytes) ≤ length (judgedLines more bytes)
+  unfolding judgedLines
   judged-longer = simp length-append (omega arith)
 
 -- a table that is cut off has one line more, which is bad
-pub judged-cut-off : (bytes : List ℕ) → (length (judgedOf true bytes) ≡ length (linesOf bytes) + 1) × (faultyAt (judgedOf true bytes) (length (linesOf bytes)) ≡ true)
-unfolding judgedOf faultyOf
+pub judged-cut-off : (bytes : List ℕ) → (length (judgedLines true bytes) ≡ length (linesOf bytes) + 1) × (faultyAt (judgedLines true bytes) (length (linesOf bytes)) ≡ true)
+unfolding judgedLines faultyOf
 judged-cut-off bytes =
     let n = length (linesOf bytes) in
     (length-append (linesOf bytes) ([] ∷ []), rw (getD-at (linesOf bytes) [] [] [] n refl, no-bytes) (or-second (leb maxLines n) refl))
 
-pub judged-whole : (bytes : List ℕ) → judgedOf false bytes ≡ linesOf bytes
-unfolding judgedOf
+pub judged-whole : (bytes : List ℕ) → judgedLines false bytes ≡ linesOf bytes
+unfolding judgedLines
 judged-whole bytes = append-nil (linesOf bytes)
 
 -- ---- lines that are not bad
@@ -71,9 +71,9 @@ unfolding faultyOf
 faulty-few k line e = leb-false maxLines k (neither _ _ e .0)
 
 -- and is an entry
-faulty-read : (k : ℕ) (line : List ℕ) → faultyOf k line ≡ false → isGranted (readEntryOf line) ≡ true
+faulty-read : (k : ℕ) (line : List ℕ) → faultyOf k line ≡ false → isGranted (readEntryLine line) ≡ true
 unfolding faultyOf
-faulty-read k line e = not-false (isGranted (readEntryOf line)) (neither (leb maxLines k) _ e .1)
+faulty-read k line e = not-false (isGranted (readEntryLine line)) (neither (leb maxLines k) _ e .1)
 
 -- a table has few lines, where none of them is bad by itself
 pub good-few : (ls : List (List ℕ)) (n : ℕ) → ((k : ℕ) → k < n → faultyAt ls k ≡ false) → n ≤ maxLines
@@ -94,28 +94,28 @@ verdict-none : (o : Option ℕ) (x y : LineStarts) → verdictOf o y ≡ granted
 verdict-none none x y e = (refl, sym (grants-same y x e))
 verdict-none (some k) x y e = absurd (true≢false (sym (ap isGranted e)))
 
-none-bad : (more : Bool) (bytes : List ℕ) (x : LineStarts) → checkOf more bytes ≡ granted x
-    → (x ≡ indexedOf (linesOf bytes)) × ((k : ℕ) → k < length (judgedOf more bytes) → badAt (judgedOf more bytes) k ≡ false)
-unfolding checkOf
+none-bad : (more : Bool) (bytes : List ℕ) (x : LineStarts) → checkTable more bytes ≡ granted x
+    → (x ≡ indexedOf (linesOf bytes)) × ((k : ℕ) → k < length (judgedLines more bytes) → badAt (judgedLines more bytes) k ≡ false)
+unfolding checkTable
 none-bad more bytes x e =
     let v = verdict-none _ x (indexedOf (linesOf bytes)) e in
-    (v .1, λ k h. first-none (badAt (judgedOf more bytes)) 0 (length (judgedOf more bytes)) (v .0) k (omega arith) (omega arith))
+    (v .1, λ k h. first-none (badAt (judgedLines more bytes)) 0 (length (judgedLines more bytes)) (v .0) k (omega arith) (omega arith))
 
-all-good : (more : Bool) (bytes : List ℕ) (x : LineStarts) → checkOf more bytes ≡ granted x → (k : ℕ) → k < length (linesOf bytes) → badAt (linesOf bytes) k ≡ false
+all-good : (more : Bool) (bytes : List ℕ) (x : LineStarts) → checkTable more bytes ≡ granted x → (k : ℕ) → k < length (linesOf bytes) → badAt (linesOf bytes) k ≡ false
 all-good true bytes x e k h =
     let j = judged-cut-off bytes in
     let b = none-bad true bytes x e .1 (length (linesOf bytes)) (omega arith) in
-    absurd (true≢false (sym (j .1) ∙ not-bad (judgedOf true bytes) (length (linesOf bytes)) b .0))
+    absurd (true≢false (sym (j .1) ∙ not-bad (judgedLines true bytes) (length (linesOf bytes)) b .0))
 all-good false bytes x e k h = rw judged-whole at (none-bad false bytes x e .1 k (rw judged-whole h))
 
-pub checked-small : (more : Bool) (bytes : List ℕ) (x : LineStarts) → checkOf more bytes ≡ granted x → (x .count ≤ maxLines) × (x ≡ indexedOf (linesOf bytes))
+pub checked-small : (more : Bool) (bytes : List ℕ) (x : LineStarts) → checkTable more bytes ≡ granted x → (x .count ≤ maxLines) × (x ≡ indexedOf (linesOf bytes))
 checked-small more bytes x e =
     let i = none-bad more bytes x e .0 in
     let c = ap (λ (y : LineStarts). y .count) i in
     let few = good-few (linesOf bytes) (length (linesOf bytes)) (λ k h. not-bad (linesOf bytes) k (all-good more bytes x e k h) .0) in
     (omega arith, i)
 
-pub checked-lines : (more : Bool) (bytes : List ℕ) (x : LineStarts) → checkOf more bytes ≡ granted x
+pub checked-lines : (more : Bool) (bytes : List ℕ) (x : LineStarts) → checkTable more bytes ≡ granted x
     → linesBy bytes (take (x .count + 1) (x .starts)) ≡ linesOf bytes
 checked-lines more bytes x e =
     let s = checked-small more bytes x e in
@@ -134,7 +134,7 @@ pub entries-length : (ls : List (List ℕ)) → length (entriesOf ls) ≡ length
 unfolding entriesOf
 entries-length ls = length-map ls standingIn
 
-pub checked-good : (more : Bool) (bytes : List ℕ) (x : LineStarts) → checkOf more bytes ≡ granted x → Good (entriesOf (linesOf bytes))
+pub checked-good : (more : Bool) (bytes : List ℕ) (x : LineStarts) → checkTable more bytes ≡ granted x → Good (entriesOf (linesOf bytes))
 checked-good more bytes x e =
     let ls = linesOf bytes in
     let n = entries-length ls in

@@ -1,4 +1,4 @@
--- The laws of a walk over the lines of a table, and what the test of the table makes of it. Assumes nothing.
+-- The laws of a walk over the lines of a table, and what the test of the table makes of it.
 use mathlib.Core.Bool.{Bool, true, false, cond, _||_, true≢false}
 use mathlib.Core.List.{List, [], _∷_, _++_, append-assoc, map, map-append}
 use mathlib.Core.Option.{none, some}
@@ -9,20 +9,20 @@ use native.Mathlib.Omega.{arith}
 use lib.ListN.{drop, length, replicate, set, take, length-take, take-append-drop, List·getD-append}
 use lib.Seq.{getD-take, length-take-le, take-all}
 use borrow.Author.Count.{below-more}
-use Rattle.label.specs.Answer.{granted, refused}
-use Rattle.label.specs.Index.{firstFrom}
-use Rattle.label.proofs.SearchLaws.{any-same, first-either, first-same, orElse, search-end, search-hit}
+use Rattle.common.specs.Answer.{granted, refused}
+use Rattle.common.specs.Index.{firstFrom}
+use Rattle.common.proofs.SearchLaws.{any-same, first-either, first-same, orElse, search-end, search-hit}
 use Rattle.octets.specs.Bytes.{sameBytes}
 use Rattle.hexline.specs.Entry.{abbreviationBytes, nameBytes, zeroEntry}
 use Rattle.hexline.specs.Line.{standingIn}
 use Rattle.hexline.specs.declared.entry.Entry.{Entry}
-use Rattle.alias.specs.Keys.{KeysKept, keyed}
+use Rattle.alias.specs.Internal.Hash.{HashesKept, hashedCount}
 use Rattle.alias.specs.Lines.{bytesBefore, entriesBy, entriesOf, entryAt, indexedOf, linesBy, linesOf, maxLines}
-use Rattle.alias.specs.Table.{badAt, checkOf, firstRepeat, judgedOf, repeatsAt, sharesOf}
-use Rattle.alias.specs.Walk.{Walks, faultyAt, faultyOf, linesFrom}
+use Rattle.alias.specs.Table.{badAt, checkTable, firstRepeat, judgedLines, repeatsAt, sharesOf}
+use Rattle.alias.specs.Internal.Walk.{Walks, faultyAt, faultyOf, linesFrom}
 use Rattle.alias.specs.declared.LineStarts.{LineStarts}
 use Rattle.alias.proofs.LinesLaws.{LineHere, first-lines-by-starts, lines-end, starts-next, starts-none}
-use Rattle.alias.proofs.KeyLaws.{kept-same}
+use Rattle.alias.proofs.HashLaws.{kept-same}
 use Rattle.alias.proofs.LookupLaws.{entry-of, lines-length}
 use Rattle.alias.proofs.TableLaws.{entries-length, faulty-bad, faulty-few, good-few, judged-cut-off, judged-faulty, judged-longer, judged-whole}
 
@@ -42,7 +42,7 @@ module _ {bytes starts : List ℕ} {count at : ℕ} (s : Walking bytes starts co
   lines-held : _≡_ {A = LineStarts} (record { count = count; starts = starts }) (indexedOf (take count (linesOf bytes)))
   lines-held = let e = sym (length-take-le count (linesOf bytes) (s .counted)) in λ i. record { count = e i; starts = s .indexed i }
 
-  still-good : (more : Bool) (k : ℕ) → k < count → faultyAt (judgedOf more bytes) k ≡ false
+  still-good : (more : Bool) (k : ℕ) → k < count → faultyAt (judgedLines more bytes) k ≡ false
   still-good more k h = let c = s .counted in judged-faulty more bytes k (omega arith) ∙ s .good k h
 
   -- line count, which stands there, is tested
@@ -83,7 +83,7 @@ module _ {bytes starts : List ℕ} {count at : ℕ} (s : Walking bytes starts co
       record {
         lines-are = lines-held;
         good = still-good true;
-        first = λ t. (omega arith, ap (faultyAt (judgedOf true bytes)) e ∙ j .1);
+        first = λ t. (omega arith, ap (faultyAt (judgedLines true bytes)) e ∙ j .1);
         all = λ t. absurd (true≢false t);
       }
   walk-ends false l =
@@ -105,8 +105,8 @@ repeats-within es fs k h =
     (any-same _ _ k (λ j l. ap (λ (e : Entry). sharesOf e (entryAt es k)) (List·getD-append es fs zeroEntry j (omega arith)))))
 
 judged-repeats : (more : Bool) (bytes : List ℕ) (n k : ℕ) → k < length (take n (linesOf bytes))
-    → repeatsAt (entriesOf (judgedOf more bytes)) k ≡ repeatsAt (entriesOf (take n (linesOf bytes))) k
-unfolding judgedOf entriesOf
+    → repeatsAt (entriesOf (judgedLines more bytes)) k ≡ repeatsAt (entriesOf (take n (linesOf bytes))) k
+unfolding judgedLines entriesOf
 judged-repeats more bytes n k h =
     let ls = linesOf bytes in
     let ms = take n ls in
@@ -127,7 +127,7 @@ module _ {more : Bool} {bytes : List ℕ} {lines : LineStarts} {stopped : Bool} 
   within = let c = count-is in let t = length-take (lines .count) (linesOf bytes) in omega arith
 
   walk-few : lines .count ≤ maxLines
-  walk-few = good-few (judgedOf more bytes) (lines .count) (x .good)
+  walk-few = good-few (judgedLines more bytes) (lines .count) (x .good)
 
   lines-back : linesBy bytes (startsTo lines) ≡ take (lines .count) (linesOf bytes)
   lines-back =
@@ -138,31 +138,31 @@ module _ {more : Bool} {bytes : List ℕ} {lines : LineStarts} {stopped : Bool} 
       ∙ ap (λ (m : ℕ). linesBy bytes (take (m + 1) (indexedOf (take n (linesOf bytes)) .starts))) c
       ∙ first-lines-by-starts bytes n (omega arith)
 
-  -- the keys that are kept of the lines of the table are those of the lines of the walk
-  pub walk-keys : {names others : List ℕ} {unclear : Bool} → KeysKept (entriesOf (linesOf bytes)) (lines .count) names others unclear
-      → KeysKept (entriesBy bytes (startsTo lines)) (keyed (length (startsTo lines) - 1)) names others unclear
-  walk-keys k =
+  -- the hashes that are kept of the lines of the table are those of the lines of the walk
+  pub walk-hashes : {names others : List ℕ} {unclear : Bool} → HashesKept (entriesOf (linesOf bytes)) (lines .count) names others unclear
+      → HashesKept (entriesBy bytes (startsTo lines)) (hashedCount (length (startsTo lines) - 1)) names others unclear
+  walk-hashes k =
       let n = lines .count in
       let ls = linesOf bytes in
       let c = count-is in
       let w = within in
       let l = lines-length bytes (startsTo lines) in
-      let m : keyed (length (startsTo lines) - 1) ≡ n = omega (arith, walk-few, l, ap length lines-back) in
+      let m : hashedCount (length (startsTo lines) - 1) ≡ n = omega (arith, walk-few, l, ap length lines-back) in
       rw (m, lines-back)
       (kept-same (entriesOf ls) (entriesOf (take n ls)) n
       (λ j h. entry-of ls j (omega arith) ∙ ap standingIn (sym (getD-take n ls j [] h)) ∙ sym (entry-of (take n ls) j (omega arith))) k)
 
-  repeats : firstFrom (repeatsAt (entriesOf (judgedOf more bytes))) 0 (lines .count) ≡ firstRepeat (entriesBy bytes (startsTo lines))
+  repeats : firstFrom (repeatsAt (entriesOf (judgedLines more bytes))) 0 (lines .count) ≡ firstRepeat (entriesBy bytes (startsTo lines))
   unfolding firstRepeat
   repeats =
       let c = count-is in
       rw (lines-back, entries-length, ← c) (first-same _ _ 0 (lines .count) (λ j a b. judged-repeats more bytes (lines .count) j (omega arith)))
 
-  first-bad : firstFrom (badAt (judgedOf more bytes)) 0 (length (judgedOf more bytes))
-      ≡ orElse (firstRepeat (entriesBy bytes (startsTo lines))) (firstFrom (badAt (judgedOf more bytes)) (lines .count) (length (judgedOf more bytes) - lines .count))
+  first-bad : firstFrom (badAt (judgedLines more bytes)) 0 (length (judgedLines more bytes))
+      ≡ orElse (firstRepeat (entriesBy bytes (startsTo lines))) (firstFrom (badAt (judgedLines more bytes)) (lines .count) (length (judgedLines more bytes) - lines .count))
   unfolding badAt faultyOf
   first-bad =
-      let ls = judgedOf more bytes in
+      let ls = judgedLines more bytes in
       let n = lines .count in
       let i = within in
       let j = judged-longer more bytes in
@@ -171,21 +171,21 @@ module _ {more : Bool} {bytes : List ℕ} {lines : LineStarts} {stopped : Bool} 
       ∙ first-either (faultyAt ls) (repeatsAt (entriesOf ls)) 0 n (length ls - n) (λ j a b. x .good j (omega arith))
       ∙ rw (zero-add, repeats)
 
-  pub check-repeat : {k : ℕ} → some k ≡ firstRepeat (entriesBy bytes (startsTo lines)) → checkOf more bytes ≡ refused 22 (some k)
-  unfolding checkOf
+  pub check-repeat : {k : ℕ} → some k ≡ firstRepeat (entriesBy bytes (startsTo lines)) → checkTable more bytes ≡ refused 22 (some k)
+  unfolding checkTable
   check-repeat {k} e = rw (first-bad, ← e)
 
-  pub check-stopped : stopped ≡ true → none ≡ firstRepeat (entriesBy bytes (startsTo lines)) → checkOf more bytes ≡ refused 22 (some (lines .count))
-  unfolding checkOf
+  pub check-stopped : stopped ≡ true → none ≡ firstRepeat (entriesBy bytes (startsTo lines)) → checkTable more bytes ≡ refused 22 (some (lines .count))
+  unfolding checkTable
   check-stopped t e =
-      let ls = judgedOf more bytes in
+      let ls = judgedLines more bytes in
       let f = x .first t in
       rw (first-bad, ← e, search-hit (badAt ls) (lines .count) (length ls) (f .0) (faulty-bad ls (lines .count) (f .1)))
 
-  pub check-granted : stopped ≡ false → none ≡ firstRepeat (entriesBy bytes (startsTo lines)) → checkOf more bytes ≡ granted lines
-  unfolding checkOf
+  pub check-granted : stopped ≡ false → none ≡ firstRepeat (entriesBy bytes (startsTo lines)) → checkTable more bytes ≡ granted lines
+  unfolding checkTable
   check-granted t e =
       let a = x .all t in
       let j = judged-longer more bytes in
-      rw (first-bad, ← e, search-end (badAt (judgedOf more bytes)) (lines .count) (length (judgedOf more bytes)) (omega arith))
+      rw (first-bad, ← e, search-end (badAt (judgedLines more bytes)) (lines .count) (length (judgedLines more bytes)) (omega arith))
       (ap granted (ap indexedOf (sym (take-all (lines .count) (linesOf bytes) (omega arith))) ∙ sym (x .lines-are)))

@@ -1,5 +1,4 @@
-pub mod Keys
 pub mod Lines
 pub mod Lookup
 pub mod Table
-pub mod Walk
+pub mod Internal

@@ -1,10 +1,10 @@
--- Document 01, "Names and text": the lines of an alias table, and the entries in them. Assumes nothing.
+-- Document 01, "Names and text": the lines of an alias table, and the entries in them.
 use mathlib.Core.Bool.{cond}
 use mathlib.Core.List.{List, [], _∷_, map}
 use Prim.Native.Nat.{ℕ, zero, suc, _+_, _-_}
 use lib.Dec.{eqb, leb}
 use lib.ListN.{drop, getD, length, take}
-use Rattle.label.specs.Index.{tabulate}
+use Rattle.common.specs.Index.{tabulate}
 use Rattle.octets.specs.Bytes.{lf}
 use Rattle.hexline.specs.Entry.{zeroEntry}
 use Rattle.hexline.specs.Line.{standingIn}
@@ -44,11 +44,11 @@ bytesBefore [] (suc k) = 0
 bytesBefore (l ∷ ls) (suc k) = length l + bytesBefore ls k
 
 -- where line k begins, and for the number past the last line where that ends; zeros past these
-unfoldable pub startOf : List (List ℕ) → ℕ → ℕ
-startOf ls k = cond (leb k (length ls)) (bytesBefore ls k) 0
+unfoldable pub lineStart : List (List ℕ) → ℕ → ℕ
+lineStart ls k = cond (leb k (length ls)) (bytesBefore ls k) 0
 
 abbrev pub indexedOf : List (List ℕ) → LineStarts
-indexedOf ls = record { count = length ls; starts = tabulate (startOf ls) (maxLines + 1) }
+indexedOf ls = record { count = length ls; starts = tabulate (lineStart ls) (maxLines + 1) }
 
 -- what stands beside a refusal
 abbrev pub noLines : LineStarts

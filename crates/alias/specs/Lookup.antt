@@ -1,11 +1,11 @@
--- Document 01, "Names and text": the entry for a name, and the entries for a hierarchy, a category or a label. Assumes nothing.
+-- Document 01, "Names and text": the entry for a name, and the entries for a hierarchy, a category or a label.
 use mathlib.Core.Bool.{Bool, false, _&&_, _||_}
 use mathlib.Core.List.{List}
 use mathlib.Core.Option.{Option, none, some}
 use Prim.Native.Nat.{ℕ, _-_}
 use lib.Dec.{eqb, leb}
 use lib.ListN.{length}
-use Rattle.label.specs.Index.{firstFrom, lastBelow}
+use Rattle.common.specs.Index.{firstFrom, lastBelow}
 use Rattle.label.specs.Label
 use Rattle.label.specs.declared.Label.{Label}
 use Rattle.octets.specs.Bytes.{sameBytes}
@@ -14,13 +14,13 @@ use Rattle.hexline.specs.declared.entry.Entry.{Entry}
 use Rattle.hexline.specs.declared.entry.Value.{Value}
 use Rattle.hexline.specs.declared.entry.Value.the-variants.{Hierarchy, Category, WholeLabel}
 use Rattle.alias.specs.Lines.{entryAt}
-use Rattle.alias.specs.declared.Found.{Found}
-use Rattle.alias.specs.declared.Found.the-variants.{At, Nothing}
+use Rattle.alias.specs.declared.FoundEntry.{FoundEntry}
+use Rattle.alias.specs.declared.FoundEntry.the-variants.{At, Nothing}
 
 -- what the enum Found says
-abbrev pub foundOf : Found → Option ℕ
-foundOf (At k) = some k
-foundOf Nothing = none
+abbrev pub foundEntryOf : FoundEntry → Option ℕ
+foundEntryOf (At k) = some k
+foundEntryOf Nothing = none
 
 -- whether an entry has a name for its value: its name, or its abbreviation where that is not empty
 unfoldable pub calledOf : Entry → List ℕ → Bool
@@ -47,9 +47,9 @@ unfoldable pub findOf : List Entry → List ℕ → Option ℕ
 findOf es text = firstFrom (λ k. calledOf (entryAt es k) text) 0 (length es)
 
 -- from an entry on, the next that stands for a value
-unfoldable pub nextOf : List Entry → Value → Label → ℕ → Option ℕ
-nextOf es v l from = firstFrom (λ k. standsFor v l (entryAt es k)) from (length es - from)
+unfoldable pub nextEntryFor : List Entry → Value → Label → ℕ → Option ℕ
+nextEntryFor es v l from = firstFrom (λ k. standsFor v l (entryAt es k)) from (length es - from)
 
 -- the last that stands for a value
-unfoldable pub lastOf : List Entry → Value → Label → Option ℕ
-lastOf es v l = lastBelow (λ k. standsFor v l (entryAt es k)) (length es)
+unfoldable pub lastEntryFor : List Entry → Value → Label → Option ℕ
+lastEntryFor es v l = lastBelow (λ k. standsFor v l (entryAt es k)) (length es)

@@ -1,15 +1,15 @@
--- Document 01, "Names and text": which tables are good. Assumes nothing.
+-- Document 01, "Names and text": which tables are good.
 use mathlib.Core.Bool.{Bool, cond, not, _&&_, _||_}
 use mathlib.Core.List.{List, [], _∷_, _++_}
 use mathlib.Core.Option.{Option, none, some}
 use Prim.Native.Nat.{ℕ}
 use lib.Dec.{leb}
 use lib.ListN.{length}
-use Rattle.label.specs.Answer.{Answer, granted, isGranted, refused}
-use Rattle.label.specs.Index.{any, firstFrom}
+use Rattle.common.specs.Answer.{Answer, granted, isGranted, refused}
+use Rattle.common.specs.Index.{someBelow, firstFrom}
 use Rattle.octets.specs.Bytes.{sameBytes}
 use Rattle.hexline.specs.Entry.{abbreviationBytes, nameBytes}
-use Rattle.hexline.specs.Line.{readEntryOf}
+use Rattle.hexline.specs.Line.{readEntryLine}
 use Rattle.hexline.specs.declared.entry.Entry.{Entry}
 use Rattle.alias.specs.Lines.{entriesOf, entryAt, indexedOf, lineAt, linesOf, maxLines}
 use Rattle.alias.specs.Lookup.{calledOf}
@@ -21,7 +21,7 @@ sharesOf e f = calledOf e (nameBytes f) || (leb 1 (length (abbreviationBytes f))
 
 -- whether entry k repeats a name: within itself, or of an earlier entry. Case counts
 unfoldable pub repeatsAt : List Entry → ℕ → Bool
-repeatsAt es k = sameBytes (nameBytes (entryAt es k)) (abbreviationBytes (entryAt es k)) || any (λ j. sharesOf (entryAt es j) (entryAt es k)) k
+repeatsAt es k = sameBytes (nameBytes (entryAt es k)) (abbreviationBytes (entryAt es k)) || someBelow (λ j. sharesOf (entryAt es j) (entryAt es k)) k
 
 -- the first entry that repeats a name
 unfoldable pub firstRepeat : List Entry → Option ℕ
@@ -29,16 +29,16 @@ firstRepeat es = firstFrom (repeatsAt es) 0 (length es)
 
 -- whether line k is bad: the 513th or a later one, a faulty line or one of another kind, or a repeat
 unfoldable pub badAt : List (List ℕ) → ℕ → Bool
-badAt ls k = leb maxLines k || not (isGranted (readEntryOf (lineAt ls k))) || repeatsAt (entriesOf ls) k
+badAt ls k = leb maxLines k || not (isGranted (readEntryLine (lineAt ls k))) || repeatsAt (entriesOf ls) k
 
 -- the lines to be judged. Where the table is cut off and more follows, one line more follows those that end, which does not end
-unfoldable pub judgedOf : Bool → List ℕ → List (List ℕ)
-judgedOf more bytes = linesOf bytes ++ cond more ([] ∷ []) []
+unfoldable pub judgedLines : Bool → List ℕ → List (List ℕ)
+judgedLines more bytes = linesOf bytes ++ cond more ([] ∷ []) []
 
 abbrev pub verdictOf : Option ℕ → LineStarts → Answer LineStarts
 verdictOf none lines = granted lines
 verdictOf (some k) lines = refused 22 (some k)
 
 -- what the test of a table answers: where its lines begin, or 22 with the number of its first bad line
-unfoldable pub checkOf : Bool → List ℕ → Answer LineStarts
-checkOf more bytes = verdictOf (firstFrom (badAt (judgedOf more bytes)) 0 (length (judgedOf more bytes))) (indexedOf (linesOf bytes))
+unfoldable pub checkTable : Bool → List ℕ → Answer LineStarts
+checkTable more bytes = verdictOf (firstFrom (badAt (judgedLines more bytes)) 0 (length (judgedLines more bytes))) (indexedOf (linesOf bytes))

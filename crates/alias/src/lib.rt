@@ -1,21 +1,21 @@
 // Alias tables: 0 to 512 lines of kind 04, one after another in a lent slice. `check` tests a table and gives where its lines begin; the look-ups
 // take the table and these starts, and walk the lines where they stand.
-mod keys;
+mod filter;
+mod hash;
 mod lines;
 pub mod lookup;
-mod marks;
 mod names;
 mod repeats;
 
 use crate::lines::walk;
-use label::answer::Outcome;
-use label::errno::Errno;
+use common::answer::Outcome;
+use common::errno::Errno;
 ghost use mathlib.Core.Path.{_≡_};
 ghost use mathlib.Core.List.{List};
 ghost use mathlib.Core.Option.{some};
-ghost use Rattle.label.specs.Answer.{Answered, refused};
+ghost use Rattle.common.specs.Answer.{Answered, refused};
 ghost use Rattle.alias.specs.Lines.{noLines};
-ghost use Rattle.alias.specs.Table.{checkOf};
+ghost use Rattle.alias.specs.Table.{checkTable};
 
 pub const MAX_LINES: usize = 512;
 
@@ -35,7 +35,7 @@ pub struct TableAnswer {
 }
 
 // The number of an entry.
-pub enum Found {
+pub enum FoundEntry {
     At(usize),
     Nothing,
 }
@@ -56,7 +56,7 @@ fn bad(line: usize) -> TableAnswer
 
 // Tests a table: `more` says that it is cut off, and more follows. A line is judged by itself, then against those before it.
 pub fn check(table: &[u8], more: bool) -> TableAnswer
-    ensures { λ r. ⌜ Answered (r .outcome) (r .lines) noLines (checkOf more (now (table .entry))) ⌝ }
+    ensures { λ r. ⌜ Answered (r .outcome) (r .lines) noLines (checkTable more (now (table .entry))) ⌝ }
 {
     let mut lines = LineStarts {
         count: 0,
@@ -69,8 +69,8 @@ pub fn check(table: &[u8], more: bool) -> TableAnswer
     let starts = lookup::starts_to(&lines.starts, w.count);
     let repeat = repeats::first(table, starts, &names, &others, w.unclear);
     match repeat {
-        Found::At(k) => bad(k),
-        Found::Nothing => {
+        FoundEntry::At(k) => bad(k),
+        FoundEntry::Nothing => {
             if w.stopped {
                 return bad(w.count);
             }

@@ -1,16 +1,16 @@
 // The lines of a table: where they begin, and which of them are bad by themselves.
 use crate::MAX_LINES;
 use crate::MAX_STARTS;
-use crate::keys::line_keys;
+use crate::hash::line_hashes;
 use octets::LF;
 ghost use mathlib.Core.Path.{_≡_};
 ghost use mathlib.Core.Bool.{false};
 ghost use Prim.Native.Nat.{_+_, _<_, _≤_};
 ghost use lib.ListN.{drop, length, replicate};
 ghost use Rattle.octets.specs.Bytes.{indexOf, lf};
-ghost use Rattle.alias.specs.Keys.{KeysKept};
+ghost use Rattle.alias.specs.Internal.Hash.{HashesKept};
 ghost use Rattle.alias.specs.Lines.{entriesOf, linesOf, maxLines};
-ghost use Rattle.alias.specs.Walk.{Walks, lineEnd, linesFrom};
+ghost use Rattle.alias.specs.Internal.Walk.{Walks, lineEnd, linesFrom};
 
 // How many lines there are before the first that is bad by itself, whether there is one, and whether an entry among those before it may have its
 // name as its abbreviation too.
@@ -64,7 +64,7 @@ fn line_end(table: &[u8], at: usize) -> usize
     table.len()
 }
 
-// Walks the lines up to the first that is bad by itself. Where the table is cut off, that is at the latest the one after the last. The keys of the
+// Walks the lines up to the first that is bad by itself. Where the table is cut off, that is at the latest the one after the last. The hashes of the
 // entries before it are kept.
 pub(crate) fn walk(
     table: &[u8],
@@ -75,24 +75,24 @@ pub(crate) fn walk(
 ) -> Walked
     requires { ⌜ (now starts ≡ replicate (maxLines + 1) 0) × (length (now names) ≡ maxLines) × (length (now others) ≡ maxLines) ⌝ }
     ensures { λ r. ⌜ Walks more (now (table .entry)) (linesFrom (r .count) (now (starts .exit))) (r .stopped) ⌝ }
-    ensures { λ r. ⌜ KeysKept (entriesOf (linesOf (now (table .entry)))) (r .count) (now (names .exit)) (now (others .exit)) (r .unclear) ⌝ }
+    ensures { λ r. ⌜ HashesKept (entriesOf (linesOf (now (table .entry)))) (r .count) (now (names .exit)) (now (others .exit)) (r .unclear) ⌝ }
 {
     let mut unclear = false;
     let mut count = 0;
     let mut at = 0;
     while at < table.len() {
         let next = line_end(table, at);
-        let keys = line_keys(&table[at..next]);
-        if (MAX_LINES <= count) | !keys.accepted {
+        let hashes = line_hashes(&table[at..next]);
+        if (MAX_LINES <= count) | !hashes.accepted {
             return Walked {
                 count,
                 stopped: true,
                 unclear,
             };
         }
-        names[count] = keys.name;
-        others[count] = keys.other;
-        unclear = unclear | keys.unclear;
+        names[count] = hashes.name;
+        others[count] = hashes.other;
+        unclear = unclear | hashes.unclear;
         count += 1;
         starts[count] = next;
         at = next;

@@ -1,6 +1,6 @@
 // Look-ups in a table, by its bytes and the starts of its lines, of which there is one more than lines. They are total: of a table that was tested,
 // with the starts that the test gives, they find its entries.
-use crate::Found;
+use crate::FoundEntry;
 use crate::MAX_STARTS;
 use crate::names::called;
 use crate::names::stands_for;
@@ -10,7 +10,7 @@ ghost use mathlib.Core.Path.{_≡_};
 ghost use Prim.Native.Nat.{_+_, _-_};
 ghost use lib.ListN.{drop, length, take};
 ghost use Rattle.alias.specs.Lines.{entriesBy, lineAt, linesBy};
-ghost use Rattle.alias.specs.Lookup.{findOf, foundOf, lastOf, nextOf};
+ghost use Rattle.alias.specs.Lookup.{findOf, foundEntryOf, lastEntryFor, nextEntryFor};
 
 // The starts of so many lines, and of the end of the last: all that there are where these are fewer.
 pub fn starts_to(starts: &[usize; MAX_STARTS], count: usize) -> &[usize]
@@ -55,47 +55,47 @@ pub fn line<'a>(table: &'a [u8], starts: &[usize], k: usize) -> &'a [u8]
 }
 
 // The entry that a text names.
-pub fn find(table: &[u8], starts: &[usize], text: &[u8]) -> Found
-    ensures { λ r. ⌜ foundOf r ≡ findOf (entriesBy (now (table .entry)) (now (starts .entry))) (now (text .entry)) ⌝ }
+pub fn find(table: &[u8], starts: &[usize], text: &[u8]) -> FoundEntry
+    ensures { λ r. ⌜ foundEntryOf r ≡ findOf (entriesBy (now (table .entry)) (now (starts .entry))) (now (text .entry)) ⌝ }
 {
     let n = count(starts);
     let mut k = 0;
     while k < n {
         if called(line(table, starts, k), text) {
-            return Found::At(k);
+            return FoundEntry::At(k);
         }
         k += 1;
     }
-    Found::Nothing
+    FoundEntry::Nothing
 }
 
 // From entry `from` on, the next that stands for a value, which for a whole label is the label beside it. The search goes on from the one after it.
-pub fn next(table: &[u8], starts: &[usize], v: Value, l: Label, from: usize) -> Found
-    ensures { λ r. ⌜ foundOf r ≡ nextOf (entriesBy (now (table .entry)) (now (starts .entry))) v l from ⌝ }
+pub fn next(table: &[u8], starts: &[usize], v: Value, l: Label, from: usize) -> FoundEntry
+    ensures { λ r. ⌜ foundEntryOf r ≡ nextEntryFor (entriesBy (now (table .entry)) (now (starts .entry))) v l from ⌝ }
 {
     let n = count(starts);
     let mut k = from;
     while k < n {
         if stands_for(line(table, starts, k), v, l) {
-            return Found::At(k);
+            return FoundEntry::At(k);
         }
         k += 1;
     }
-    Found::Nothing
+    FoundEntry::Nothing
 }
 
 // The last entry that stands for a value: of several, the one that counts.
-pub fn last(table: &[u8], starts: &[usize], v: Value, l: Label) -> Found
-    ensures { λ r. ⌜ foundOf r ≡ lastOf (entriesBy (now (table .entry)) (now (starts .entry))) v l ⌝ }
+pub fn last(table: &[u8], starts: &[usize], v: Value, l: Label) -> FoundEntry
+    ensures { λ r. ⌜ foundEntryOf r ≡ lastEntryFor (entriesBy (now (table .entry)) (now (starts .entry))) v l ⌝ }
 {
     let n = count(starts);
     let mut i = 0;
     while i < n {
         let k = n - 1 - i;
         if stands_for(line(table, starts, k), v, l) {
-            return Found::At(k);
+            return FoundEntry::At(k);
         }
         i += 1;
     }
-    Found::Nothing
+    FoundEntry::Nothing
 }

@@ -1,25 +1,25 @@
 // Names that are repeated in a table.
-use crate::Found;
+use crate::FoundEntry;
 use crate::MAX_LINES;
-use crate::keys::met_before;
+use crate::filter::some_collide;
+use crate::hash::collides_before;
 use crate::lookup::count;
 use crate::lookup::line;
-use crate::marks::some_met;
 use crate::names::repeats_itself;
 use crate::names::shares;
 ghost use mathlib.Core.Path.{_≡_};
 ghost use Prim.Native.Nat.{_-_, _<_};
 ghost use lib.ListN.{length};
-ghost use Rattle.label.specs.Index.{any};
-ghost use Rattle.alias.specs.Keys.{Keys, KeysKept, keyed};
+ghost use Rattle.common.specs.Index.{someBelow};
+ghost use Rattle.alias.specs.Internal.Hash.{Hashes, HashesKept, hashedCount};
 ghost use Rattle.alias.specs.Lines.{entriesBy, entryAt};
-ghost use Rattle.alias.specs.Lookup.{foundOf};
+ghost use Rattle.alias.specs.Lookup.{foundEntryOf};
 ghost use Rattle.alias.specs.Table.{firstRepeat, repeatsAt, sharesOf};
 
 // Whether an entry before entry k has a name in common with it, by the names.
 fn shared_before(table: &[u8], starts: &[usize], k: usize) -> bool
     requires { ⌜ k < length (now starts) - 1 ⌝ }
-    ensures { λ r. ⌜ r ≡ any (λ j. sharesOf (entryAt (entriesBy (now (table .entry)) (now (starts .entry))) j) (entryAt (entriesBy (now (table .entry)) (now (starts .entry))) k)) k ⌝ }
+    ensures { λ r. ⌜ r ≡ someBelow (λ j. sharesOf (entryAt (entriesBy (now (table .entry)) (now (starts .entry))) j) (entryAt (entriesBy (now (table .entry)) (now (starts .entry))) k)) k ⌝ }
 {
     let own = line(table, starts, k);
     let mut j = 0;
@@ -32,7 +32,7 @@ fn shared_before(table: &[u8], starts: &[usize], k: usize) -> bool
     false
 }
 
-// The same: the names are read only where the keys leave it open.
+// The same: the names are read only where the hashes leave it open.
 fn shared(
     table: &[u8],
     starts: &[usize],
@@ -41,10 +41,10 @@ fn shared(
     k: usize,
 ) -> bool
     requires { ⌜ k < length (now starts) - 1 ⌝ }
-    requires { ⌜ Keys (entriesBy (now table) (now starts)) (keyed (length (now starts) - 1)) (now names) (now others) ⌝ }
-    ensures { λ r. ⌜ r ≡ any (λ j. sharesOf (entryAt (entriesBy (now (table .entry)) (now (starts .entry))) j) (entryAt (entriesBy (now (table .entry)) (now (starts .entry))) k)) k ⌝ }
+    requires { ⌜ Hashes (entriesBy (now table) (now starts)) (hashedCount (length (now starts) - 1)) (now names) (now others) ⌝ }
+    ensures { λ r. ⌜ r ≡ someBelow (λ j. sharesOf (entryAt (entriesBy (now (table .entry)) (now (starts .entry))) j) (entryAt (entriesBy (now (table .entry)) (now (starts .entry))) k)) k ⌝ }
 {
-    if !met_before(names, others, k) {
+    if !collides_before(names, others, k) {
         return false;
     }
     shared_before(table, starts, k)
@@ -59,33 +59,33 @@ fn repeats(
     k: usize,
 ) -> bool
     requires { ⌜ k < length (now starts) - 1 ⌝ }
-    requires { ⌜ Keys (entriesBy (now table) (now starts)) (keyed (length (now starts) - 1)) (now names) (now others) ⌝ }
+    requires { ⌜ Hashes (entriesBy (now table) (now starts)) (hashedCount (length (now starts) - 1)) (now names) (now others) ⌝ }
     ensures { λ r. ⌜ r ≡ repeatsAt (entriesBy (now (table .entry)) (now (starts .entry))) k ⌝ }
 {
     repeats_itself(line(table, starts, k)) | shared(table, starts, names, others, k)
 }
 
-// The first entry that repeats a name. The entries are gone through only where by the keys there may be one.
+// The first entry that repeats a name. The entries are gone through only where by the hashes there may be one.
 pub(crate) fn first(
     table: &[u8],
     starts: &[usize],
     names: &[u32; MAX_LINES],
     others: &[u32; MAX_LINES],
     unclear: bool,
-) -> Found
-    requires { ⌜ KeysKept (entriesBy (now table) (now starts)) (keyed (length (now starts) - 1)) (now names) (now others) unclear ⌝ }
-    ensures { λ r. ⌜ foundOf r ≡ firstRepeat (entriesBy (now (table .entry)) (now (starts .entry))) ⌝ }
+) -> FoundEntry
+    requires { ⌜ HashesKept (entriesBy (now table) (now starts)) (hashedCount (length (now starts) - 1)) (now names) (now others) unclear ⌝ }
+    ensures { λ r. ⌜ foundEntryOf r ≡ firstRepeat (entriesBy (now (table .entry)) (now (starts .entry))) ⌝ }
 {
     let n = count(starts);
-    if !(unclear | some_met(names, others, n)) {
-        return Found::Nothing;
+    if !(unclear | some_collide(names, others, n)) {
+        return FoundEntry::Nothing;
     }
     let mut k = 0;
     while k < n {
         if repeats(table, starts, names, others, k) {
-            return Found::At(k);
+            return FoundEntry::At(k);
         }
         k += 1;
     }
-    Found::Nothing
+    FoundEntry::Nothing
 }

@@ -1,4 +1,4 @@
--- Fields and the numbers in them, as a loop over a line's body meets them. Assumes nothing.
+-- Fields and the numbers in them, as a loop over a line's body meets them.
 use mathlib.Core.Bool.{true, false}
 use mathlib.Core.List.{List, [], _∷_, _++_, append-assoc, append-nil}
 use mathlib.Core.Option.{Option, none, some}
@@ -10,20 +10,20 @@ use lib.Dec.{leb}
 use lib.ListN.{drop, length, replicate, set, take, drop-of-length-le, length-append, take-append-drop}
 use lib.Seq.{drop-cons, drop-drop, drop-set-lt, length-take-le, take-suc-set}
 use borrow.Author.Tests.{eq-eqb, le-leb, lt-leb, ne-eqb}
-use Rattle.octets.specs.Bytes.{Found, blank, indexOf, lf}
+use Rattle.octets.specs.Bytes.{FirstIndex, blank, indexOf, lf}
 use Rattle.octets.proofs.ByteLaws.{fieldsFrom, split-first}
-use Rattle.console.specs.Command.{bodyCommandOf, bodyOf, commandOf, consOf, endedOf, invalid, most, numberAnswerOf, numberOf, numbersOf, ofNumbers, wordOf}
+use Rattle.console.specs.Command.{bodyCommandOf, beforeLf, commandOf, consOf, endedOf, invalidCommand, most, numberReadOf, fieldNumber, numbersOf, ofNumbers, commandWord}
 use Rattle.console.specs.declared.command.Command.{Command}
 use Rattle.console.specs.declared.command.Number.{Number}
 use Rattle.console.specs.declared.command.Number.the-variants.{Value, Bad}
 
 -- the bytes before a byte that is looked for
-pub before-found : (b : ℕ) (xs : List ℕ) (r : ℕ) → Found b xs r → r ≡ length (take r xs)
+pub before-found : (b : ℕ) (xs : List ℕ) (r : ℕ) → FirstIndex b xs r → r ≡ length (take r xs)
 before-found b xs r f = sym (length-take-le r xs (f .within))
 
 -- the word, from the two indexes that end it
-pub word-from : (line : List ℕ) (end n : ℕ) → Found lf line end → Found blank (take end line) n → take n (take end line) ≡ wordOf line
-unfolding wordOf bodyOf
+pub word-from : (line : List ℕ) (end n : ℕ) → FirstIndex lf line end → FirstIndex blank (take end line) n → take n (take end line) ≡ commandWord line
+unfolding commandWord beforeLf
 word-from line end n e f = rw (split-first blank (take (indexOf lf line) line), f .index, e .index)
 
 -- the numbers ns before others, if there are others
@@ -39,7 +39,7 @@ after-cons : (ns : List ℕ) (v : ℕ) (o : Option (List ℕ)) → after ns (con
 after-cons ns v none = refl
 after-cons ns v (some ms) = ap some (sym (append-assoc ns (v ∷ []) ms))
 
-too-many : (ns : List ℕ) (n : Option ℕ) (o : Option (List ℕ)) → length ns ≡ most → ofNumbers (after ns (consOf n o)) ≡ invalid
+too-many : (ns : List ℕ) (n : Option ℕ) (o : Option (List ℕ)) → length ns ≡ most → ofNumbers (after ns (consOf n o)) ≡ invalidCommand
 too-many ns none o h = refl
 too-many ns (some n) none h = refl
 too-many ns (some n) (some ms) h =
@@ -63,12 +63,12 @@ zeros-next numbers count n h e =
 module _ (body : List ℕ) (at : ℕ) (numbers : List ℕ) (count : ℕ) (so-far : bodyCommandOf body ≡ commandFrom (take count numbers) (drop at body)) where
   -- the field behind the blank at index at: xs are the bytes from there on, n of them before the next blank
   module _ (h : at < length body) (xs : List ℕ) (n : ℕ) (bytes : xs ≡ drop (at + 1) body) (index : n ≡ indexOf blank xs) where
-    one-field : bodyCommandOf body ≡ ofNumbers (after (take count numbers) (consOf (numberOf (take n xs)) (numbersOf (fieldsFrom blank (drop n xs)))))
+    one-field : bodyCommandOf body ≡ ofNumbers (after (take count numbers) (consOf (fieldNumber (take n xs)) (numbersOf (fieldsFrom blank (drop n xs)))))
     unfolding numbersOf
     one-field = so-far ∙ rw (drop-cons body at 0 h, ← add-one at, ← bytes, split-first blank xs, ← index)
 
-    module _ (o : Number) (read : numberAnswerOf o ≡ numberOf (take n xs)) where
-      pub body-bad : (c : Command) → o ≡ Bad → c ≡ invalid → c ≡ bodyCommandOf body
+    module _ (o : Number) (read : numberReadOf o ≡ fieldNumber (take n xs)) where
+      pub body-bad : (c : Command) → o ≡ Bad → c ≡ invalidCommand → c ≡ bodyCommandOf body
       body-bad c e i = i ∙ sym (one-field ∙ rw (← read, e))
 
       pub body-next : (v : ℕ) → o ≡ Value v → count < length numbers → bodyCommandOf body ≡ commandFrom (take (count + 1) (set numbers count v)) (drop (at + 1 + n) body)
@@ -76,12 +76,12 @@ module _ (body : List ℕ) (at : ℕ) (numbers : List ℕ) (count : ℕ) (so-far
           let t : take (count + 1) (set numbers count v) ≡ take count numbers ++ (v ∷ []) = rw (add-one) (take-suc-set numbers count v l) in
           one-field ∙ rw (← read, e, after-cons (take count numbers) v, t, ← drop-drop n (at + 1) body, ← bytes)
 
-  pub body-full : (c : Command) → at < length body → count ≡ most → length numbers ≡ most → c ≡ invalid → c ≡ bodyCommandOf body
+  pub body-full : (c : Command) → at < length body → count ≡ most → length numbers ≡ most → c ≡ invalidCommand → c ≡ bodyCommandOf body
   body-full c h k l i =
       let xs = drop (at + 1) body in
       let n = indexOf blank xs in
       let e = length-take-le count numbers (omega arith) in
-      i ∙ sym (one-field h xs n refl refl ∙ too-many (take count numbers) (numberOf (take n xs)) (numbersOf (fieldsFrom blank (drop n xs))) (omega arith))
+      i ∙ sym (one-field h xs n refl refl ∙ too-many (take count numbers) (fieldNumber (take n xs)) (numbersOf (fieldsFrom blank (drop n xs))) (omega arith))
 
   pub body-end : length body ≤ at → length numbers ≡ most → count ≤ most → drop count numbers ≡ replicate (most - count) 0
       → record { valid = true; count = count; numbers = numbers } ≡ bodyCommandOf body
@@ -92,11 +92,11 @@ module _ (body : List ℕ) (at : ℕ) (numbers : List ℕ) (count : ℕ) (so-far
       sym (so-far ∙ rw (drop-of-length-le body h, append-nil, e, le-leb count most m, w))
 
 -- the line's first LF, and whether it is the last byte
-module _ (line : List ℕ) (end : ℕ) (c : Command) (e : Found lf line end) where
+module _ (line : List ℕ) (end : ℕ) (c : Command) (e : FirstIndex lf line end) where
   pub line-ended : end + 1 ≡ length line → c ≡ bodyCommandOf (take end line) → c ≡ commandOf line
-  unfolding commandOf endedOf bodyOf
+  unfolding commandOf endedOf beforeLf
   line-ended h r = rw (← e .index, eq-eqb (end + 1) (length line) h) r
 
-  pub line-invalid : (end + 1 ≡ length line → ⊥) → c ≡ invalid → c ≡ commandOf line
+  pub line-invalid : (end + 1 ≡ length line → ⊥) → c ≡ invalidCommand → c ≡ commandOf line
   unfolding commandOf endedOf
   line-invalid h r = rw (← e .index, ne-eqb (end + 1) (length line) h) r

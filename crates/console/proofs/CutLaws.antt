@@ -1,4 +1,4 @@
--- A line that comes in two chunks is the line that comes in one. Assumes nothing.
+-- A line that comes in two chunks is the line that comes in one.
 use mathlib.Core.Bool.{Bool, true, false, not, true≢false}
 use mathlib.Core.List.{List, _++_}
 use mathlib.Core.Path.{_≡_, refl, sym, ap, _∙_}
@@ -9,10 +9,10 @@ use lib.Dec.{leb, ltb}
 use lib.ListN.{length, take, length-append}
 use lib.Seq.{take-all, take-append-add}
 use borrow.Author.Tests.{le-leb, le-ltb, lt-ltb, ltb-true}
-use Rattle.label.proofs.BoolLaws.{both, first-true, not-so, same-truth}
+use Rattle.common.proofs.BoolLaws.{both, first-true, not-so, same-truth}
 use Rattle.octets.specs.Bytes.{indexOf, lf, putAt}
 use Rattle.octets.proofs.ByteLaws.{index-append, put-length, put-put}
-use Rattle.console.specs.Lines.{bufferOf, fitsOf, held, pieceBy, pieceOf, skipped}
+use Rattle.console.specs.Lines.{pieceBuffer, fitsOf, held, pieceBy, pieceOf, skipped}
 use Rattle.console.specs.declared.lines.Partial.{Partial}
 use Rattle.console.specs.declared.lines.Piece.{Piece}
 use Rattle.console.proofs.LineLaws.{fits-within}
@@ -90,13 +90,13 @@ module _ (xs ys : List ℕ) (from : ℕ) (buffer : List ℕ) (p : Partial) (no-l
       pick true e = ap (pieceOf ys (from + m) size) (held-between e) ∙ piece-held e
       pick false e = ap (pieceOf ys (from + m) size) (skipped-between e) ∙ piece-skipped e
 
-  buffer-between : fitsOf p m size ≡ true → bufferOf xs buffer p ≡ putAt buffer (p .length) xs
-  unfolding bufferOf
+  buffer-between : fitsOf p m size ≡ true → pieceBuffer xs buffer p ≡ putAt buffer (p .length) xs
+  unfolding pieceBuffer
   buffer-between e = rw (no-lf, e, take-all (m + 1) xs (omega arith))
 
   buffer-then : fitsOf p (m + n) size ≡ true → (b : List ℕ) → length b ≡ size → b ≡ putAt buffer (p .length) xs
-      → bufferOf ys b (held (p .length + m)) ≡ bufferOf (xs ++ ys) buffer p
-  unfolding bufferOf
+      → pieceBuffer ys b (held (p .length + m)) ≡ pieceBuffer (xs ++ ys) buffer p
+  unfolding pieceBuffer
   buffer-then e b l f =
       let d = fewer-fit p m (m + n) size (omega arith) e in
       let w = fits-within p m size d in
@@ -104,9 +104,9 @@ module _ (xs ys : List ℕ) (from : ℕ) (buffer : List ℕ) (p : Partial) (no-l
       rw (l, fit-then d, index-append lf xs ys no-lf, e, f, t) (put-put buffer (p .length) xs (take (n + 1) ys) (omega arith))
 
   -- and, where the line fits, the same buffer
-  pub cut-buffer : fitsOf p (m + n) size ≡ true → bufferOf ys (bufferOf xs buffer p) between ≡ bufferOf (xs ++ ys) buffer p
+  pub cut-buffer : fitsOf p (m + n) size ≡ true → pieceBuffer ys (pieceBuffer xs buffer p) between ≡ pieceBuffer (xs ++ ys) buffer p
   cut-buffer e =
       let d = fewer-fit p m (m + n) size (omega arith) e in
       let w = fits-within p m size d in
       let b = buffer-between d in
-      ap (bufferOf ys (bufferOf xs buffer p)) (held-between d) ∙ buffer-then e (bufferOf xs buffer p) (ap length b ∙ put-length buffer (p .length) xs (omega arith)) b
+      ap (pieceBuffer ys (pieceBuffer xs buffer p)) (held-between d) ∙ buffer-then e (pieceBuffer xs buffer p) (ap length b ∙ put-length buffer (p .length) xs (omega arith)) b

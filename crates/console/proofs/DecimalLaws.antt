@@ -1,4 +1,4 @@
--- Decimal digits: that reading them back gives the number, that there is no leading zero, and how many there are. Assumes nothing.
+-- Decimal digits: that reading them back gives the number, that there is no leading zero, and how many there are.
 use mathlib.Core.Bool.{Bool, true, false, cond}
 use mathlib.Core.List.{List, [], _∷_, _++_}
 use mathlib.Core.Option.{some}
@@ -9,9 +9,9 @@ use native.Mathlib.Omega.{arith}
 use lib.Dec.{ltb}
 use lib.ListN.{getD, length, length-append, List·getD-append}
 use borrow.Author.Tests.{le-leb, le-ltb, lt-ltb, ltb-false}
-use Rattle.label.proofs.IndexLaws.{le-or-lt}
+use Rattle.common.proofs.IndexLaws.{le-or-lt}
 use mathlib.Core.Logic.{_⊎_, inl, inr}
-use Rattle.console.specs.Command.{digits, numberOf, valueFrom, valueOf}
+use Rattle.console.specs.Command.{digits, fieldNumber, decimalFrom, decimalValue}
 use Rattle.console.specs.Format.{decimalIn, decimalOf, digit}
 use Rattle.console.proofs.NumberLaws.{digits-append, numberFrom, number-start, value-append}
 
@@ -52,17 +52,17 @@ module _ (P : ℕ → Type 0) (one : (n : ℕ) → n < 10 → P n) (more : (n : 
   by-digits n = below (suc n) n (omega arith)
 
 -- read back, they give the number
-pub decimal-value : (n : ℕ) → valueOf (decimalOf n) ≡ n
-unfolding valueFrom
-decimal-value = by-digits (λ (n : ℕ). valueOf (decimalOf n) ≡ n) one more
+pub decimal-value : (n : ℕ) → decimalValue (decimalOf n) ≡ n
+unfolding decimalFrom
+decimal-value = by-digits (λ (n : ℕ). decimalValue (decimalOf n) ≡ n) one more
   where
-    last : (v d : ℕ) → valueFrom v (digit d ∷ []) ≡ v * 10 + d
+    last : (v d : ℕ) → decimalFrom v (digit d ∷ []) ≡ v * 10 + d
     last v d = omega arith
 
-    one : (n : ℕ) → n < 10 → valueOf (decimalOf n) ≡ n
+    one : (n : ℕ) → n < 10 → decimalValue (decimalOf n) ≡ n
     one n h = rw (decimal-one n h, last) (omega arith)
 
-    more : (n : ℕ) → 10 ≤ n → valueOf (decimalOf (n / 10)) ≡ n / 10 → valueOf (decimalOf n) ≡ n
+    more : (n : ℕ) → 10 ≤ n → decimalValue (decimalOf (n / 10)) ≡ n / 10 → decimalValue (decimalOf n) ≡ n
     more n h ih = rw (decimal-more n h, value-append, ih, last) (omega arith)
 
 pub decimal-digits : (n : ℕ) → digits (decimalOf n) ≡ true
@@ -117,7 +117,7 @@ decimal-first = by-digits (λ (n : ℕ). getD (decimalOf n) 0 0 ≡ digit 0 → 
         let g = ih (sym f ∙ e) in absurd (omega arith)
 
 -- what is printed is read as the number that it was
-pub decimal-read : (n : ℕ) → n < 2 ^ 64 → numberOf (decimalOf n) ≡ some n
+pub decimal-read : (n : ℕ) → n < 2 ^ 64 → fieldNumber (decimalOf n) ≡ some n
 unfolding numberFrom
 decimal-read n h =
     let s = decimal-some n in

@@ -1,4 +1,4 @@
--- How many bytes a refusal's line has. Assumes nothing.
+-- How many bytes a refusal's line has.
 use mathlib.Core.Option.{Option}
 use mathlib.Core.Path.{_≡_}
 use Prim.Native.Nat.{ℕ, _+_}

@@ -1,4 +1,4 @@
--- What every piece of a line has, whatever the chunk and the buffer. Assumes nothing.
+-- What every piece of a line has, whatever the chunk and the buffer.
 use mathlib.Core.Bool.{Bool, true, false, cond, not, _&&_}
 use mathlib.Core.List.{List}
 use mathlib.Core.Path.{_≡_, refl, sym, ap, _∙_}
@@ -8,10 +8,10 @@ use lib.Dec.{leb, ltb}
 use lib.ListN.{drop, length, take, length-drop, length-take}
 use lib.Seq.{length-take-le, take-all}
 use borrow.Author.Tests.{le-ltb, leb-true, lt-ltb, ltb-false, ltb-true}
-use Rattle.label.proofs.BoolLaws.{second-true}
+use Rattle.common.proofs.BoolLaws.{second-true}
 use Rattle.octets.specs.Bytes.{Appended, indexOf, lf, putAt}
 use Rattle.octets.proofs.ByteLaws.{appended-put, index-le, put-length}
-use Rattle.console.specs.Lines.{Taken, bufferOf, fitsOf, held, piece, pieceBy, pieceOf, skipped}
+use Rattle.console.specs.Lines.{Taken, pieceBuffer, fitsOf, held, piece, pieceBy, pieceOf, skipped}
 use Rattle.console.specs.declared.lines.Line.{Line}
 use Rattle.console.specs.declared.lines.Line.the-variants.{More, Whole, Bad}
 use Rattle.console.specs.declared.lines.Partial.{Partial}
@@ -68,8 +68,8 @@ module _ (chunk : List ℕ) (from : ℕ) (buffer : List ℕ) (p : Partial) where
   piece-whole m e =
       whole-within (ltb k (length rest)) fit (from + k) (p .length + k) (length buffer) m (λ (f : fit ≡ true). let w = fits-within p k (length buffer) f in omega arith) e
 
-  buffer-length : length (bufferOf rest buffer p) ≡ length buffer
-  unfolding bufferOf
+  buffer-length : length (pieceBuffer rest buffer p) ≡ length buffer
+  unfolding pieceBuffer
   buffer-length = pick fit refl
     where
       pick : (t : Bool) → fit ≡ t → length (cond t (putAt buffer (p .length) (take (k + 1) rest)) buffer) ≡ length buffer
@@ -79,7 +79,7 @@ module _ (chunk : List ℕ) (from : ℕ) (buffer : List ℕ) (p : Partial) where
       pick false e = refl
 
   -- the rest follows from the two equations
-  taken : (r : Piece) (after : List ℕ) → r ≡ pieceOf rest from (length buffer) p → after ≡ bufferOf rest buffer p → Taken chunk from buffer p r after
+  taken : (r : Piece) (after : List ℕ) → r ≡ pieceOf rest from (length buffer) p → after ≡ pieceBuffer rest buffer p → Taken chunk from buffer p r after
   taken r after e f =
       let g : length after ≡ length buffer = rw f buffer-length in
       let w : (m : ℕ) → r .line ≡ Whole m → m ≤ length after = λ m h. rw g (piece-whole m (rw e at h)) in
@@ -109,7 +109,7 @@ module _ {chunk : List ℕ} {from : ℕ} {buffer : List ℕ} {p : Partial} {xs :
 
   by-tests : (t f : Bool) (r : Piece) (after : List ℕ) → ltb n (length xs) ≡ t → (not (p .long) && b) ≡ f → r ≡ pieceBy t f (from + n) (p .length + n)
       → after ≡ cond f (putAt buffer (p .length) (take (n + 1) xs)) buffer → Taken chunk from buffer p r after
-  unfolding pieceOf bufferOf fitsOf
+  unfolding pieceOf pieceBuffer fitsOf
   by-tests t f r after d e g h =
       taken chunk from buffer p r after (rw (← s .bytes, ← s .index, d, ← s .room, e) g) (rw (← s .bytes, ← s .index, ← s .room, e) h)
 

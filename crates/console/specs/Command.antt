@@ -1,11 +1,11 @@
--- A command line: a word and numbers, one blank between. Assumes nothing.
+-- A command line: a word and numbers, one blank between.
 use mathlib.Core.Bool.{Bool, true, false, _&&_, _||_, cond}
 use mathlib.Core.List.{List, [], _∷_, _++_}
 use mathlib.Core.Option.{Option, none, some}
 use Prim.Native.Nat.{ℕ, _+_, _-_, _*_, _^_}
 use lib.Dec.{eqb, leb, ltb}
 use lib.ListN.{length, replicate, take}
-use Rattle.octets.specs.Bytes.{blank, firstOf, indexOf, lf, othersOf, split}
+use Rattle.octets.specs.Bytes.{blank, firstField, indexOf, lf, otherFields, split}
 use Rattle.console.specs.declared.command.Command.{Command}
 use Rattle.console.specs.declared.command.Number.{Number}
 use Rattle.console.specs.declared.command.Number.the-variants.{Value, Bad}
@@ -20,21 +20,21 @@ digits [] = true
 digits (b ∷ bs) = leb 48 b && leb b 57 && digits bs
 
 -- the value of digits that follow digits of the value v
-unfoldable pub valueFrom : ℕ → List ℕ → ℕ
-valueFrom v [] = v
-valueFrom v (b ∷ bs) = valueFrom (v * 10 + (b - 48)) bs
+unfoldable pub decimalFrom : ℕ → List ℕ → ℕ
+decimalFrom v [] = v
+decimalFrom v (b ∷ bs) = decimalFrom (v * 10 + (b - 48)) bs
 
-abbrev pub valueOf : List ℕ → ℕ
-valueOf bs = valueFrom 0 bs
+abbrev pub decimalValue : List ℕ → ℕ
+decimalValue bs = decimalFrom 0 bs
 
 -- the number that a field is: one or more digits, with a value below 2 ^ 64
-unfoldable pub numberOf : List ℕ → Option ℕ
-numberOf bs = cond (ltb 0 (length bs) && digits bs && ltb (valueOf bs) (2 ^ 64)) (some (valueOf bs)) none
+unfoldable pub fieldNumber : List ℕ → Option ℕ
+fieldNumber bs = cond (ltb 0 (length bs) && digits bs && ltb (decimalValue bs) (2 ^ 64)) (some (decimalValue bs)) none
 
 -- what the enum Number says
-abbrev pub numberAnswerOf : Number → Option ℕ
-numberAnswerOf (Value v) = some v
-numberAnswerOf Bad = none
+abbrev pub numberReadOf : Number → Option ℕ
+numberReadOf (Value v) = some v
+numberReadOf Bad = none
 
 -- a number and the numbers behind it, if there are both
 abbrev pub consOf : Option ℕ → Option (List ℕ) → Option (List ℕ)
@@ -45,38 +45,38 @@ consOf (some n) (some ns) = some (n ∷ ns)
 -- the numbers that the fields are, if each is one
 unfoldable pub numbersOf : List (List ℕ) → Option (List ℕ)
 numbersOf [] = some []
-numbersOf (f ∷ fs) = consOf (numberOf f) (numbersOf fs)
+numbersOf (f ∷ fs) = consOf (fieldNumber f) (numbersOf fs)
 
 -- the line's bytes before its first LF, or all of them where there is none
-unfoldable pub bodyOf : List ℕ → List ℕ
-bodyOf line = take (indexOf lf line) line
+unfoldable pub beforeLf : List ℕ → List ℕ
+beforeLf line = take (indexOf lf line) line
 
 -- whether the line ends in LF and has no other
 unfoldable pub endedOf : List ℕ → Bool
 endedOf line = eqb (indexOf lf line + 1) (length line)
 
 -- the first field of the line
-unfoldable pub wordOf : List ℕ → List ℕ
-wordOf line = firstOf (split blank (bodyOf line))
+unfoldable pub commandWord : List ℕ → List ℕ
+commandWord line = firstField (split blank (beforeLf line))
 
-abbrev pub invalid : Command
-invalid = record { valid = false; count = 0; numbers = replicate most 0 }
+abbrev pub invalidCommand : Command
+invalidCommand = record { valid = false; count = 0; numbers = replicate most 0 }
 
 abbrev pub withNumbers : List ℕ → Command
 withNumbers ns = record { valid = true; count = length ns; numbers = ns ++ replicate (most - length ns) 0 }
 
 -- the command with those numbers, if there are no more than a command may have
 abbrev pub ofNumbers : Option (List ℕ) → Command
-ofNumbers none = invalid
-ofNumbers (some ns) = cond (leb (length ns) most) (withNumbers ns) invalid
+ofNumbers none = invalidCommand
+ofNumbers (some ns) = cond (leb (length ns) most) (withNumbers ns) invalidCommand
 
 -- the fields after the first, which is the word, are the numbers
 unfoldable pub bodyCommandOf : List ℕ → Command
-bodyCommandOf body = ofNumbers (numbersOf (othersOf (split blank body)))
+bodyCommandOf body = ofNumbers (numbersOf (otherFields (split blank body)))
 
 -- what a command line says
 unfoldable pub commandOf : List ℕ → Command
-commandOf line = cond (endedOf line) (bodyCommandOf (bodyOf line)) invalid
+commandOf line = cond (endedOf line) (bodyCommandOf (beforeLf line)) invalidCommand
 
 -- whether the line is empty, so that its first byte is its LF, or a comment, which begins with `#`
 unfoldable pub skippedOf : List ℕ → Bool

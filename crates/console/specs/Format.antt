@@ -1,4 +1,4 @@
--- What is printed. Assumes nothing.
+-- What is printed.
 use mathlib.Core.Bool.{cond}
 use mathlib.Core.List.{List, [], _∷_, _++_}
 use mathlib.Core.Option.{Option, none, some}
@@ -6,8 +6,8 @@ use mathlib.Core.Path.{_≡_}
 use Prim.Native.Nat.{ℕ, zero, suc, _+_, _/_, _%_, _≤_}
 use lib.Dec.{ltb}
 use lib.ListN.{length}
-use Rattle.label.specs.Errno.{detailOf, numberOf}
-use Rattle.label.specs.declared.errno.Errno.{Errno}
+use Rattle.common.specs.Errno.{detailOf, errnoNumber}
+use Rattle.common.specs.declared.errno.Errno.{Errno}
 use Rattle.octets.specs.Bytes.{ascii, blank, lf}
 
 -- the byte of a decimal digit
@@ -37,9 +37,9 @@ refusalText n carried = errorWord ++ decimalOf n ++ carriedText carried ++ (lf �
 
 -- the line that answers a refusal
 unfoldable pub errorText : Errno → List ℕ
-errorText e = refusalText (numberOf e) (detailOf e)
+errorText e = refusalText (errnoNumber e) (detailOf e)
 
 -- r is how many bytes bs has, and that is at most n
-pub record Counted (n : ℕ) (bs : List ℕ) (r : ℕ) : Type 0 where
+pub record ByteCount (n : ℕ) (bs : List ℕ) (r : ℕ) : Type 0 where
   pub count : r ≡ length bs
   pub at-most : r ≤ n

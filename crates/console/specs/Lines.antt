@@ -1,4 +1,4 @@
--- Lines out of chunks. Assumes nothing.
+-- Lines out of chunks.
 use mathlib.Core.Bool.{Bool, true, false, not, _&&_, _||_, cond}
 use mathlib.Core.List.{List}
 use mathlib.Core.Path.{_≡_}
@@ -39,18 +39,18 @@ pieceOf rest from size p =
     pieceBy (ltb (indexOf lf rest) (length rest)) (fitsOf p (indexOf lf rest) size) (from + indexOf lf rest) (p .length + indexOf lf rest)
 
 -- the buffer then: where they fit, the bytes up to the LF and the LF, or all of `rest` where it has no LF, are put behind those that are held
-unfoldable pub bufferOf : List ℕ → List ℕ → Partial → List ℕ
-bufferOf rest buffer p = cond (fitsOf p (indexOf lf rest) (length buffer)) (putAt buffer (p .length) (take (indexOf lf rest + 1) rest)) buffer
+unfoldable pub pieceBuffer : List ℕ → List ℕ → Partial → List ℕ
+pieceBuffer rest buffer p = cond (fitsOf p (indexOf lf rest) (length buffer)) (putAt buffer (p .length) (take (indexOf lf rest + 1) rest)) buffer
 
 -- at the end of the input, a line with no LF is bad
-abbrev pub lastOf : Partial → Line
-lastOf p = cond (p .long || ltb 0 (p .length)) Bad More
+abbrev pub lineAtEnd : Partial → Line
+lineAtEnd p = cond (p .long || ltb 0 (p .length)) Bad More
 
 -- r and the buffer `after` are what `take` makes. The rest follows, and is stated for callers: next is past `from` and no further than the end
 -- of the chunk, unless `from` is not in it, and a whole line is within the buffer
 pub record Taken (chunk : List ℕ) (from : ℕ) (buffer : List ℕ) (p : Partial) (r : Piece) (after : List ℕ) : Type 0 where
   pub piece-is : r ≡ pieceOf (drop from chunk) from (length buffer) p
-  pub buffer-is : after ≡ bufferOf (drop from chunk) buffer p
+  pub buffer-is : after ≡ pieceBuffer (drop from chunk) buffer p
   pub same-length : length after ≡ length buffer
   pub within : r .next ≤ max from (length chunk)
   pub progress : min (from + 1) (length chunk) ≤ r .next

@@ -3,7 +3,7 @@ use octets::BLANK;
 use octets::LF;
 ghost use mathlib.Core.Path.{_≡_};
 ghost use Rattle.octets.specs.Bytes.{sameBytes};
-ghost use Rattle.console.specs.Command.{bodyCommandOf, commandOf, invalid, numberAnswerOf, numberOf, skippedOf, wordOf};
+ghost use Rattle.console.specs.Command.{bodyCommandOf, commandOf, invalidCommand, numberReadOf, fieldNumber, skippedOf, commandWord};
 
 // How many numbers a command has at most.
 pub const MAX_NUMBERS: usize = 6;
@@ -25,7 +25,7 @@ enum Number {
 }
 
 fn invalid() -> Command
-    ensures { λ r. ⌜ r ≡ invalid ⌝ }
+    ensures { λ r. ⌜ r ≡ invalidCommand ⌝ }
 {
     let numbers = [0u64; MAX_NUMBERS];
     Command {
@@ -37,7 +37,7 @@ fn invalid() -> Command
 
 // One or more decimal digits, with a value below 2^64.
 fn read_number(text: &[u8]) -> Number
-    ensures { λ r. ⌜ numberAnswerOf r ≡ numberOf (now (text .entry)) ⌝ }
+    ensures { λ r. ⌜ numberReadOf r ≡ fieldNumber (now (text .entry)) ⌝ }
 {
     if text.len() == 0 {
         return Number::Bad;
@@ -102,7 +102,7 @@ pub fn parse(line: &[u8]) -> Command
 
 // Whether the line's word, its bytes up to the first blank or LF, is word.
 pub fn is_word(line: &[u8], word: &[u8]) -> bool
-    ensures { λ r. ⌜ r ≡ sameBytes (wordOf (now (line .entry))) (now (word .entry)) ⌝ }
+    ensures { λ r. ⌜ r ≡ sameBytes (commandWord (now (line .entry))) (now (word .entry)) ⌝ }
 {
     let end = octets::index_of(LF, line);
     let body = &line[..end];

@@ -1,16 +1,16 @@
 // What is printed, appended to a lent buffer at an index. What does not fit whole is not written.
-use label::errno;
-use label::errno::Carried;
-use label::errno::Errno;
+use common::errno;
+use common::errno::Carried;
+use common::errno::Errno;
 ghost use Prim.Native.Nat.{_+_, _≤_};
 ghost use lib.ListN.{length};
-ghost use Rattle.label.specs.Errno.{carriedOf};
+ghost use Rattle.common.specs.Errno.{carriedOf};
 ghost use Rattle.octets.specs.Bytes.{Appended, Put};
-ghost use Rattle.console.specs.Format.{Counted, carriedText, decimalOf, errorText, refusalText};
+ghost use Rattle.console.specs.Format.{ByteCount, carriedText, decimalOf, errorText, refusalText};
 
 // How many decimal digits n has.
 fn decimal_length(n: u64) -> usize
-    ensures { λ r. ⌜ Counted 20 (decimalOf n) r ⌝ }
+    ensures { λ r. ⌜ ByteCount 20 (decimalOf n) r ⌝ }
 {
     let mut k = 1;
     let mut left = n;
@@ -50,7 +50,7 @@ pub fn append_decimal(out: &mut [u8], at: usize, n: u64) -> usize
 
 // How many bytes a blank and the carried number take.
 fn carried_length(carried: Carried) -> usize
-    ensures { λ r. ⌜ Counted 21 (carriedText (carriedOf carried)) r ⌝ }
+    ensures { λ r. ⌜ ByteCount 21 (carriedText (carriedOf carried)) r ⌝ }
 {
     match carried {
         Carried::Number(n) => 1 + decimal_length(n as u64),

@@ -2,7 +2,7 @@
 // answered as one bad line.
 use octets::LF;
 ghost use mathlib.Core.Path.{_≡_};
-ghost use Rattle.console.specs.Lines.{Taken, held, lastOf, piece};
+ghost use Rattle.console.specs.Lines.{Taken, held, lineAtEnd, piece};
 
 // What the bytes so far make.
 pub enum Line {
@@ -86,7 +86,7 @@ pub fn take(chunk: &[u8], from: usize, buffer: &mut [u8], partial: Partial) -> P
 
 // At the end of the input: a line that has no LF is bad.
 pub fn last(partial: Partial) -> Line
-    ensures { λ r. ⌜ r ≡ lastOf partial ⌝ }
+    ensures { λ r. ⌜ r ≡ lineAtEnd partial ⌝ }
 {
     if partial.long | (0 < partial.length) {
         return Line::Bad;

@@ -1,11 +1,11 @@
--- The calls of document 01's "The board", on from its example: each call, and each refusal. By computation. Assumes nothing.
+-- The calls of document 01's "The board", on from its example: each call, and each refusal. By computation.
 use mathlib.Core.List.{List, [], _∷_, _++_}
 use mathlib.Core.Option.{none}
 use mathlib.Core.Path.{_≡_, refl}
 use Prim.Native.Nat.{ℕ}
-use Rattle.label.specs.Answer.{granted, refused}
+use Rattle.common.specs.Answer.{granted, refused}
 use Rattle.label.specs.Example.{exampleOf}
-use Rattle.label.specs.Index.{every, firstFrom, sumFrom}
+use Rattle.common.specs.Index.{every, firstFrom, sumFrom}
 use Rattle.label.specs.Label
 use Rattle.label.specs.Region.{regionOf}
 use Rattle.label.specs.Words.{includesOf, sameOf}

@@ -1,24 +1,24 @@
--- The examples marked P hold, by computation, some at a time. Assumes nothing.
+-- The examples marked P hold, by computation, some at a time.
 use mathlib.Core.List.{List, [], _∷_}
 use mathlib.Core.Path.{refl}
 use Prim.Native.Nat.{ℕ, zero, suc}
 use lib.ListN.{drop, take}
-use Rattle.label.specs.Buffer.{lengthOf}
+use Rattle.common.specs.Buffer.{lengthOf}
 use Rattle.label.specs.Caller.{seesOf}
-use Rattle.label.specs.Index.{every, firstFrom, lastBelow, sumFrom, tabulate}
+use Rattle.common.specs.Index.{every, firstFrom, lastBelow, sumFrom, tabulate}
 use Rattle.label.specs.Label
 use Rattle.label.specs.Region.{regionOf}
 use Rattle.label.specs.Words.{bit, combine, has, includesOf, intersectionOf, membersBelow, membersOf, sameOf, unionOf}
 use Rattle.range.specs.Range
 use Rattle.range.specs.Tuple
-use Rattle.frame.specs.Frame.{bodyOf, bytesOf, checkOf, digitOf, digitsOf, frameOf, framedOf, isDigit, spelledOf, sumOf, valueOf}
+use Rattle.frame.specs.Frame.{bodyOf, bytesOf, checkByte, digitOf, digitsOf, frameOf, framedOf, isDigit, spelledOf, sumOf, digitValue}
 use Rattle.octets.specs.Bytes.{sameBytes}
-use Rattle.hexline.specs.Body.{numberOf}
+use Rattle.hexline.specs.Body.{baseNumber}
 use Rattle.hexline.specs.Entry
-use Rattle.hexline.specs.Line.{contentsOf, entryForm, formOf, standingIn, tupleBody, tupleForm}
+use Rattle.hexline.specs.Line.{contentsOf, entryForm, bodyForm, standingIn, tupleBody, tupleForm}
 use Rattle.hexline.specs.Regions.{presenceOf, presentBelow, regionAt, regionBytes, regionsBytes, tupleAt}
 use Rattle.alias.specs.Lines.{entriesOf, linesOf}
-use Rattle.alias.specs.Lookup.{calledOf, lastOf, sameValue, standsFor}
+use Rattle.alias.specs.Lookup.{calledOf, lastEntryFor, sameValue, standsFor}
 use Rattle.alias.specs.Table
 use Rattle.text.specs.Write
 use Rattle.segments.specs.Calls
@@ -39,11 +39,11 @@ unfolding Hold every tabulate Label.validOf Label.dominatesOf Label.equalOf Labe
 labels-and-ranges = (refl, (refl, (refl, (refl, (refl, (refl, (refl, (refl, tt))))))))
 
 lines : Hold (take 3 (drop 8 examples))
-unfolding Hold every tabulate Label.validOf Label.equalOf includesOf sameOf bit Tuple.validAt Tuple.validOf bodyOf bytesOf checkOf digitOf digitsOf frameOf framedOf isDigit spelledOf sumOf valueOf numberOf contentsOf formOf tupleBody tupleForm presenceOf presentBelow regionAt regionBytes regionsBytes tupleAt
+unfolding Hold every tabulate Label.validOf Label.equalOf includesOf sameOf bit Tuple.validAt Tuple.validOf bodyOf bytesOf checkByte digitOf digitsOf frameOf framedOf isDigit spelledOf sumOf digitValue baseNumber contentsOf bodyForm tupleBody tupleForm presenceOf presentBelow regionAt regionBytes regionsBytes tupleAt
 lines = (refl, (refl, (refl, tt)))
 
 texts : Hold (take 2 (drop 11 examples))
-unfolding Hold lengthOf every firstFrom lastBelow tabulate Label.validOf Label.dominatesOf Label.equalOf bit has includesOf membersBelow membersOf sameOf bodyOf bytesOf framedOf isDigit spelledOf sumOf valueOf sameBytes Entry.entryFrom Entry.isLetter Entry.isNameByte Entry.labelFrom Entry.layoutOf Entry.nameByteOk Entry.nameOf Entry.textByte Entry.textFrom Entry.validOf Entry.valueFrom Entry.valueOk Entry.valueSize contentsOf entryForm formOf standingIn entriesOf linesOf calledOf lastOf sameValue standsFor Table.badAt Table.checkOf Table.judgedOf Table.repeatsAt Table.sharesOf seesOf Write.categoriesNamed Write.categoriesText Write.definitionNamed Write.definitionText Write.nameFor Write.named Write.namedIn Write.textIn Write.writtenName Write.writeLabelOf
+unfolding Hold lengthOf every firstFrom lastBelow tabulate Label.validOf Label.dominatesOf Label.equalOf bit has includesOf membersBelow membersOf sameOf bodyOf bytesOf framedOf isDigit spelledOf sumOf digitValue sameBytes Entry.entryFrom Entry.isLetter Entry.isNameByte Entry.labelFrom Entry.layoutOf Entry.nameByteOk Entry.nameOf Entry.textByte Entry.textFrom Entry.validOf Entry.valueByClass Entry.valueOk Entry.valueSize contentsOf entryForm bodyForm standingIn entriesOf linesOf calledOf lastEntryFor sameValue standsFor Table.badAt Table.checkTable Table.judgedLines Table.repeatsAt Table.sharesOf seesOf Write.categoriesNamed Write.categoriesText Write.definitionNamed Write.definitionText Write.nameFor Write.named Write.namedIn Write.textIn Write.writtenName Write.writeLabelOf
 texts = (refl, (refl, tt))
 
 board : Hold (drop 13 examples)

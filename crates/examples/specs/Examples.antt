@@ -1,11 +1,11 @@
--- Document 01, "Examples": those marked P, in its order, as one list, and the claim that all of them hold. Assumes nothing.
+-- Document 01, "Examples": those marked P, in its order, as one list, and the claim that all of them hold.
 use mathlib.Core.Bool.{Bool, true, false}
 use mathlib.Core.List.{List, [], _∷_}
 use mathlib.Core.Option.{none, some}
 use mathlib.Core.Path.{_≡_}
 use Prim.Native.Nat.{ℕ}
-use Rattle.label.specs.Answer.{Answer, granted, refused}
-use Rattle.label.specs.Buffer.{lengthOf}
+use Rattle.common.specs.Answer.{Answer, granted, refused}
+use Rattle.common.specs.Buffer.{lengthOf}
 use Rattle.label.specs.Example.{exampleOf}
 use Rattle.label.specs.Label.{dominatesOf, lowerBoundOf, upperBoundOf, validOf}
 use Rattle.label.specs.declared.Label.{Label}
@@ -14,7 +14,7 @@ use Rattle.range.specs.Tuple.{absent, emptyTuple, present, splitOf, tupleOf}
 use Rattle.range.specs.declared.Range.{Range}
 use Rattle.range.specs.declared.tuple.Tuple.{Tuple}
 use Rattle.octets.specs.Bytes.{ascii}
-use Rattle.hexline.specs.Line.{readTupleOf, tupleLineOf}
+use Rattle.hexline.specs.Line.{readTupleLine, tupleLineOf}
 use Rattle.text.specs.Subject.{withTable}
 use Rattle.text.specs.Write.{writeLabelOf}
 use Rattle.text.specs.declared.Form.the-variants.{Definition}
@@ -136,7 +136,7 @@ examples =
     is tuple (granted (tupleOf (present (rangeOf (exampleOf 10 []) (exampleOf 19 (4 ∷ []))) ∷ present (rangeOf (exampleOf 20 []) (exampleOf 30 (4 ∷ []))) ∷ absent ∷ []))))
     -- empty tuple: `0300fd`, written and read
     ∷ (text (tupleLineOf emptyTuple) is text (granted (ascii "0300fd\n")))
-    ∷ (tuple (readTupleOf (ascii "0300fd\n")) is tuple (granted emptyTuple))
+    ∷ (tuple (readTupleLine (ascii "0300fd\n")) is tuple (granted emptyTuple))
     -- hierarchy 200 is not valid
     ∷ (test (validOf (exampleOf 200 [])) is test false)
     -- (20,{7}) for subject (20,{7}) is `low:east`; a buffer of 7 answers 7 with 8

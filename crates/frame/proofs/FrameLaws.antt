@@ -1,5 +1,5 @@
 -- The laws of the frame, for a body of any bytes: a frame reads back as its body, a line that is a frame is its body's, and a line with one
--- digit changed is no frame. Assumes nothing.
+-- digit changed is no frame.
 use mathlib.Core.Bool.{Bool, true, false, true≢false, _&&_}
 use mathlib.Core.List.{List, [], _∷_, _++_}
 use mathlib.Core.Logic.{_⊎_, inl, inr, ⊎-elim, _↔_}
@@ -10,19 +10,19 @@ use lib.Dec.{eqb, leb}
 use lib.ListN.{getD, length, set, take, length-append, length-set, length-take, List·getD-eq-default}
 use lib.Seq.{ext-getD, getD-set-same, getD-set-other, getD-take, set-getD, take-all, take-at, take-suc}
 use borrow.Author.Tests.{eq-eqb, eqb-false, eqb-true, le-leb, le-ltb, leb-true, lt-ltb, lt-leb}
-use Rattle.label.specs.Answer.{Answer, granted}
-use Rattle.label.proofs.BoolLaws.{both, either, first-true, not-so, or-first, or-second, second-true, three-true}
-use Rattle.label.proofs.IndexLaws.{le-or-lt}
-use Rattle.frame.specs.Frame.{bodyOf, bytesOf, checkOf, digitOf, digitsOf, frameOf, framedOf, isDigit, readOf, spelledOf, sumOf, valueOf}
+use Rattle.common.specs.Answer.{Answer, granted}
+use Rattle.common.proofs.BoolLaws.{both, either, first-true, not-so, or-first, or-second, second-true, three-true}
+use Rattle.common.proofs.IndexLaws.{le-or-lt}
+use Rattle.frame.specs.Frame.{bodyOf, bytesOf, checkByte, digitOf, digitsOf, frameOf, framedOf, isDigit, readBody, spelledOf, sumOf, digitValue}
 
 -- ---- digits
 
-low-digit : (c : ℕ) → 48 ≤ c → c ≤ 57 → (isDigit c ≡ true) × (valueOf c ≡ c - 48)
-unfolding isDigit valueOf
+low-digit : (c : ℕ) → 48 ≤ c → c ≤ 57 → (isDigit c ≡ true) × (digitValue c ≡ c - 48)
+unfolding isDigit digitValue
 low-digit c l h = let e = or-first (leb 97 c && leb c 102) (both (le-leb 48 c l) (le-leb c 57 h)) in (e, rw (e, le-leb c 57 h))
 
-high-digit : (c : ℕ) → 97 ≤ c → c ≤ 102 → (isDigit c ≡ true) × (valueOf c ≡ c - 87)
-unfolding isDigit valueOf
+high-digit : (c : ℕ) → 97 ≤ c → c ≤ 102 → (isDigit c ≡ true) × (digitValue c ≡ c - 87)
+unfolding isDigit digitValue
 high-digit c l h =
     let e = or-second (leb 48 c && leb c 57) (both (le-leb 97 c l) (le-leb c 102 h)) in
     let f : leb c 57 ≡ false = lt-leb c 57 (omega arith) in
@@ -35,29 +35,29 @@ digit-cases : (c : ℕ) → isDigit c ≡ true → ((48 ≤ c) × (c ≤ 57)) �
 unfolding isDigit
 digit-cases c e = ⊎-elim (λ h. inl (between 48 57 c h)) (λ h. inr (between 97 102 c h)) (either (leb 48 c && leb c 57) (leb 97 c && leb c 102) e)
 
-no-digit : (c : ℕ) → isDigit c ≡ false → valueOf c ≡ 0
-unfolding valueOf
+no-digit : (c : ℕ) → isDigit c ≡ false → digitValue c ≡ 0
+unfolding digitValue
 no-digit c e = rw e
 
 -- the value by the test that a byte passes
-pub decimal-value : (c : ℕ) → (leb 48 c && leb c 57) ≡ true → (48 ≤ c) × (c ≤ 57) × (valueOf c ≡ c - 48)
+pub decimal-value : (c : ℕ) → (leb 48 c && leb c 57) ≡ true → (48 ≤ c) × (c ≤ 57) × (digitValue c ≡ c - 48)
 decimal-value c e = let b = between 48 57 c e in (b .0, b .1, low-digit c (b .0) (b .1) .1)
 
-pub letter-value : (c : ℕ) → (leb 97 c && leb c 102) ≡ true → (97 ≤ c) × (c ≤ 102) × (valueOf c ≡ c - 87)
+pub letter-value : (c : ℕ) → (leb 97 c && leb c 102) ≡ true → (97 ≤ c) × (c ≤ 102) × (digitValue c ≡ c - 87)
 letter-value c e = let b = between 97 102 c e in (b .0, b .1, high-digit c (b .0) (b .1) .1)
 
-pub other-value : (c : ℕ) → (leb 48 c && leb c 57) ≡ false → (leb 97 c && leb c 102) ≡ false → valueOf c ≡ 0
+pub other-value : (c : ℕ) → (leb 48 c && leb c 57) ≡ false → (leb 97 c && leb c 102) ≡ false → digitValue c ≡ 0
 unfolding isDigit
 other-value c e f = no-digit c (rw (e, f) refl)
 
 -- the value of a digit by arithmetic alone
-pub value-by : (c : ℕ) → isDigit c ≡ true → valueOf c ≡ c % 16 + 9 * (c / 64)
+pub value-by : (c : ℕ) → isDigit c ≡ true → digitValue c ≡ c % 16 + 9 * (c / 64)
 value-by c e = ⊎-elim (λ h. low-digit c (h .0) (h .1) .1 ∙ omega arith) (λ h. high-digit c (h .0) (h .1) .1 ∙ omega arith) (digit-cases c e)
 
-pub value-small : (c : ℕ) → valueOf c < 16
+pub value-small : (c : ℕ) → digitValue c < 16
 value-small c = pick (isDigit c) refl
   where
-    pick : (p : Bool) → isDigit c ≡ p → valueOf c < 16
+    pick : (p : Bool) → isDigit c ≡ p → digitValue c < 16
     pick true e =
         ⊎-elim (λ h. let v = low-digit c (h .0) (h .1) .1 in omega arith) (λ h. let v = high-digit c (h .0) (h .1) .1 in omega arith) (digit-cases c e)
     pick false e = let v = no-digit c e in omega arith
@@ -75,25 +75,25 @@ pub digit-by : (n : ℕ) → n < 16 → 48 + n + 39 * (n / 10) ≡ digitOf n
 digit-by n h = ⊎-elim (λ l. omega arith ∙ sym (spell-high n l)) (λ l. omega arith ∙ sym (spell-low n l)) (le-or-lt 10 n)
 
 -- c is the digit of n exactly if it is a digit, with the number n: the one law of digits, both ways
-pub digit-exact : (n c : ℕ) → n < 16 → (digitOf n ≡ c) ↔ ((isDigit c ≡ true) × (valueOf c ≡ n))
+pub digit-exact : (n c : ℕ) → n < 16 → (digitOf n ≡ c) ↔ ((isDigit c ≡ true) × (digitValue c ≡ n))
 digit-exact n c h = (to (le-or-lt 10 n), from)
   where
-    to : (10 ≤ n) ⊎ (n < 10) → digitOf n ≡ c → (isDigit c ≡ true) × (valueOf c ≡ n)
+    to : (10 ≤ n) ⊎ (n < 10) → digitOf n ≡ c → (isDigit c ≡ true) × (digitValue c ≡ n)
     to (inl l) e = let f : c ≡ 87 + n = sym e ∙ spell-high n l in let d = high-digit c (omega arith) (omega arith) in (d .0, d .1 ∙ omega arith)
     to (inr l) e = let f : c ≡ 48 + n = sym e ∙ spell-low n l in let d = low-digit c (omega arith) (omega arith) in (d .0, d .1 ∙ omega arith)
 
-    from : (isDigit c ≡ true) × (valueOf c ≡ n) → digitOf n ≡ c
+    from : (isDigit c ≡ true) × (digitValue c ≡ n) → digitOf n ≡ c
     from p =
         ⊎-elim
         (λ s. let v = low-digit c (s .0) (s .1) .1 in let e = p .1 in spell-low n (omega arith) ∙ omega arith)
         (λ s. let v = high-digit c (s .0) (s .1) .1 in let e = p .1 in spell-high n (omega arith) ∙ omega arith)
         (digit-cases c (p .0))
 
-pub digit-back : (n : ℕ) → n < 16 → (isDigit (digitOf n) ≡ true) × (valueOf (digitOf n) ≡ n)
+pub digit-back : (n : ℕ) → n < 16 → (isDigit (digitOf n) ≡ true) × (digitValue (digitOf n) ≡ n)
 digit-back n h = digit-exact n (digitOf n) h .0 refl
 
-pub digit-forth : (c : ℕ) → isDigit c ≡ true → digitOf (valueOf c) ≡ c
-digit-forth c e = digit-exact (valueOf c) c (value-small c) .1 (e, refl)
+pub digit-forth : (c : ℕ) → isDigit c ≡ true → digitOf (digitValue c) ≡ c
+digit-forth c e = digit-exact (digitValue c) c (value-small c) .1 (e, refl)
 
 -- ---- sums
 
@@ -163,7 +163,7 @@ bytes-length [] = refl
 bytes-length (c ∷ []) = refl
 bytes-length (h ∷ l ∷ rest) = let ih = bytes-length rest in omega arith
 
-pub bytes-at : (line : List ℕ) (i : ℕ) → i < length line / 2 → getD (bytesOf line) i 0 ≡ valueOf (getD line (2 * i) 0) * 16 + valueOf (getD line (2 * i + 1) 0)
+pub bytes-at : (line : List ℕ) (i : ℕ) → i < length line / 2 → getD (bytesOf line) i 0 ≡ digitValue (getD line (2 * i) 0) * 16 + digitValue (getD line (2 * i + 1) 0)
 unfolding bytesOf
 bytes-at [] i h = absurd (omega arith)
 bytes-at (c ∷ []) i h = absurd (omega arith)
@@ -171,7 +171,7 @@ bytes-at (a ∷ b ∷ rest) zero h = refl
 bytes-at (a ∷ b ∷ rest) (suc i) h =
     let e : 2 * suc i ≡ suc (suc (2 * i)) = omega arith in
     let f : 2 * suc i + 1 ≡ suc (suc (2 * i + 1)) = omega arith in
-    bytes-at rest i (omega arith) ∙ ap₂ (λ (x y : ℕ). valueOf (getD (a ∷ b ∷ rest) x 0) * 16 + valueOf (getD (a ∷ b ∷ rest) y 0)) (sym e) (sym f)
+    bytes-at rest i (omega arith) ∙ ap₂ (λ (x y : ℕ). digitValue (getD (a ∷ b ∷ rest) x 0) * 16 + digitValue (getD (a ∷ b ∷ rest) y 0)) (sym e) (sym f)
 
 -- digits read back as their bytes
 pub spelled-back : (bs : List ℕ) → Bytes bs → (spelledOf (digitsOf bs ++ (10 ∷ [])) ≡ true) × (bytesOf (digitsOf bs ++ (10 ∷ [])) ≡ bs)
@@ -193,22 +193,22 @@ spelled-forth (h ∷ l ∷ rest) e =
     let t = three-true (isDigit h) (isDigit l) (spelledOf rest) e in
     let a = value-small h in
     let b = value-small l in
-    let high : (valueOf h * 16 + valueOf l) / 16 ≡ valueOf h = omega arith in
-    let low : (valueOf h * 16 + valueOf l) % 16 ≡ valueOf l = omega arith in
+    let high : (digitValue h * 16 + digitValue l) / 16 ≡ digitValue h = omega arith in
+    let low : (digitValue h * 16 + digitValue l) % 16 ≡ digitValue l = omega arith in
     ap₂ _∷_ (ap digitOf high ∙ digit-forth h (t .0)) (ap₂ _∷_ (ap digitOf low ∙ digit-forth l (t .1)) (spelled-forth rest (t .2)))
 
 -- ---- the frame
 
-check-sum : (body : List ℕ) → sumOf (body ++ (checkOf body ∷ [])) % 256 ≡ 0
-unfolding checkOf
-check-sum body = let s = sum-append body (checkOf body ∷ []) in let o = sum-one (checkOf body) in omega arith
+check-sum : (body : List ℕ) → sumOf (body ++ (checkByte body ∷ [])) % 256 ≡ 0
+unfolding checkByte
+check-sum body = let s = sum-append body (checkByte body ∷ []) in let o = sum-one (checkByte body) in omega arith
 
-check-small : (body : List ℕ) → checkOf body < 256
-unfolding checkOf
+check-small : (body : List ℕ) → checkByte body < 256
+unfolding checkByte
 check-small body = omega arith
 
-check-only : (body : List ℕ) (c : ℕ) → c < 256 → sumOf (body ++ (c ∷ [])) % 256 ≡ 0 → c ≡ checkOf body
-unfolding checkOf
+check-only : (body : List ℕ) (c : ℕ) → c < 256 → sumOf (body ++ (c ∷ [])) % 256 ≡ 0 → c ≡ checkByte body
+unfolding checkByte
 check-only body c h e = let s = sum-append body (c ∷ []) in let o = sum-one c in omega arith
 
 length-more : (bs : List ℕ) (b : ℕ) → length (bs ++ (b ∷ [])) ≡ length bs + 1
@@ -217,21 +217,21 @@ length-more bs b = length-append bs (b ∷ [])
 pub frame-length : (body : List ℕ) → length (frameOf body) ≡ 2 * length body + 3
 unfolding frameOf
 frame-length body =
-    let a = length-append (digitsOf (body ++ (checkOf body ∷ []))) (10 ∷ []) in
-    let d = digits-length (body ++ (checkOf body ∷ [])) in
-    let m = length-more body (checkOf body) in
+    let a = length-append (digitsOf (body ++ (checkByte body ∷ []))) (10 ∷ []) in
+    let d = digits-length (body ++ (checkByte body ∷ [])) in
+    let m = length-more body (checkByte body) in
     omega arith
 
 -- a frame reads back as its body
 pub frame-back : (body : List ℕ) → Bytes body → (framedOf (frameOf body) ≡ true) × (bodyOf (frameOf body) ≡ body)
 unfolding frameOf framedOf bodyOf
 frame-back body h =
-    let bs = body ++ (checkOf body ∷ []) in
-    let r = spelled-back bs (bytes-append body (checkOf body ∷ []) h (cons-bytes (checkOf body) [] (check-small body) (λ i. omega arith))) in
-    let m = length-more body (checkOf body) in
+    let bs = body ++ (checkByte body ∷ []) in
+    let r = spelled-back bs (bytes-append body (checkByte body ∷ []) h (cons-bytes (checkByte body) [] (check-small body) (λ i. omega arith))) in
+    let m = length-more body (checkByte body) in
     let n : length bs - 1 ≡ length body = omega arith in (
       rw (r .1) (both (both (r .0) (le-leb 1 (length bs) (omega arith))) (eq-eqb (sumOf bs % 256) 0 (check-sum body))),
-      rw (r .1, n) (take-at body (checkOf body ∷ []) (length body) refl),
+      rw (r .1, n) (take-at body (checkByte body ∷ []) (length body) refl),
     )
 
 framed-parts : (line : List ℕ) → framedOf line ≡ true → (spelledOf line ≡ true) × (1 ≤ length (bytesOf line)) × (sumOf (bytesOf line) % 256 ≡ 0)
@@ -249,7 +249,7 @@ frame-forth line e =
     let n = length bs - 1 in
     let h = p .1 in
     let all : bs ≡ take n bs ++ (getD bs n 0 ∷ []) = sym (take-all (suc n) bs (omega arith)) ∙ take-suc bs n 0 (omega arith) in
-    let c : getD bs n 0 ≡ checkOf (take n bs) = check-only (take n bs) (getD bs n 0) (bytes-small line n) (ap (λ (l : List ℕ). sumOf l % 256) (sym all) ∙ p .2) in
+    let c : getD bs n 0 ≡ checkByte (take n bs) = check-only (take n bs) (getD bs n 0) (bytes-small line n) (ap (λ (l : List ℕ). sumOf l % 256) (sym all) ∙ p .2) in
     sym (spelled-forth line (p .0)) ∙ ap (λ (l : List ℕ). digitsOf l ++ (10 ∷ [])) (all ∙ ap (λ (b : ℕ). take n bs ++ (b ∷ [])) c)
 
 pub body-length : (line : List ℕ) → length (bodyOf line) ≡ length line / 2 - 1
@@ -263,13 +263,13 @@ body-small line = bytes-take (length (bytesOf line) - 1) (bytesOf line) (bytes-s
 -- ---- contents by way of a body: what holds of bodies holds of lines
 
 module _ {A : Type 0} (body : A → List ℕ) (read : List ℕ → Answer A) (x : A) where
-  pub reads-back : Bytes (body x) → read (body x) ≡ granted x → readOf read (frameOf (body x)) ≡ granted x
+  pub reads-back : Bytes (body x) → read (body x) ≡ granted x → readBody read (frameOf (body x)) ≡ granted x
   reads-back h e = let f = frame-back (body x) h in rw (f .0, f .1, e)
 
-  pub reads-exactly : ((bs : List ℕ) → Bytes bs → read bs ≡ granted x → bs ≡ body x) → (line : List ℕ) → readOf read line ≡ granted x → line ≡ frameOf (body x)
+  pub reads-exactly : ((bs : List ℕ) → Bytes bs → read bs ≡ granted x → bs ≡ body x) → (line : List ℕ) → readBody read line ≡ granted x → line ≡ frameOf (body x)
   reads-exactly only line = go (framedOf line) refl
     where
-      go : (p : Bool) → framedOf line ≡ p → readOf read line ≡ granted x → line ≡ frameOf (body x)
+      go : (p : Bool) → framedOf line ≡ p → readBody read line ≡ granted x → line ≡ frameOf (body x)
       go true f e = frame-forth line f ∙ ap frameOf (only (bodyOf line) (body-small line) (rw f at e))
       go false f e = let z : _≡_ {A = ℕ} 0 1 = cc (rw f at e) in absurd (omega arith)
 
@@ -311,7 +311,7 @@ one-digit line i c h differ e = not-so (framedOf (set line i c)) refute
         go (inr l) =
             let n = length-set line i c in
             bytes-at line j l
-            ∙ ap₂ (λ (x y : ℕ). valueOf x * 16 + valueOf y) (sym (getD-set-other line i (2 * j) c 0 (λ q. ne (omega arith))))
+            ∙ ap₂ (λ (x y : ℕ). digitValue x * 16 + digitValue y) (sym (getD-set-other line i (2 * j) c 0 (λ q. ne (omega arith))))
             (sym (getD-set-other line i (2 * j + 1) c 0 (λ q. ne (omega arith))))
             ∙ sym (bytes-at (set line i c) j (omega arith))
 

@@ -1,5 +1,5 @@
 -- What the functions of `frame` need at each turn of a loop and where they end: facts about the definitions that go by the index.
--- Assumes nothing.
+--
 use mathlib.Core.Bool.{Bool, true, false, _&&_, and-assoc, and-false, and-true}
 use mathlib.Core.List.{List, [], _∷_, _++_, append-assoc, append-nil}
 use mathlib.Core.Logic.{⊎-elim}
@@ -11,12 +11,12 @@ use native.Mathlib.Omega.{arith}
 use lib.Dec.{eqb, leb}
 use lib.ListN.{getD, length, set, take, length-append, length-take, List·getD-eq-default}
 use lib.Seq.{getD-take, length-take-le, take-all, take-suc, take-suc-set}
-use Rattle.label.specs.Buffer.{overlay}
-use Rattle.label.specs.Index.{every, tabulate}
-use Rattle.label.proofs.BoolLaws.{exactly-both, three-true}
-use Rattle.label.proofs.BufferLaws.{overlay-length, overlay-step}
-use Rattle.label.proofs.IndexLaws.{every-all, every-at, every-same, le-or-lt, tabulate-at, tabulate-is, tabulate-length}
-use Rattle.frame.specs.Frame.{bodyFrom, bodyOf, bytesOf, checkOf, digitOf, digitsOf, frameOf, framedOf, isDigit, spelledOf, sumOf, valueOf}
+use Rattle.common.specs.Buffer.{overlay}
+use Rattle.common.specs.Index.{every, tabulate}
+use Rattle.common.proofs.BoolLaws.{exactly-both, three-true}
+use Rattle.common.proofs.BufferLaws.{overlay-length, overlay-step}
+use Rattle.common.proofs.IndexLaws.{every-all, every-at, every-same, le-or-lt, tabulate-at, tabulate-is, tabulate-length}
+use Rattle.frame.specs.Frame.{bodyFrom, bodyOf, bytesOf, checkByte, digitOf, digitsOf, frameOf, framedOf, isDigit, spelledOf, sumOf, digitValue}
 use Rattle.frame.proofs.FrameLaws.{body-length, bytes-at, bytes-length, digits-append, digits-length, sum-take, value-small}
 
 -- ---- whether a line is spelled in digits
@@ -147,11 +147,11 @@ blockByte vs k = getD vs (2 * k) 0 % 16 * 16 + getD vs (2 * k + 1) 0 % 16
 
 -- the numbers of a block's digits
 abbrev pub blockValues : List ℕ → ℕ → List ℕ
-blockValues line a = tabulate (λ k. valueOf (getD line (2 * a + k) 0)) 32
+blockValues line a = tabulate (λ k. digitValue (getD line (2 * a + k) 0)) 32
 
-block-value : (line : List ℕ) (a k j : ℕ) → k < 32 → 2 * a + k ≡ j → getD (blockValues line a) k 0 % 16 ≡ valueOf (getD line j 0)
+block-value : (line : List ℕ) (a k j : ℕ) → k < 32 → 2 * a + k ≡ j → getD (blockValues line a) k 0 % 16 ≡ digitValue (getD line j 0)
 block-value line a k j h e =
-    ap (λ (n : ℕ). n % 16) (tabulate-at (λ i. valueOf (getD line (2 * a + i) 0)) 32 k 0 h ∙ ap (λ (i : ℕ). valueOf (getD line i 0)) e)
+    ap (λ (n : ℕ). n % 16) (tabulate-at (λ i. digitValue (getD line (2 * a + i) 0)) 32 k 0 h ∙ ap (λ (i : ℕ). digitValue (getD line i 0)) e)
     ∙ mod-eq-of-lt (value-small (getD line j 0))
 
 -- a block's bytes, of these numbers
@@ -211,12 +211,12 @@ digits-fit body out i h fits =
     let d = digits-length (take i body) in
     overlay-length (digitsOf (take i body)) out (omega arith)
 
-pub check-of : (body : List ℕ) (s : ℕ) → s ≡ sumOf body % 256 → (256 - s) % 256 ≡ checkOf body
-unfolding checkOf
+pub check-of : (body : List ℕ) (s : ℕ) → s ≡ sumOf body % 256 → (256 - s) % 256 ≡ checkByte body
+unfolding checkByte
 check-of body s e = rw e
 
 -- the check byte and LF past the body's digits
-pub frame-more : (body out : List ℕ) (b k : ℕ) → k ≡ 2 * length body → b ≡ checkOf body → k + 2 < length out
+pub frame-more : (body out : List ℕ) (b k : ℕ) → k ≡ 2 * length body → b ≡ checkByte body → k + 2 < length out
     → set (set (set (overlay (digitsOf body) out) k (digitOf (b / 16))) (k + 1) (digitOf (b % 16))) (k + 2) 10 ≡ overlay (frameOf body) out
 unfolding frameOf
 frame-more body out b k e f h =

@@ -1,11 +1,11 @@
--- Document 01, "Hex lines": the frame, one a line, for a body of any bytes. Assumes nothing.
+-- Document 01, "Hex lines": the frame, one a line, for a body of any bytes.
 use mathlib.Core.Bool.{Bool, false, cond, _&&_, _||_}
 use mathlib.Core.List.{List, [], _∷_, _++_}
 use Prim.Native.Nat.{ℕ, _+_, _*_, _-_, _/_, _%_}
 use lib.Dec.{eqb, leb, ltb}
 use lib.ListN.{getD, length, take}
-use Rattle.label.specs.Answer.{Answer, granted, require}
-use Rattle.label.specs.Index.{tabulate}
+use Rattle.common.specs.Answer.{Answer, granted, require}
+use Rattle.common.specs.Index.{tabulate}
 
 -- ---- digits: lower-case hex
 
@@ -17,8 +17,8 @@ unfoldable pub isDigit : ℕ → Bool
 isDigit c = (leb 48 c && leb c 57) || (leb 97 c && leb c 102)
 
 -- the number of a digit, and 0 for any other byte
-unfoldable pub valueOf : ℕ → ℕ
-valueOf c = cond (isDigit c) (cond (leb c 57) (c - 48) (c - 87)) 0
+unfoldable pub digitValue : ℕ → ℕ
+digitValue c = cond (isDigit c) (cond (leb c 57) (c - 48) (c - 87)) 0
 
 -- two digits a byte, the high one first
 unfoldable pub digitsOf : List ℕ → List ℕ
@@ -32,12 +32,12 @@ sumOf [] = 0
 sumOf (b ∷ bytes) = b + sumOf bytes
 
 -- the byte that makes the sum of all a multiple of 256
-unfoldable pub checkOf : List ℕ → ℕ
-checkOf body = (256 - sumOf body % 256) % 256
+unfoldable pub checkByte : List ℕ → ℕ
+checkByte body = (256 - sumOf body % 256) % 256
 
 -- the line of a body: the digits of its bytes and of the check byte, then LF
 unfoldable pub frameOf : List ℕ → List ℕ
-frameOf body = digitsOf (body ++ (checkOf body ∷ [])) ++ (10 ∷ [])
+frameOf body = digitsOf (body ++ (checkByte body ∷ [])) ++ (10 ∷ [])
 
 -- a body that is longer is not written: no kind has one, and the line's length stays a small number
 abbrev pub maxBody : ℕ
@@ -58,7 +58,7 @@ spelledOf (h ∷ l ∷ rest) = isDigit h && isDigit l && spelledOf rest
 unfoldable pub bytesOf : List ℕ → List ℕ
 bytesOf [] = []
 bytesOf (c ∷ []) = []
-bytesOf (h ∷ l ∷ rest) = (valueOf h * 16 + valueOf l) ∷ bytesOf rest
+bytesOf (h ∷ l ∷ rest) = (digitValue h * 16 + digitValue l) ∷ bytesOf rest
 
 -- a line is a frame: spelled in digits, with a last byte that makes the sum a multiple of 256
 unfoldable pub framedOf : List ℕ → Bool
@@ -73,5 +73,5 @@ unfoldable pub bodyFrom : List ℕ → ℕ → ℕ → List ℕ
 bodyFrom line i n = tabulate (λ k. getD (bodyOf line) (i + k) 0) n
 
 -- what is read of a line by way of its body: a line that is no frame is refused with 22
-abbrev pub readOf : {A : Type 0} → (List ℕ → Answer A) → List ℕ → Answer A
-readOf read line = require (framedOf line) 22 (read (bodyOf line))
+abbrev pub readBody : {A : Type 0} → (List ℕ → Answer A) → List ℕ → Answer A
+readBody read line = require (framedOf line) 22 (read (bodyOf line))

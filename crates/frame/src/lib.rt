@@ -1,16 +1,16 @@
 // The frame of a hex line, for a body of any bytes: two lower-case hex digits a byte, a last byte that makes the sum of all a multiple of
 // 256, and LF.
-use label::answer::Written;
-use label::errno::Errno;
+use common::answer::Written;
+use common::errno::Errno;
 use std::num;
 ghost use mathlib.Core.Bool.{true};
 ghost use mathlib.Core.List.{_++_};
 ghost use mathlib.Core.Path.{_≡_};
 ghost use Prim.Native.Nat.{_+_, _*_, _-_, _<_, _≤_, _/_, _%_};
 ghost use lib.ListN.{getD, length, set, take};
-ghost use Rattle.label.specs.Buffer.{WrittenTo, overlay};
-ghost use Rattle.label.specs.Index.{every, tabulate};
-ghost use Rattle.frame.specs.Frame.{bodyFrom, bodyOf, bytesOf, digitOf, digitsOf, frameAnswerOf, framedOf, isDigit, spelledOf, sumOf, valueOf};
+ghost use Rattle.common.specs.Buffer.{WrittenTo, overlay};
+ghost use Rattle.common.specs.Index.{every, tabulate};
+ghost use Rattle.frame.specs.Frame.{bodyFrom, bodyOf, bytesOf, digitOf, digitsOf, frameAnswerOf, framedOf, isDigit, spelledOf, sumOf, digitValue};
 
 // A longer body is not written.
 pub const MAX_BODY: usize = 65536;
@@ -36,7 +36,7 @@ fn is_digit(c: u8) -> bool
 
 // The number of a digit, and 0 for any other byte.
 fn digit_value(c: u8) -> u8
-    ensures { λ r. ⌜ r ≡ valueOf c ⌝ }
+    ensures { λ r. ⌜ r ≡ digitValue c ⌝ }
     ensures { λ r. ⌜ r < 16 ⌝ }
 {
     if (48 <= c) & (c <= 57) {
@@ -95,7 +95,7 @@ fn left_from(line: &[u8], at: usize) -> usize
 // The numbers of the digits of a line from index from on.
 fn digit_values(line: &[u8], from: usize, values: &mut [u8])
     requires { ⌜ from + length (now values) ≤ length (now line) ⌝ }
-    ensures { λ _. ⌜ now (values .exit) ≡ tabulate (λ k. valueOf (getD (now (line .entry)) (from + k) 0)) (length (now (values .entry))) ⌝ }
+    ensures { λ _. ⌜ now (values .exit) ≡ tabulate (λ k. digitValue (getD (now (line .entry)) (from + k) 0)) (length (now (values .entry))) ⌝ }
 {
     let mut k = 0;
     while k < values.len() {
@@ -239,7 +239,7 @@ fn spelled(line: &[u8]) -> bool
 // The byte of two digits, by arithmetic that is right for digits alone.
 fn pair_value(p: u16) -> u16
     requires { ⌜ (isDigit (p % 256) ≡ true) × (isDigit (p / 256) ≡ true) ⌝ }
-    ensures { λ r. ⌜ r ≡ valueOf (p % 256) * 16 + valueOf (p / 256) ⌝ }
+    ensures { λ r. ⌜ r ≡ digitValue (p % 256) * 16 + digitValue (p / 256) ⌝ }
 {
     let h = p % 256;
     let l = p / 256;

@@ -1,4 +1,4 @@
--- The laws of what a body of an alias entry is judged by: it is the form of the entry that stands in it, and that this is valid. Assumes nothing.
+-- The laws of what a body of an alias entry is judged by: it is the form of the entry that stands in it, and that this is valid.
 use mathlib.Core.Bool.{Bool, true, false, cond, _&&_, _||_, and-true}
 use mathlib.Core.List.{List, _++_}
 use mathlib.Core.Logic.{⊎-elim}
@@ -10,19 +10,19 @@ use lib.Dec.{eqb, leb, ltb}
 use lib.ListN.{drop, length, replicate, take, length-drop, length-take}
 use lib.Seq.{getD-drop, getD-take, length-take-le, take-all, take-at}
 use borrow.Author.Tests.{eq-eqb, le-leb, le-ltb, lt-ltb}
-use Rattle.label.specs.Answer.{isGranted, require, granted}
-use Rattle.label.specs.Buffer.{overlay}
-use Rattle.label.specs.Index.{every, tabulate}
+use Rattle.common.specs.Answer.{isGranted, require, granted}
+use Rattle.common.specs.Buffer.{overlay}
+use Rattle.common.specs.Index.{every, tabulate}
 use Rattle.label.specs.Label
-use Rattle.label.proofs.BoolLaws.{first-true, same-truth, second-true}
-use Rattle.label.proofs.BufferLaws.{overlay-length}
-use Rattle.label.proofs.IndexLaws.{every-all, every-at, le-or-lt, tabulate-at, tabulate-is, tabulate-length}
+use Rattle.common.proofs.BoolLaws.{first-true, same-truth, second-true}
+use Rattle.common.proofs.BufferLaws.{overlay-length}
+use Rattle.common.proofs.IndexLaws.{every-all, every-at, le-or-lt, tabulate-at, tabulate-is, tabulate-length}
 use Rattle.label.proofs.LabelLaws.{equal-exact}
 use Rattle.frame.specs.Frame.{bodyFrom, bodyOf, framedOf}
-use Rattle.hexline.specs.Accept.{TextsAt, judgedOf, noEntry, partOf, textOk, valueByteOk}
+use Rattle.hexline.specs.Accept.{TextsAt, judgedEntry, noEntry, spanPart, textOk, valueByteOk}
 use Rattle.hexline.specs.Body.{byteAt, labelAt, labelSize, lineWords}
-use Rattle.hexline.specs.Entry.{abbreviationSize, atMost, entryFrom, isLetter, isNameByte, labelFrom, layoutOf, nameByteAt, nameByteOk, nameOf, nameSize, past, spanBytes, textByte, textFrom, validOf, valueFrom, valueOk, valueSize}
-use Rattle.hexline.specs.Line.{abbreviationIn, contentsOf, entryForm, entryIn, nameIn, readEntryOf}
+use Rattle.hexline.specs.Entry.{abbreviationSize, atMost, entryFrom, isLetter, isNameByte, labelFrom, layoutOf, nameByteAt, nameByteOk, nameOf, nameSize, past, spanBytes, textByte, textFrom, validOf, valueByClass, valueOk, valueSize}
+use Rattle.hexline.specs.Line.{abbreviationIn, contentsOf, entryForm, entryIn, nameIn, readEntryLine}
 use Rattle.hexline.specs.declared.accept.Judged.{Judged}
 use Rattle.hexline.specs.declared.entry.Entry.{Entry}
 use Rattle.hexline.specs.declared.entry.Layout.{Layout}
@@ -38,8 +38,8 @@ every-more f i = rw add-one
 -- ---- the value
 
 pub value-judged : (w : ℕ) (bs : List ℕ) (class i : ℕ) → byteAt bs i < 256 → 1 ≤ class → class ≤ 3
-    → valueOk (valueFrom class (byteAt bs i)) (labelFrom w bs class i) ≡ valueByteOk class (byteAt bs i)
-unfolding valueOk valueFrom labelFrom labelAt Label.validOf
+    → valueOk (valueByClass class (byteAt bs i)) (labelFrom w bs class i) ≡ valueByteOk class (byteAt bs i)
+unfolding valueOk valueByClass labelFrom labelAt Label.validOf
 value-judged w bs zero i small low high = absurd (omega arith)
 value-judged w bs (suc zero) i small low high =
     rw (equal-exact Label.zeroLabel Label.zeroLabel refl .1 refl) (and-true (leb (byteAt bs i) 199))
@@ -134,7 +134,7 @@ body-judged bs small e =
 
 -- ---- a line
 
-pub accepted-as : (line : List ℕ) → isGranted (readEntryOf line) ≡ (framedOf line && (entryForm 4 lineWords (bodyOf line) && validOf (entryIn lineWords (bodyOf line))))
+pub accepted-as : (line : List ℕ) → isGranted (readEntryLine line) ≡ (framedOf line && (entryForm 4 lineWords (bodyOf line) && validOf (entryIn lineWords (bodyOf line))))
 unfolding contentsOf
 accepted-as line = go (framedOf line) (entryForm 4 lineWords (bodyOf line) && validOf (entryIn lineWords (bodyOf line))) (entryIn lineWords (bodyOf line))
   where
@@ -143,14 +143,14 @@ accepted-as line = go (framedOf line) (entryForm 4 lineWords (bodyOf line) && va
     go true false x = refl
     go false v x = refl
 
-accepted-form : (line : List ℕ) → isGranted (readEntryOf line) ≡ true → entryForm 4 lineWords (bodyOf line) ≡ true
+accepted-form : (line : List ℕ) → isGranted (readEntryLine line) ≡ true → entryForm 4 lineWords (bodyOf line) ≡ true
 accepted-form line e =
     let f : Bool = entryForm 4 lineWords (bodyOf line) in
     let v : Bool = validOf (entryIn lineWords (bodyOf line)) in
     first-true f v (second-true (framedOf line) (f && v) (sym (accepted-as line) ∙ e))
 
 -- the body of an accepted line has at most 83 bytes
-pub accepted-short : (line : List ℕ) → isGranted (readEntryOf line) ≡ true → length (bodyOf line) ≤ 83
+pub accepted-short : (line : List ℕ) → isGranted (readEntryLine line) ≡ true → length (bodyOf line) ≤ 83
 accepted-short line e = form-short (bodyOf line) (accepted-form line e)
 
 -- the bytes of its body at the front of a buffer
@@ -166,11 +166,11 @@ pub front-decoded : (bs out : List ℕ) (n : ℕ) → n ≡ length bs → take n
 front-decoded bs out n e = take-at bs (drop (length bs) out) n (sym e)
 
 -- the bytes of a buffer at a span, where a body is at its front
-part-stands : (bs out : List ℕ) (n : ℕ) (s : Span) → take n out ≡ bs → n ≡ length bs → n ≤ length out → past s ≤ n → partOf out s ≡ spanBytes bs s
+part-stands : (bs out : List ℕ) (n : ℕ) (s : Span) → take n out ≡ bs → n ≡ length bs → n ≤ length out → past s ≤ n → spanPart out s ≡ spanBytes bs s
 unfolding spanBytes
 part-stands bs out n s e m h l =
     let d = length-drop (s .at) out in
-    tabulate-is (λ k. byteAt bs (s .at + k)) (partOf out s) (s .length) 0 (length-take-le (s .length) (drop (s .at) out) (omega arith))
+    tabulate-is (λ k. byteAt bs (s .at + k)) (spanPart out s) (s .length) 0 (length-take-le (s .length) (drop (s .at) out) (omega arith))
     (λ k b. getD-take (s .length) (drop (s .at) out) k 0 b ∙ getD-drop (s .at) out k 0 ∙ sym (getD-take n out (s .at + k) 0 (omega arith))
     ∙ ap (λ (xs : List ℕ). byteAt xs (s .at + k)) e)
 
@@ -196,34 +196,34 @@ texts-at line out n e m p q form =
 
 -- ---- what a line is judged to be
 
-pub judged-accepted : (line : List ℕ) → judgedOf line .accepted ≡ isGranted (readEntryOf line)
-unfolding judgedOf
-judged-accepted line = go (isGranted (readEntryOf line)) _ refl
+pub judged-accepted : (line : List ℕ) → judgedEntry line .accepted ≡ isGranted (readEntryLine line)
+unfolding judgedEntry
+judged-accepted line = go (isGranted (readEntryLine line)) _ refl
   where
     go : (b : Bool) (x : Judged) → x .accepted ≡ true → cond b x noEntry .accepted ≡ b
     go true x e = e
     go false x e = refl
 
-pub judged-not : (line : List ℕ) → isGranted (readEntryOf line) ≡ false → noEntry ≡ judgedOf line
-unfolding judgedOf
+pub judged-not : (line : List ℕ) → isGranted (readEntryLine line) ≡ false → noEntry ≡ judgedEntry line
+unfolding judgedEntry
 judged-not line e = rw e
 
-pub judged-as : (line : List ℕ) {p : Layout} {bs : List ℕ} → isGranted (readEntryOf line) ≡ true → p ≡ layoutOf lineWords (bodyOf line) 1 → bs ≡ overlay (bodyOf line) (replicate 83 0)
-    → record { accepted = true; name = p .name; abbreviation = p .abbreviation; body = bs } ≡ judgedOf line
-unfolding judgedOf
+pub judged-as : (line : List ℕ) {p : Layout} {bs : List ℕ} → isGranted (readEntryLine line) ≡ true → p ≡ layoutOf lineWords (bodyOf line) 1 → bs ≡ overlay (bodyOf line) (replicate 83 0)
+    → record { accepted = true; name = p .name; abbreviation = p .abbreviation; body = bs } ≡ judgedEntry line
+unfolding judgedEntry
 judged-as line e h k = rw (e, h, k)
 
-pub judged-length : (line : List ℕ) → length (judgedOf line .body) ≡ 83
-unfolding judgedOf
-judged-length line = go (isGranted (readEntryOf line)) refl
+pub judged-length : (line : List ℕ) → length (judgedEntry line .body) ≡ 83
+unfolding judgedEntry
+judged-length line = go (isGranted (readEntryLine line)) refl
   where
-    go : (b : Bool) → isGranted (readEntryOf line) ≡ b → length (judgedOf line .body) ≡ 83
+    go : (b : Bool) → isGranted (readEntryLine line) ≡ b → length (judgedEntry line .body) ≡ 83
     go true e = rw e (overlay-length (bodyOf line) (replicate 83 0) (accepted-short line e))
     go false e = rw e
 
 -- the texts of an accepted line
-pub judged-texts : (line : List ℕ) → isGranted (readEntryOf line) ≡ true → TextsAt line (judgedOf line .name) (judgedOf line .abbreviation) (judgedOf line .body)
-unfolding judgedOf
+pub judged-texts : (line : List ℕ) → isGranted (readEntryLine line) ≡ true → TextsAt line (judgedEntry line .name) (judgedEntry line .abbreviation) (judgedEntry line .body)
+unfolding judgedEntry
 judged-texts line e =
     rw e
     (texts-at line (overlay (bodyOf line) (replicate 83 0)) (length (bodyOf line)) (front-decoded (bodyOf line) (replicate 83 0) (length (bodyOf line)) refl)

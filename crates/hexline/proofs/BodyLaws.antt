@@ -1,4 +1,4 @@
--- The laws of labels and ranges as bytes: what is written reads back, and what is read is written as it stands. Assumes nothing.
+-- The laws of labels and ranges as bytes: what is written reads back, and what is read is written as it stands.
 use mathlib.Core.Bool.{cond, true}
 use mathlib.Core.List.{List, [], _∷_, _++_}
 use mathlib.Core.Logic.{⊎-elim}
@@ -10,17 +10,17 @@ use lib.Dec.{eqb}
 use lib.ListN.{drop, getD, length, take, length-append, length-drop, List·getD-append, List·getD-eq-default}
 use lib.Seq.{drop-cons, ext-getD, getD-append-add, getD-drop, getD-take, length-take-le, take-all, drop-drop, take-add}
 use borrow.Author.Tests.{le-ltb, lt-ltb}
-use Rattle.label.specs.Index.{tabulate}
+use Rattle.common.specs.Index.{tabulate}
 use Rattle.label.specs.Label
 use Rattle.label.specs.Words.{bit, has, wordAt, words}
 use Rattle.label.specs.declared.Label.{Label}
 use Rattle.label.proofs.LabelLaws.{valid-hierarchy}
 use Rattle.range.proofs.RangeLaws.{valid-parts}
-use Rattle.label.proofs.IndexLaws.{le-or-lt, tabulate-at, tabulate-length}
+use Rattle.common.proofs.IndexLaws.{le-or-lt, tabulate-at, tabulate-length}
 use Rattle.range.specs.Range
 use Rattle.range.specs.declared.Range.{Range}
 use Rattle.frame.proofs.FrameLaws.{Bytes, bytes-append}
-use Rattle.hexline.specs.Body.{byteAt, categoryBit, categoryByte, labelAt, labelBytes, labelSize, numberOf, rangeAt, rangeBytes, rangeSize, wordFrom}
+use Rattle.hexline.specs.Body.{byteAt, categoryBit, categoryByte, labelAt, labelBytes, labelSize, baseNumber, rangeAt, rangeBytes, rangeSize, wordFrom}
 use Rattle.hexline.proofs.NumberLaws.{as-number, byte-bit, number-bound, number-digit, number-only}
 
 -- ---- bytes at an index
@@ -111,7 +111,7 @@ word-byte ws j k h =
     let r : (8 * j + k) % 8 ≡ k = omega arith in
     category-byte ws (8 * j + k) ∙ ap₂ (λ (x y : ℕ). wordAt ws x / 256 ^ y % 256) q r
 
-pub word-from : (w : ℕ) (bs : List ℕ) (i j : ℕ) → j < w → wordFrom w bs i j ≡ numberOf 256 (byteAt bs) (i + 8 * j) 8
+pub word-from : (w : ℕ) (bs : List ℕ) (i j : ℕ) → j < w → wordFrom w bs i j ≡ baseNumber 256 (byteAt bs) (i + 8 * j) 8
 unfolding wordFrom
 word-from w bs i j h = rw (lt-ltb j w h)
 

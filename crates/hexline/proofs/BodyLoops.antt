@@ -1,4 +1,4 @@
--- What the functions of `body` need at each turn of a loop. Assumes nothing.
+-- What the functions of `body` need at each turn of a loop.
 use mathlib.Core.Bool.{cond}
 use mathlib.Core.List.{List, _∷_, [], _++_, append-assoc, append-nil}
 use mathlib.Core.Path.{_≡_, refl, sym, ap, _∙_}
@@ -9,19 +9,19 @@ use native.Mathlib.Omega.{arith}
 use lib.Dec.{ltb}
 use lib.ListN.{length, set, take, length-append, length-set}
 use lib.Seq.{length-take-le, take-at, take-length, take-suc-set}
-use Rattle.label.specs.Index.{tabulate}
+use Rattle.common.specs.Index.{tabulate}
 use Rattle.label.specs.Words.{wordAt, words as setWords}
-use Rattle.label.proofs.IndexLaws.{tabulate-at, tabulate-length}
+use Rattle.common.proofs.IndexLaws.{tabulate-at, tabulate-length}
 use Rattle.label.specs.declared.Label.{Label}
 use Rattle.frame.specs.Frame.{bodyFrom, bodyOf}
 use Rattle.frame.proofs.FrameLaws.{Bytes}
 use Rattle.frame.proofs.FrameLoops.{store-next, store-none, tabulate-more, tabulate-same}
-use Rattle.hexline.specs.Body.{Appended, byteAt, categoryByte, labelBytes, labelSize, numberOf, wordFrom}
+use Rattle.hexline.specs.Body.{BodyAppended, byteAt, categoryByte, labelBytes, labelSize, baseNumber, wordFrom}
 use Rattle.hexline.proofs.BodyLaws.{word-byte}
 use Rattle.hexline.proofs.NumberLaws.{number-bound, number-moved}
 
 -- the bytes past the lowest of a word leave room for one more
-pub word-room : (bs : List ℕ) → Bytes bs → (i n : ℕ) → n ≤ 7 → numberOf 256 (byteAt bs) i n < 72057594037927936
+pub word-room : (bs : List ℕ) → Bytes bs → (i n : ℕ) → n ≤ 7 → baseNumber 256 (byteAt bs) i n < 72057594037927936
 word-room bs small i n h = lt-of-lt-of-le (number-bound 256 (byteAt bs) small i n) (pow-le-pow-right (zero-lt-suc 255) h)
 
 -- one more byte
@@ -41,26 +41,26 @@ copied xs text ys zs rest i n h l e =
     ∙ take-at (take i xs ++ take n text) (zs ++ rest) (i + n) (omega arith)
 
 -- bytes that are put one after the other
-pub appended-both : {a b c xs ys : List ℕ} {i j k : ℕ} → Appended a i xs j b → Appended b j ys k c → Appended a i (xs ++ ys) k c
+pub appended-both : {a b c xs ys : List ℕ} {i j k : ℕ} → BodyAppended a i xs j b → BodyAppended b j ys k c → BodyAppended a i (xs ++ ys) k c
 appended-both {a = a} {xs = xs} {ys = ys} {i = i} p q =
     let n = p .next in
     let m = q .next in
     let l = length-append xs ys in
     record { next = omega arith; holds = q .holds ∙ ap (λ (t : List ℕ). t ++ ys) (p .holds) ∙ append-assoc (take i a) xs ys; size = q .size ∙ p .size }
 
-pub appended-none : (a : List ℕ) (i : ℕ) → Appended a i [] i a
+pub appended-none : (a : List ℕ) (i : ℕ) → BodyAppended a i [] i a
 appended-none a i = record { next = sym (add-zero i); holds = sym (append-nil (take i a)); size = refl }
 
-pub appended-byte : (a : List ℕ) (i b : ℕ) → i < length a → Appended a i (b ∷ []) (i + 1) (set a i b)
+pub appended-byte : (a : List ℕ) (i b : ℕ) → i < length a → BodyAppended a i (b ∷ []) (i + 1) (set a i b)
 appended-byte a i b h = record { next = refl; holds = take-more (take i a) a i b h refl; size = length-set a i b }
 
 -- a loop that puts f 0, f 1, .. from index i on
 module _ (f : ℕ → ℕ) (a : List ℕ) (i : ℕ) where
-  pub put-none : Appended a i (tabulate f 0) (i + 0) a
+  pub put-none : BodyAppended a i (tabulate f 0) (i + 0) a
   put-none = record { next = let n = tabulate-length f 0 in omega arith; holds = store-none f a i; size = refl }
 
-  pub put-next : (out : List ℕ) (k v : ℕ) → i + k < length a → v ≡ f k → Appended a i (tabulate f k) (i + k) out
-      → Appended a i (tabulate f (k + 1)) (i + (k + 1)) (set out (i + k) v)
+  pub put-next : (out : List ℕ) (k v : ℕ) → i + k < length a → v ≡ f k → BodyAppended a i (tabulate f k) (i + k) out
+      → BodyAppended a i (tabulate f (k + 1)) (i + (k + 1)) (set out (i + k) v)
   put-next out k v h e p =
       let n = p .size in
       let l = tabulate-length f (k + 1) in
@@ -73,9 +73,9 @@ set-more ws j =
     ∙ tabulate-more (categoryByte ws) (8 * j) 8 ∙ ap (tabulate (categoryByte ws)) (omega arith)
 
 -- one more word of a set
-pub word-more : (ws a b c : List ℕ) (i j : ℕ) → Appended a i (tabulate (categoryByte ws) (8 * j)) (i + 8 * j) b
-    → Appended b (i + 8 * j) (tabulate (λ k. wordAt ws j / 256 ^ k % 256) 8) (i + 8 * j + 8) c
-    → Appended a i (tabulate (categoryByte ws) (8 * (j + 1))) (i + 8 * (j + 1)) c
+pub word-more : (ws a b c : List ℕ) (i j : ℕ) → BodyAppended a i (tabulate (categoryByte ws) (8 * j)) (i + 8 * j) b
+    → BodyAppended b (i + 8 * j) (tabulate (λ k. wordAt ws j / 256 ^ k % 256) 8) (i + 8 * j + 8) c
+    → BodyAppended a i (tabulate (categoryByte ws) (8 * (j + 1))) (i + 8 * (j + 1)) c
 word-more ws a b c i j p q =
     let r = appended-both p q in
     let n = tabulate-length (categoryByte ws) (8 * (j + 1)) in
@@ -84,8 +84,8 @@ word-more ws a b c i j p q =
 
 -- a label's bytes: the hierarchy, then all words of the set
 pub label-put : (before out : List ℕ) (at w j : ℕ) (l : Label) → at < length before → j ≡ w
-    → Appended (set before at (l .hierarchy)) (at + 1) (tabulate (categoryByte (l .categories)) (8 * j)) (at + 1 + 8 * j) out
-    → Appended before at (labelBytes w l) (at + 1 + 8 * j) out
+    → BodyAppended (set before at (l .hierarchy)) (at + 1) (tabulate (categoryByte (l .categories)) (8 * j)) (at + 1 + 8 * j) out
+    → BodyAppended before at (labelBytes w l) (at + 1 + 8 * j) out
 unfolding labelBytes
 label-put before out at w j l h e p =
     let q = appended-both (appended-byte before at (l .hierarchy) h) p in

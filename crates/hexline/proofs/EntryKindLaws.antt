@@ -1,5 +1,5 @@
 -- Alias entries as bodies: where their parts stand, and that what is written reads back and what is read is written as it stands.
--- Assumes nothing.
+--
 use mathlib.Core.Bool.{true, _&&_}
 use mathlib.Core.List.{List, [], _∷_, _++_}
 use mathlib.Core.Logic.{_↔_}
@@ -10,16 +10,16 @@ use native.Mathlib.Omega.{arith}
 use lib.Dec.{leb}
 use lib.ListN.{length, take, length-append}
 use borrow.Author.Tests.{le-leb}
-use Rattle.label.specs.Answer.{granted}
+use Rattle.common.specs.Answer.{granted}
 use Rattle.label.specs.Label
 use Rattle.label.specs.Words.{words}
 use Rattle.label.specs.declared.Label.{Label}
-use Rattle.label.proofs.BoolLaws.{both}
-use Rattle.frame.specs.Frame.{readOf}
+use Rattle.common.proofs.BoolLaws.{both}
+use Rattle.frame.specs.Frame.{readBody}
 use Rattle.frame.proofs.FrameLaws.{Bytes, bytes-append, bytes-take, cons-bytes}
 use Rattle.hexline.specs.Body.{byteAt, labelSize}
-use Rattle.hexline.specs.Entry.{TypedEntry, abbreviationSize, abbreviationText, classOf, entryBytes, entryFrom, entryOf, entrySize, layoutOf, maxAbbreviation, maxName, nameSize, nameText, past, textBytes, textFrom, validOf, valueBytes, valueSize}
-use Rattle.hexline.specs.Line.{contentsOf, entryBody, entryForm, entryIn, formOf, lineOf}
+use Rattle.hexline.specs.Entry.{TypedEntry, abbreviationSize, abbreviationText, valueClass, entryBytes, entryFrom, entryOf, entrySize, layoutOf, maxAbbreviation, maxName, nameSize, nameText, past, textBytes, textFrom, validOf, valueBytes, valueSize}
+use Rattle.hexline.specs.Line.{contentsOf, entryBody, entryForm, entryIn, bodyForm, lineOf}
 use Rattle.hexline.specs.declared.entry.Entry.{Entry}
 use Rattle.hexline.specs.declared.entry.Layout.{Layout}
 use Rattle.hexline.specs.declared.entry.Value.{Value}
@@ -28,18 +28,18 @@ use Rattle.hexline.proofs.BodyLaws.{Holds, Within, first-part, holds-fi
 use Rattle.hexline.proofs.EntryLaws.{name-fits, name-zero, text-back, text-forth, text-length, valid-parts, value-back, value-bytes, value-forth, value-length, value-size}
 use Rattle.hexline.proofs.LineLaws.{entry-form-parts, form-of, line-exact}
 
-class-low : (v : Value) → 1 ≤ classOf v
+class-low : (v : Value) → 1 ≤ valueClass v
 class-low (Hierarchy h) = omega arith
 class-low (Category c) = omega arith
 class-low WholeLabel = omega arith
 
-class-high : (v : Value) → classOf v ≤ 3
+class-high : (v : Value) → valueClass v ≤ 3
 class-high (Hierarchy h) = omega arith
 class-high (Category c) = omega arith
 class-high WholeLabel = omega arith
 
 -- a value has at most the bytes of a label
-value-most : (w : ℕ) (v : Value) → valueSize w (classOf v) ≤ labelSize w
+value-most : (w : ℕ) (v : Value) → valueSize w (valueClass v) ≤ labelSize w
 value-most w v = let n = value-size w v Label.zeroLabel in let l = value-length w v Label.zeroLabel in omega arith
 
 -- a valid entry's name and abbreviation fit their arrays
@@ -72,12 +72,12 @@ layout-is w bs c n a pc pn pa = rw (pc, pn, pa)
 -- a body holds the parts of an entry
 record Parts (kind w : ℕ) (bs : List ℕ) (e : Entry) : Type 0 where
   kind-is : byteAt bs 0 ≡ kind
-  layout-of : layoutOf w bs 1 ≡ layout w (classOf (e .value)) (e .name .length) (e .abbreviation .length)
+  layout-of : layoutOf w bs 1 ≡ layout w (valueClass (e .value)) (e .name .length) (e .abbreviation .length)
   value : Holds bs 2 (valueBytes w (e .value) (e .label))
-  name : Holds bs (2 + valueSize w (classOf (e .value)) + 1) (take (e .name .length) (e .name .bytes))
+  name : Holds bs (2 + valueSize w (valueClass (e .value)) + 1) (take (e .name .length) (e .name .bytes))
   abbreviation :
-      Holds bs (2 + valueSize w (classOf (e .value)) + 1 + e .name .length + 1) (take (e .abbreviation .length) (e .abbreviation .bytes))
-  size : length bs ≡ 2 + valueSize w (classOf (e .value)) + 1 + e .name .length + 1 + e .abbreviation .length
+      Holds bs (2 + valueSize w (valueClass (e .value)) + 1 + e .name .length + 1) (take (e .abbreviation .length) (e .abbreviation .bytes))
+  size : length bs ≡ 2 + valueSize w (valueClass (e .value)) + 1 + e .name .length + 1 + e .abbreviation .length
 
 -- a text at an index: its length, then its bytes
 text-parts : (bs : List ℕ) (i n : ℕ) (xs : List ℕ) → Holds bs i (textBytes xs n) → (byteAt bs i ≡ n) × Holds bs (i + 1) (take n xs)
@@ -86,7 +86,7 @@ text-parts bs i n xs h = (ap (byteAt bs) (sym (add-zero i)) ∙ h 0 (omega arith
 body-parts : (kind w : ℕ) (e : Entry) → Fits e → Parts kind w (entryBody kind w e) e
 unfolding entryBody entryBytes
 body-parts kind w e fits =
-    let c = classOf (e .value) in
+    let c = valueClass (e .value) in
     let value = valueBytes w (e .value) (e .label) in
     let name = textBytes (e .name .bytes) (e .name .length) in
     let abbreviation = textBytes (e .abbreviation .bytes) (e .abbreviation .length) in
@@ -133,10 +133,10 @@ module _ (kind w : ℕ) (bs : List ℕ) (e : Entry) (ty : TypedEntry e) (v : val
       let fits = fits-of e v in
       let n = ty .name-size in
       let a = ty .abbreviation-size in
-      let c = classOf (e .value) in
+      let c = valueClass (e .value) in
       ap
       (λ (p : Layout). leb (p .name .length) maxName && leb (p .abbreviation .length) maxAbbreviation
-      && (formOf bs (past (p .abbreviation)) kind && leb 1 (p .class) && leb (p .class) 3))
+      && (bodyForm bs (past (p .abbreviation)) kind && leb 1 (p .class) && leb (p .class) 3))
       (at .layout-of)
       ∙ both (both (le-leb (e .name .length) maxName (omega arith)) (le-leb (e .abbreviation .length) maxAbbreviation (omega arith)))
       (both (both (form-of bs (2 + valueSize w c + 1 + e .name .length + 1 + e .abbreviation .length) kind (at .size) (at .kind-is)) (le-leb 1 c (class-low (e .value)))) (le-leb c 3 (class-high (e .value))))
@@ -145,7 +145,7 @@ module _ (kind w : ℕ) (bs : List ℕ) (e : Entry) (ty : TypedEntry e) (v : val
   unfolding entryFrom layout
   entry-back within =
       let x = valid-parts e v in
-      let c = classOf (e .value) in
+      let c = valueClass (e .value) in
       let i = 2 + valueSize w c + 1 in
       let j = i + e .name .length + 1 in
       let fits = fits-of e v in
@@ -170,8 +170,8 @@ entry-bytes kind w e k ty v =
     let name = textBytes (e .name .bytes) (e .name .length) in
     let abbreviation = textBytes (e .abbreviation .bytes) (e .abbreviation .length) in
     cons-bytes kind (entryBytes w e) k
-    (bytes-append (classOf (e .value) ∷ value ++ name) abbreviation
-    (bytes-append (classOf (e .value) ∷ value) name (cons-bytes (classOf (e .value)) value (omega arith) (value-bytes w (e .value) (e .label) (ty .label) (x .value)))
+    (bytes-append (valueClass (e .value) ∷ value ++ name) abbreviation
+    (bytes-append (valueClass (e .value) ∷ value) name (cons-bytes (valueClass (e .value)) value (omega arith) (value-bytes w (e .value) (e .label) (ty .label) (x .value)))
     (cons-bytes (e .name .length) (take (e .name .length) (e .name .bytes)) (omega arith) (bytes-take (e .name .length) (e .name .bytes) (ty .name-byte))))
     (cons-bytes (e .abbreviation .length) (take (e .abbreviation .length) (e .abbreviation .bytes)) (omega arith)
     (bytes-take (e .abbreviation .length) (e .abbreviation .bytes) (ty .abbreviation-byte))))
@@ -204,7 +204,7 @@ entry-forth kind w bs fits small f =
     ∙ ap₂ (λ (b : ℕ) (xs : List ℕ). kind ∷ (b ∷ xs ++ textBytes (textFrom nameSize bs (i + 1) n) n ++ textBytes (textFrom abbreviationSize bs (j + 1) a) a)) (sym (val .0)) (sym (val .1))
 
 pub entry-exact : (kind w : ℕ) → kind < 256 → w ≤ words → (e : Entry) → TypedEntry e → Within w (e .label) → (line : List ℕ)
-    → (lineOf (validOf e) (entryBody kind w e) ≡ granted line) ↔ (readOf (contentsOf (entryForm kind w) (entryIn w) validOf) line ≡ granted e)
+    → (lineOf (validOf e) (entryBody kind w e) ≡ granted line) ↔ (readBody (contentsOf (entryForm kind w) (entryIn w) validOf) line ≡ granted e)
 entry-exact kind w k fits e ty within =
     line-exact (entryForm kind w) (entryIn w) validOf (entryBody kind w) e (entry-bytes kind w e k ty)
     (λ v. entry-formed kind w (entryBody kind w e) e ty v (parts v)) (λ v. entry-back kind w (entryBody kind w e) e ty v (parts v) within)

@@ -1,4 +1,4 @@
--- The laws of alias entries and their bytes. Assumes nothing.
+-- The laws of alias entries and their bytes.
 use mathlib.Core.Bool.{Bool, true, false, cond, _&&_, _||_}
 use mathlib.Core.List.{List, [], _∷_, _++_}
 use mathlib.Core.Logic.{⊎-elim}
@@ -10,16 +10,16 @@ use lib.Dec.{eqb, leb, ltb}
 use lib.ListN.{getD, length, take, getD-replicate, List·getD-eq-default}
 use lib.Seq.{ext-getD, getD-take, length-take-le}
 use borrow.Author.Tests.{eqb-true, le-ltb, leb-true, lt-ltb, ltb-true}
-use Rattle.label.specs.Index.{every, tabulate}
+use Rattle.common.specs.Index.{every, tabulate}
 use Rattle.label.specs.Label
 use Rattle.label.specs.Words.{wordAt, words}
 use Rattle.label.specs.declared.Label.{Label}
-use Rattle.label.proofs.BoolLaws.{first-true, second-true, three-true}
-use Rattle.label.proofs.IndexLaws.{every-at, le-or-lt, tabulate-at, tabulate-length}
+use Rattle.common.proofs.BoolLaws.{first-true, second-true, three-true}
+use Rattle.common.proofs.IndexLaws.{every-at, le-or-lt, tabulate-at, tabulate-length}
 use Rattle.label.proofs.LabelLaws.{equal-exact, valid-hierarchy}
 use Rattle.frame.proofs.FrameLaws.{Bytes, cons-bytes}
-use Rattle.hexline.specs.Body.{Appended, byteAt, labelAt, labelSize}
-use Rattle.hexline.specs.Entry.{classOf, entryBytes, isLetter, isNameByte, labelFrom, nameByteAt, nameByteOk, nameOf, textByte, textBytes, textFrom, validOf, valueBytes, valueFrom, valueOk, valueSize}
+use Rattle.hexline.specs.Body.{BodyAppended, byteAt, labelAt, labelSize}
+use Rattle.hexline.specs.Entry.{valueClass, entryBytes, isLetter, isNameByte, labelFrom, nameByteAt, nameByteOk, nameOf, textByte, textBytes, textFrom, validOf, valueBytes, valueByClass, valueOk, valueSize}
 use Rattle.hexline.specs.declared.entry.Entry.{Entry}
 use Rattle.hexline.specs.declared.entry.Value.{Value}
 use Rattle.hexline.specs.declared.entry.Value.the-variants.{Hierarchy, Category, WholeLabel}
@@ -69,9 +69,9 @@ value-length w WholeLabel l = let n = label-length w l in omega arith
 -- ---- an entry's bytes, put one part after the other
 
 pub entry-joined : {a b c d f : List ℕ} {i j k m n : ℕ} (w : ℕ) (e : Entry)
-    → Appended a i (classOf (e .value) ∷ []) j b → Appended b j (valueBytes w (e .value) (e .label)) k c
-    → Appended c k (textBytes (e .name .bytes) (e .name .length)) m d → Appended d m (textBytes (e .abbreviation .bytes) (e .abbreviation .length)) n f
-    → Appended a i (entryBytes w e) n f
+    → BodyAppended a i (valueClass (e .value) ∷ []) j b → BodyAppended b j (valueBytes w (e .value) (e .label)) k c
+    → BodyAppended c k (textBytes (e .name .bytes) (e .name .length)) m d → BodyAppended d m (textBytes (e .abbreviation .bytes) (e .abbreviation .length)) n f
+    → BodyAppended a i (entryBytes w e) n f
 unfolding entryBytes
 entry-joined w e p q r s = appended-both (appended-both (appended-both p q) r) s
 
@@ -148,7 +148,7 @@ text-forth most bs i h room =
 
 -- ---- values
 
-pub value-size : (w : ℕ) (v : Value) (l : Label) → valueSize w (classOf v) ≡ length (valueBytes w v l)
+pub value-size : (w : ℕ) (v : Value) (l : Label) → valueSize w (valueClass v) ≡ length (valueBytes w v l)
 unfolding valueSize valueBytes
 value-size w (Hierarchy h) l = refl
 value-size w (Category c) l = refl
@@ -182,8 +182,8 @@ no-label l t e = sym (equal-exact l Label.zeroLabel (t .length-is) .0 e)
 
 -- the bytes of a value read back as the value and its label
 pub value-back : (w : ℕ) (bs : List ℕ) (i : ℕ) (v : Value) (l : Label) → Label.Typed l → Within w l → valueOk v l ≡ true → Holds bs i (valueBytes w v l)
-    → (valueFrom (classOf v) (byteAt bs i) ≡ v) × (labelFrom w bs (classOf v) i ≡ l)
-unfolding valueBytes valueFrom labelFrom valueOk
+    → (valueByClass (valueClass v) (byteAt bs i) ≡ v) × (labelFrom w bs (valueClass v) i ≡ l)
+unfolding valueBytes valueByClass labelFrom valueOk
 value-back w bs i (Hierarchy h) l t within e here =
     (ap Hierarchy (ap (byteAt bs) (sym (add-zero i)) ∙ here 0 (omega arith)), no-label l t (second-true (Label.validOf (Label.labelOf h [])) (Label.equalOf l Label.zeroLabel) e))
 value-back w bs i (Category c) l t within e here =
@@ -192,8 +192,8 @@ value-back w bs i WholeLabel l t within e here = (refl, label-back w bs i l here
 
 -- a value that is read is written as the bytes that it was read from
 pub value-forth : (w : ℕ) (bs : List ℕ) (class i : ℕ) → Bytes bs → w ≤ words → 1 ≤ class → class ≤ 3 → i + valueSize w class ≤ length bs
-    → (classOf (valueFrom class (byteAt bs i)) ≡ class) × (valueBytes w (valueFrom class (byteAt bs i)) (labelFrom w bs class i) ≡ part i (valueSize w class) bs)
-unfolding valueBytes valueFrom labelFrom valueSize
+    → (valueClass (valueByClass class (byteAt bs i)) ≡ class) × (valueBytes w (valueByClass class (byteAt bs i)) (labelFrom w bs class i) ≡ part i (valueSize w class) bs)
+unfolding valueBytes valueByClass labelFrom valueSize
 value-forth w bs zero i small fits low high room = absurd (omega arith)
 value-forth w bs (suc zero) i small fits low high room = (refl, sym (one-part bs i (omega arith)))
 value-forth w bs (suc (suc zero)) i small fits low high room = (refl, sym (one-part bs i (omega arith)))

@@ -1,7 +1,7 @@
 -- The two laws of each kind, as one: the writer makes a line of some contents exactly if the reader gives these contents for that line.
 -- So what is written reads back, and an accepted line is, byte for byte, the one that the writer makes. Each is proved over the kind's
 -- number and the words that a set has in it, for contents whose categories stand in these, and then stated for kinds 01 to 04, where they
--- all do. Assumes nothing.
+-- all do.
 use mathlib.Core.Bool.{true}
 use mathlib.Core.List.{List, [], _∷_, _++_}
 use mathlib.Core.Logic.{_↔_}
@@ -10,22 +10,22 @@ use Prim.Native.Nat.{ℕ, _+_, _*_, _≤_, _<_}
 use native.Mathlib.Omega.{arith}
 use lib.ListN.{length, List·getD-eq-default}
 use borrow.Author.Tests.{lt-ltb}
-use Rattle.label.specs.Answer.{granted}
+use Rattle.common.specs.Answer.{granted}
 use Rattle.label.specs.Label
 use Rattle.label.specs.Region.{regions}
 use Rattle.label.specs.Words.{words}
 use Rattle.label.specs.declared.Label.{Label}
-use Rattle.label.proofs.BoolLaws.{both}
+use Rattle.common.proofs.BoolLaws.{both}
 use Rattle.range.specs.Range
 use Rattle.range.specs.Tuple
 use Rattle.range.specs.declared.Range.{Range}
 use Rattle.range.specs.declared.tuple.Tuple.{Tuple}
-use Rattle.frame.specs.Frame.{readOf}
+use Rattle.frame.specs.Frame.{readBody}
 use Rattle.frame.proofs.FrameLaws.{Bytes, cons-bytes}
 use Rattle.hexline.specs.Body.{byteAt, labelBytes, labelSize, lineWords, rangeAt, rangeBytes, rangeSize}
 use Rattle.hexline.specs.Entry
 use Rattle.hexline.specs.Entry.{TypedEntry}
-use Rattle.hexline.specs.Line.{contentsOf, entryBody, entryLineOf, formOf, labelBody, labelForm, labelIn, labelLineOf, lineOf, rangeBody, rangeForm, rangeIn, rangeLineOf, readEntryOf, readLabelOf, readRangeOf, readTupleOf, tupleBody, tupleForm, tupleIn, tupleLineOf}
+use Rattle.hexline.specs.Line.{contentsOf, entryBody, entryLineOf, bodyForm, labelBody, labelForm, labelInBody, labelLineOf, lineOf, rangeBody, rangeForm, rangeIn, rangeLineOf, readEntryLine, readLabelLine, readRangeLine, readTupleLine, tupleBody, tupleForm, tupleIn, tupleLineOf}
 use Rattle.hexline.specs.Regions.{presenceOf, presentBelow, regionsBytes}
 use Rattle.hexline.specs.declared.entry.Entry.{Entry}
 use Rattle.hexline.proofs.BodyLaws.{Within, first-part, holds-second, holds-self, label-back, label-bytes, label-forth, label-length, one-part, part, parts-join, range-back, range-bytes, range-forth, range-length}
@@ -35,7 +35,7 @@ use Rattle.hexline.proofs.RegionsLaws.{WithinTuple, presence-forth, pre
 
 -- ---- bodies that begin with a kind
 
-kind-part : (bs : List ℕ) (n kind : ℕ) → formOf bs (1 + n) kind ≡ true → bs ≡ kind ∷ part 1 n bs
+kind-part : (bs : List ℕ) (n kind : ℕ) → bodyForm bs (1 + n) kind ≡ true → bs ≡ kind ∷ part 1 n bs
 kind-part bs n kind f = first-part n bs (form-length bs (1 + n) kind f) ∙ ap (λ (k : ℕ). k ∷ part 1 n bs) (form-kind bs (1 + n) kind f)
 
 -- every category of a label of the code's type stands in as many words as it has
@@ -46,10 +46,10 @@ all-within l t j h = let n = t .length-is in List·getD-eq-default (l .categorie
 
 module _ (kind w : ℕ) (k : kind < 256) (fits : w ≤ words) where
   label-exact : (l : Label) → Label.Typed l → Within w l → (line : List ℕ)
-      → (lineOf (Label.validOf l) (labelBody kind w l) ≡ granted line) ↔ (readOf (contentsOf (labelForm kind w) (labelIn w) Label.validOf) line ≡ granted l)
+      → (lineOf (Label.validOf l) (labelBody kind w l) ≡ granted line) ↔ (readBody (contentsOf (labelForm kind w) (labelInBody w) Label.validOf) line ≡ granted l)
   unfolding labelBody labelForm
   label-exact l t within =
-      line-exact (labelForm kind w) (labelIn w) Label.validOf (labelBody kind w) l
+      line-exact (labelForm kind w) (labelInBody w) Label.validOf (labelBody kind w) l
       (λ v. cons-bytes kind (labelBytes w l) k (label-bytes w l v))
       (λ v. let n = label-length w l in form-of (kind ∷ labelBytes w l) (1 + labelSize w) kind (omega arith) refl)
       (λ v. label-back w (kind ∷ labelBytes w l) 1 l (holds-second (kind ∷ labelBytes w l) 0 1 (kind ∷ []) (labelBytes w l) refl (holds-self (kind ∷ labelBytes w l))) t within)
@@ -59,7 +59,7 @@ module _ (kind w : ℕ) (k : kind < 256) (fits : w ≤ words) where
   -- ---- ranges
 
   range-exact : (x : Range) → Range.TypedRange x → Within w (x .low) → Within w (x .high) → (line : List ℕ)
-      → (lineOf (Range.validOf x) (rangeBody kind w x) ≡ granted line) ↔ (readOf (contentsOf (rangeForm kind w) (rangeIn w) Range.validOf) line ≡ granted x)
+      → (lineOf (Range.validOf x) (rangeBody kind w x) ≡ granted line) ↔ (readBody (contentsOf (rangeForm kind w) (rangeIn w) Range.validOf) line ≡ granted x)
   unfolding rangeBody rangeForm
   range-exact x t low high =
       line-exact (rangeForm kind w) (rangeIn w) Range.validOf (rangeBody kind w) x
@@ -83,7 +83,7 @@ module _ (kind w : ℕ) (k : kind < 256) (fits : w ≤ words) where
       ∙ ap₂ (λ (b : ℕ) (xs : List ℕ). kind ∷ b ∷ xs) (sym (presence-forth w bs p 2 (t .0))) (sym (regions-forth w bs p 2 small fits (omega arith) regions (omega arith)))
 
   tuple-exact : (t : Tuple) → Tuple.TypedTuple t → WithinTuple w t → (line : List ℕ)
-      → (lineOf (Tuple.validOf t) (tupleBody kind w t) ≡ granted line) ↔ (readOf (contentsOf (tupleForm kind w) (tupleIn w) Tuple.validOf) line ≡ granted t)
+      → (lineOf (Tuple.validOf t) (tupleBody kind w t) ≡ granted line) ↔ (readBody (contentsOf (tupleForm kind w) (tupleIn w) Tuple.validOf) line ≡ granted t)
   unfolding tupleBody tupleForm
   tuple-exact t ty within =
       let body = kind ∷ presenceOf t ∷ regionsBytes w t regions in
@@ -98,21 +98,21 @@ module _ (kind w : ℕ) (k : kind < 256) (fits : w ≤ words) where
 -- ---- kinds 01 to 04
 
 -- a label's line
-pub label-line : (l : Label) → Label.Typed l → (line : List ℕ) → (labelLineOf l ≡ granted line) ↔ (readLabelOf line ≡ granted l)
+pub label-line : (l : Label) → Label.Typed l → (line : List ℕ) → (labelLineOf l ≡ granted line) ↔ (readLabelLine line ≡ granted l)
 label-line l t = label-exact 1 lineWords (omega arith) (omega arith) l t (all-within l t)
 
 -- a range's line
-pub range-line : (x : Range) → Range.TypedRange x → (line : List ℕ) → (rangeLineOf x ≡ granted line) ↔ (readRangeOf line ≡ granted x)
+pub range-line : (x : Range) → Range.TypedRange x → (line : List ℕ) → (rangeLineOf x ≡ granted line) ↔ (readRangeLine line ≡ granted x)
 range-line x t = range-exact 2 lineWords (omega arith) (omega arith) x t (all-within (x .low) (t .low)) (all-within (x .high) (t .high))
 
 -- a tuple's line
-pub tuple-line : (t : Tuple) → Tuple.TypedTuple t → (line : List ℕ) → (tupleLineOf t ≡ granted line) ↔ (readTupleOf line ≡ granted t)
+pub tuple-line : (t : Tuple) → Tuple.TypedTuple t → (line : List ℕ) → (tupleLineOf t ≡ granted line) ↔ (readTupleLine line ≡ granted t)
 tuple-line t ty =
     tuple-exact 3 lineWords (omega arith) (omega arith) t ty
-    (λ r l. (all-within (Tuple.rangeAt t r .range .low) (ty .range r l .low), all-within (Tuple.rangeAt t r .range .high) (ty .range r l .high)))
+    (λ r l. (all-within (Tuple.regionRangeAt t r .range .low) (ty .range r l .low), all-within (Tuple.regionRangeAt t r .range .high) (ty .range r l .high)))
 
 -- an alias entry's line
-pub entry-line : (e : Entry) → TypedEntry e → (line : List ℕ) → (entryLineOf e ≡ granted line) ↔ (readEntryOf line ≡ granted e)
+pub entry-line : (e : Entry) → TypedEntry e → (line : List ℕ) → (entryLineOf e ≡ granted line) ↔ (readEntryLine line ≡ granted e)
 entry-line e t = entry-exact 4 lineWords (omega arith) (omega arith) e t (all-within (e .label) (t .label))
 
 -- ---- how long lines are, LF included: none is longer than a full tuple's, 402 digits and LF
@@ -136,7 +136,7 @@ tuple-line-length t line e =
     let m = line-length (Tuple.validOf t) (tupleBody 3 lineWords t) line e in
     omega arith
 
-pub full-tuple-length : (t : Tuple) (line : List ℕ) → ((r : ℕ) → r < regions → Tuple.isThere (Tuple.rangeAt t r) ≡ true) → tupleLineOf t ≡ granted line → length line ≡ 403
+pub full-tuple-length : (t : Tuple) (line : List ℕ) → ((r : ℕ) → r < regions → Tuple.isThere (Tuple.regionRangeAt t r) ≡ true) → tupleLineOf t ≡ granted line → length line ≡ 403
 unfolding tupleBody
 full-tuple-length t line h e =
     let n = regions-full lineWords t regions h in

@@ -1,4 +1,4 @@
--- The laws of lines by their kind, and the ways in which their readers and writers end. Assumes nothing.
+-- The laws of lines by their kind, and the ways in which their readers and writers end.
 use mathlib.Core.Bool.{Bool, true, false, not, _&&_, true≢false}
 use mathlib.Core.List.{List}
 use mathlib.Core.Logic.{_↔_}
@@ -9,27 +9,27 @@ use native.Mathlib.Omega.{arith}
 use lib.Dec.{eqb, leb, ltb}
 use lib.ListN.{length}
 use borrow.Author.Tests.{eq-eqb, eqb-true, le-leb, leb-true, ltb-true, not-false, not-true}
-use Rattle.label.specs.Answer.{Answered, granted, isGranted, refused, require}
-use Rattle.label.specs.Buffer.{WrittenTo}
+use Rattle.common.specs.Answer.{Answered, granted, isGranted, refused, require}
+use Rattle.common.specs.Buffer.{WrittenTo}
 use Rattle.label.specs.Region.{regions}
-use Rattle.label.specs.declared.answer.Outcome.the-variants.{Granted, Refused}
-use Rattle.label.specs.declared.answer.Written.{Written}
-use Rattle.label.specs.declared.answer.Written.the-variants.{Refused as RefusedWrite}
-use Rattle.label.specs.declared.errno.Errno.the-variants.{Invalid}
-use Rattle.label.proofs.AnswerLaws.{answers-grant, answers-refusal, grant-passed, grant-told, passed, stopped}
-use Rattle.label.proofs.BufferLaws.{writes-nothing}
-use Rattle.label.proofs.BoolLaws.{both, first-true, not-so, second-true, three-true}
-use Rattle.frame.specs.Frame.{bodyOf, frameAnswerOf, frameOf, framedOf, maxBody, readOf}
+use Rattle.common.specs.declared.answer.Outcome.the-variants.{Granted, Refused}
+use Rattle.common.specs.declared.answer.Written.{Written}
+use Rattle.common.specs.declared.answer.Written.the-variants.{Refused as RefusedWrite}
+use Rattle.common.specs.declared.errno.Errno.the-variants.{Invalid}
+use Rattle.common.proofs.AnswerLaws.{answers-grant, answers-refusal, grant-passed, grant-told, passed, stopped}
+use Rattle.common.proofs.BufferLaws.{writes-nothing}
+use Rattle.common.proofs.BoolLaws.{both, first-true, not-so, second-true, three-true}
+use Rattle.frame.specs.Frame.{bodyOf, frameAnswerOf, frameOf, framedOf, maxBody, readBody}
 use Rattle.frame.proofs.FrameLaws.{Bytes, frame-length, reads-back, reads-exactly}
 use Rattle.hexline.specs.Body.{byteAt, rangeSize}
 use Rattle.hexline.specs.Entry.{layoutOf, maxAbbreviation, maxName, past}
 use Rattle.hexline.specs.Regions.{presentBelow}
-use Rattle.hexline.specs.Line.{contentsOf, entryForm, formOf, kindOf, lineOf, tupleForm}
+use Rattle.hexline.specs.Line.{contentsOf, entryForm, bodyForm, lineKindOf, lineOf, tupleForm}
 
 -- ---- how a reader ends
 
 module _ {A : Type 0} (form : List ℕ → Bool) (contents : List ℕ → A) (valid : A → Bool) (line : List ℕ) (z : A) where
-  as-one-test : readOf (contentsOf form contents valid) line
+  as-one-test : readBody (contentsOf form contents valid) line
       ≡ require (framedOf line && form (bodyOf line) && valid (contents (bodyOf line))) 22 (granted (contents (bodyOf line)))
   unfolding contentsOf
   as-one-test = go (framedOf line)
@@ -44,10 +44,10 @@ module _ {A : Type 0} (form : List ℕ → Bool) (contents : List ℕ → A) (va
     tested : (framedOf line && form (bodyOf line) && valid (contents (bodyOf line))) ≡ (f && g && v)
     tested = rw (p, q, r, e)
 
-    pub accepts : (f && g && v) ≡ true → Answered Granted x z (readOf (contentsOf form contents valid) line)
+    pub accepts : (f && g && v) ≡ true → Answered Granted x z (readBody (contentsOf form contents valid) line)
     accepts t = answers-grant x z (contents (bodyOf line)) _ (as-one-test ∙ passed _ 22 _ (tested ∙ t)) e
 
-    pub refuses : {value : A} → (f && g && v) ≡ false → value ≡ z → Answered (Refused Invalid) value z (readOf (contentsOf form contents valid) line)
+    pub refuses : {value : A} → (f && g && v) ≡ false → value ≡ z → Answered (Refused Invalid) value z (readBody (contentsOf form contents valid) line)
     refuses {value} t h = answers-refusal Invalid value z _ (as-one-test ∙ stopped _ 22 _ (tested ∙ t)) h
 
 -- ---- what a reader grants
@@ -59,14 +59,14 @@ module _ {A : Type 0} (form : List ℕ → Bool) (contents : List ℕ → A) (va
       let t = grant-told (form bs && valid (contents bs)) 22 x (contents bs) (sym e) in
       (first-true (form bs) (valid (contents bs)) (t .0), sym (t .1), ap valid (t .1) ∙ second-true (form bs) (valid (contents bs)) (t .0))
 
-  pub read-granted : (line : List ℕ) (x : A) → readOf (contentsOf form contents valid) line ≡ granted x → (contents (bodyOf line) ≡ x) × (valid x ≡ true)
+  pub read-granted : (line : List ℕ) (x : A) → readBody (contentsOf form contents valid) line ≡ granted x → (contents (bodyOf line) ≡ x) × (valid x ≡ true)
   read-granted line x e =
       let t = contents-granted (bodyOf line) x (sym (grant-passed (framedOf line) 22 x (contentsOf form contents valid (bodyOf line)) (sym e) .1)) in
       (t .1, t .2)
 
   -- a line that is accepted is read as the contents that stand there
-  pub read-contents : (line : List ℕ) → isGranted (readOf (contentsOf form contents valid) line) ≡ true
-      → readOf (contentsOf form contents valid) line ≡ granted (contents (bodyOf line))
+  pub read-contents : (line : List ℕ) → isGranted (readBody (contentsOf form contents valid) line) ≡ true
+      → readBody (contentsOf form contents valid) line ≡ granted (contents (bodyOf line))
   unfolding contentsOf
   read-contents line = go (framedOf line) (form (bodyOf line) && valid (contents (bodyOf line)))
     where
@@ -78,11 +78,11 @@ module _ {A : Type 0} (form : List ℕ → Bool) (contents : List ℕ → A) (va
 -- ---- a kind's two laws, from those of its body: what the writer makes reads back, and what is accepted is what the writer makes
 
 module _ {A : Type 0} (form : List ℕ → Bool) (contents : List ℕ → A) (valid : A → Bool) (body : A → List ℕ) (x : A) where
-  pub line-back : Bytes (body x) → form (body x) ≡ true → contents (body x) ≡ x → valid x ≡ true → readOf (contentsOf form contents valid) (frameOf (body x)) ≡ granted x
+  pub line-back : Bytes (body x) → form (body x) ≡ true → contents (body x) ≡ x → valid x ≡ true → readBody (contentsOf form contents valid) (frameOf (body x)) ≡ granted x
   unfolding contentsOf
   line-back small f e v = reads-back body (contentsOf form contents valid) x small (rw (f, e, v))
 
-  pub line-only : ((bs : List ℕ) → Bytes bs → form bs ≡ true → bs ≡ body (contents bs)) → (line : List ℕ) → readOf (contentsOf form contents valid) line ≡ granted x
+  pub line-only : ((bs : List ℕ) → Bytes bs → form bs ≡ true → bs ≡ body (contents bs)) → (line : List ℕ) → readBody (contentsOf form contents valid) line ≡ granted x
       → (line ≡ frameOf (body x)) × (valid x ≡ true)
   line-only forth line e = (reads-exactly body (contentsOf form contents valid) x only line e, read-granted form contents valid line x e .1)
     where
@@ -93,16 +93,16 @@ module _ {A : Type 0} (form : List ℕ → Bool) (contents : List ℕ → A) (va
 pub line-exact : {A : Type 0} (form : List ℕ → Bool) (contents : List ℕ → A) (valid : A → Bool) (body : A → List ℕ) (x : A)
     → (valid x ≡ true → Bytes (body x)) → (valid x ≡ true → form (body x) ≡ true) → (valid x ≡ true → contents (body x) ≡ x)
     → ((bs : List ℕ) → Bytes bs → form bs ≡ true → bs ≡ body (contents bs))
-    → (line : List ℕ) → (lineOf (valid x) (body x) ≡ granted line) ↔ (readOf (contentsOf form contents valid) line ≡ granted x)
+    → (line : List ℕ) → (lineOf (valid x) (body x) ≡ granted line) ↔ (readBody (contentsOf form contents valid) line ≡ granted x)
 line-exact form contents valid body x small formed same forth line = (to (valid x) refl, from)
   where
-    to : (v : Bool) → valid x ≡ v → lineOf (valid x) (body x) ≡ granted line → readOf (contentsOf form contents valid) line ≡ granted x
+    to : (v : Bool) → valid x ≡ v → lineOf (valid x) (body x) ≡ granted line → readBody (contentsOf form contents valid) line ≡ granted x
     to true v e =
         let l : frameOf (body x) ≡ line = cc (rw v at e) in
         rw l at (line-back form contents valid body x (small v) (formed v) (same v) v)
     to false v e = let no : _≡_ {A = ℕ} 0 1 = cc (rw v at e) in absurd (omega arith)
 
-    from : readOf (contentsOf form contents valid) line ≡ granted x → lineOf (valid x) (body x) ≡ granted line
+    from : readBody (contentsOf form contents valid) line ≡ granted x → lineOf (valid x) (body x) ≡ granted line
     from e = let t = line-only form contents valid body x forth line e in rw (t .1) (ap granted (sym (t .0)))
 
 pub line-valid : (valid : Bool) (body line : List ℕ) → lineOf valid body ≡ granted line → valid ≡ true
@@ -114,16 +114,16 @@ pub line-length : (valid : Bool) (body line : List ℕ) → lineOf valid body �
 line-length true body line e = let l : frameOf body ≡ line = cc e in ap length (sym l) ∙ frame-length body
 line-length false body line e = let no : _≡_ {A = ℕ} 0 1 = cc e in absurd (omega arith)
 
-pub form-of : (bs : List ℕ) (n kind : ℕ) → length bs ≡ n → byteAt bs 0 ≡ kind → formOf bs n kind ≡ true
-unfolding formOf
+pub form-of : (bs : List ℕ) (n kind : ℕ) → length bs ≡ n → byteAt bs 0 ≡ kind → bodyForm bs n kind ≡ true
+unfolding bodyForm
 form-of bs n kind e k = both (eq-eqb (length bs) n e) (eq-eqb (byteAt bs 0) kind k)
 
-pub form-length : (bs : List ℕ) (n kind : ℕ) → formOf bs n kind ≡ true → length bs ≡ n
-unfolding formOf
+pub form-length : (bs : List ℕ) (n kind : ℕ) → bodyForm bs n kind ≡ true → length bs ≡ n
+unfolding bodyForm
 form-length bs n kind e = eqb-true (length bs) n (first-true (eqb (length bs) n) (eqb (byteAt bs 0) kind) e)
 
-pub form-kind : (bs : List ℕ) (n kind : ℕ) → formOf bs n kind ≡ true → byteAt bs 0 ≡ kind
-unfolding formOf
+pub form-kind : (bs : List ℕ) (n kind : ℕ) → bodyForm bs n kind ≡ true → byteAt bs 0 ≡ kind
+unfolding bodyForm
 form-kind bs n kind e = eqb-true (byteAt bs 0) kind (second-true (eqb (length bs) n) (eqb (byteAt bs 0) kind) e)
 
 pub tuple-form-parts : (kind w : ℕ) (bs : List ℕ) → tupleForm kind w bs ≡ true
@@ -131,8 +131,8 @@ pub tuple-form-parts : (kind w : ℕ) (bs : List ℕ) → tupleForm kind w bs �
 unfolding tupleForm
 tuple-form-parts kind w bs e =
     let n = presentBelow (byteAt bs 1) regions * rangeSize w + 2 in
-    let f = second-true (ltb (byteAt bs 1) 8) (formOf bs n kind) e in
-    (ltb-true (byteAt bs 1) 8 (first-true (ltb (byteAt bs 1) 8) (formOf bs n kind) e), form-length bs n kind f, form-kind bs n kind f)
+    let f = second-true (ltb (byteAt bs 1) 8) (bodyForm bs n kind) e in
+    (ltb-true (byteAt bs 1) 8 (first-true (ltb (byteAt bs 1) 8) (bodyForm bs n kind) e), form-length bs n kind f, form-kind bs n kind f)
 
 pub record EntryForm (kind w : ℕ) (bs : List ℕ) : Type 0 where
   pub name : layoutOf w bs 1 .name .length ≤ maxName
@@ -148,7 +148,7 @@ entry-form-parts kind w bs e =
     let p = layoutOf w bs 1 in
     let n = leb (p .name .length) maxName in
     let a = leb (p .abbreviation .length) maxAbbreviation in
-    let f = formOf bs (past (p .abbreviation)) kind in
+    let f = bodyForm bs (past (p .abbreviation)) kind in
     let l = leb 1 (p .class) in
     let h = leb (p .class) 3 in
     let t = three-true n a (f && l && h) e in
@@ -179,10 +179,10 @@ module _ {valid test : Bool} (e : test ≡ valid) where
 
 -- ---- the kind of a line
 
-pub kind-is : (line : List ℕ) (n : ℕ) → framedOf line ≡ true → byteAt (bodyOf line) 0 ≡ n → 1 ≤ n → n ≤ 4 → kindOf line ≡ granted n
+pub kind-is : (line : List ℕ) (n : ℕ) → framedOf line ≡ true → byteAt (bodyOf line) 0 ≡ n → 1 ≤ n → n ≤ 4 → lineKindOf line ≡ granted n
 kind-is line n f e l h = rw (f, e, le-leb 1 n l, le-leb n 4 h)
 
-pub kind-none : (line : List ℕ) → (framedOf line ≡ true → 1 ≤ byteAt (bodyOf line) 0 → byteAt (bodyOf line) 0 ≤ 4 → ⊥) → kindOf line ≡ refused 22 none
+pub kind-none : (line : List ℕ) → (framedOf line ≡ true → 1 ≤ byteAt (bodyOf line) 0 → byteAt (bodyOf line) 0 ≤ 4 → ⊥) → lineKindOf line ≡ refused 22 none
 kind-none line h =
     let k = byteAt (bodyOf line) 0 in
     let no : (framedOf line && leb 1 k && leb k 4) ≡ false =

@@ -1,4 +1,4 @@
--- The laws of `numberOf`: a number and its digits in a base, the lowest first. Assumes nothing.
+-- The laws of `baseNumber`: a number and its digits in a base, the lowest first.
 use mathlib.Core.Bool.{cond}
 use mathlib.Core.Path.{_≡_, refl, sym, ap, ap₂, _∙_}
 use Prim.Native.Nat.{ℕ, zero, suc, _+_, _*_, _-_, _/_, _%_, _^_, _≤_, _<_}
@@ -8,7 +8,7 @@ use native.Mathlib.Omega.{arith}
 use lib.Arith.{lt-one}
 use lib.Dec.{eqb}
 use lib.Pow.{mod-mod-pow, mod-pow-add, pow-add, pow-pos}
-use Rattle.hexline.specs.Body.{numberOf}
+use Rattle.hexline.specs.Body.{baseNumber}
 
 -- the digits past the lowest are those of the quotient
 pub quotient-digit : (w b k : ℕ) → w / b ^ suc k ≡ w / b / b ^ k
@@ -19,48 +19,48 @@ lowest-digit w b = ap (λ (p : ℕ). w / p) (pow-zero b) ∙ div-one w
 
 module _ (b : ℕ) (f : ℕ → ℕ) where
   -- digits below the base are those of their number
-  pub number-digit : ((k : ℕ) → f k < b) → (i n k : ℕ) → k < n → numberOf b f i n / b ^ k % b ≡ f (i + k)
-  unfolding numberOf
+  pub number-digit : ((k : ℕ) → f k < b) → (i n k : ℕ) → k < n → baseNumber b f i n / b ^ k % b ≡ f (i + k)
+  unfolding baseNumber
   number-digit h i zero k l = absurd (omega arith)
   number-digit h i (suc n) zero l =
       let pos : 0 < b = omega (arith, h i) in
-      ap (λ (x : ℕ). x % b) (lowest-digit (f i + b * numberOf b f (suc i) n) b)
-      ∙ add-mul-mod-self-left (f i) b (numberOf b f (suc i) n) ∙ mod-eq-of-lt (h i) ∙ ap f (sym (add-zero i))
+      ap (λ (x : ℕ). x % b) (lowest-digit (f i + b * baseNumber b f (suc i) n) b)
+      ∙ add-mul-mod-self-left (f i) b (baseNumber b f (suc i) n) ∙ mod-eq-of-lt (h i) ∙ ap f (sym (add-zero i))
   number-digit h i (suc n) (suc k) l =
       let pos : 0 < b = omega (arith, h i) in
-      let q : (f i + b * numberOf b f (suc i) n) / b ≡ numberOf b f (suc i) n =
-      add-mul-div-left (f i) (numberOf b f (suc i) n) pos ∙ ap (λ (x : ℕ). x + numberOf b f (suc i) n) (div-eq-of-lt (h i)) ∙ omega arith in
-      ap (λ (x : ℕ). x % b) (quotient-digit (f i + b * numberOf b f (suc i) n) b k ∙ ap (λ (x : ℕ). x / b ^ k) q)
+      let q : (f i + b * baseNumber b f (suc i) n) / b ≡ baseNumber b f (suc i) n =
+      add-mul-div-left (f i) (baseNumber b f (suc i) n) pos ∙ ap (λ (x : ℕ). x + baseNumber b f (suc i) n) (div-eq-of-lt (h i)) ∙ omega arith in
+      ap (λ (x : ℕ). x % b) (quotient-digit (f i + b * baseNumber b f (suc i) n) b k ∙ ap (λ (x : ℕ). x / b ^ k) q)
       ∙ number-digit h (suc i) n k (omega arith) ∙ ap f (omega arith)
 
   -- a number is known by its digits
-  pub number-only : 0 < b → (i n w : ℕ) → ((k : ℕ) → k < n → f (i + k) ≡ w / b ^ k % b) → w < b ^ n → numberOf b f i n ≡ w
-  unfolding numberOf
+  pub number-only : 0 < b → (i n w : ℕ) → ((k : ℕ) → k < n → f (i + k) ≡ w / b ^ k % b) → w < b ^ n → baseNumber b f i n ≡ w
+  unfolding baseNumber
   number-only pos i zero w h l = sym (lt-one (rw pow-zero at l))
   number-only pos i (suc n) w h l =
       let low : f i ≡ w % b = ap f (sym (add-zero i)) ∙ h 0 (omega arith) ∙ ap (λ (x : ℕ). x % b) (lowest-digit w b) in
-      let high : numberOf b f (suc i) n ≡ w / b =
+      let high : baseNumber b f (suc i) n ≡ w / b =
       number-only pos (suc i) n (w / b)
       (λ k m. ap f (omega arith) ∙ h (suc k) (omega arith) ∙ ap (λ (x : ℕ). x % b) (quotient-digit w b k))
       (div-lt-iff-lt-mul pos .1 (rw pow-suc at l)) in
       ap₂ (λ (x y : ℕ). x + b * y) low high ∙ mod-add-div w b
 
-  pub number-bound : ((k : ℕ) → f k < b) → (i n : ℕ) → numberOf b f i n < b ^ n
-  unfolding numberOf
+  pub number-bound : ((k : ℕ) → f k < b) → (i n : ℕ) → baseNumber b f i n < b ^ n
+  unfolding baseNumber
   number-bound h i zero = rw pow-zero (zero-lt-suc 0)
   number-bound h i (suc n) =
-      let ih : numberOf b f (suc i) n < b ^ n = number-bound h (suc i) n in
-      let m : b * (numberOf b f (suc i) n + 1) ≤ b * b ^ n = mul-le-mul-left b (omega arith) in
-      let e : b * (numberOf b f (suc i) n + 1) ≡ b * numberOf b f (suc i) n + b = mul-add b (numberOf b f (suc i) n) 1 ∙ ap (λ (x : ℕ). b * numberOf b f (suc i) n + x) (mul-one b) in
+      let ih : baseNumber b f (suc i) n < b ^ n = number-bound h (suc i) n in
+      let m : b * (baseNumber b f (suc i) n + 1) ≤ b * b ^ n = mul-le-mul-left b (omega arith) in
+      let e : b * (baseNumber b f (suc i) n + 1) ≡ b * baseNumber b f (suc i) n + b = mul-add b (baseNumber b f (suc i) n) 1 ∙ ap (λ (x : ℕ). b * baseNumber b f (suc i) n + x) (mul-one b) in
       rw pow-succ' (omega (arith, h i))
 
   -- a loop that takes the digits from the highest down
-  pub number-next : (i n w : ℕ) → w ≡ numberOf b f (i + 1) n → w * b + f i ≡ numberOf b f i (n + 1)
-  unfolding numberOf
+  pub number-next : (i n w : ℕ) → w ≡ baseNumber b f (i + 1) n → w * b + f i ≡ baseNumber b f i (n + 1)
+  unfolding baseNumber
   number-next i n w e =
       let c = mul-comm w b in
-      let s : w ≡ numberOf b f (suc i) n = e ∙ ap (λ (j : ℕ). numberOf b f j n) (add-one i) in
-      rw add-one (ap (λ (x : ℕ). x + f i) (c ∙ ap (λ (x : ℕ). b * x) s) ∙ add-comm (b * numberOf b f (suc i) n) (f i))
+      let s : w ≡ baseNumber b f (suc i) n = e ∙ ap (λ (j : ℕ). baseNumber b f j n) (add-one i) in
+      rw add-one (ap (λ (x : ℕ). x + f i) (c ∙ ap (λ (x : ℕ). b * x) s) ∙ add-comm (b * baseNumber b f (suc i) n) (f i))
 
 -- eight bits a byte
 pub pow-byte : (k : ℕ) → 2 ^ (k * 8) ≡ 256 ^ k
@@ -96,8 +96,8 @@ byte-bit x j k h =
     ∙ sym (ap (λ (n : ℕ). x / 256 ^ j % 2 ^ n / 2 ^ k % 2) (sym d) ∙ low-bit (x / 256 ^ j) (7 - k) k)
 
 -- a number is known by its digits, wherever they stand
-pub number-moved : (b : ℕ) (f g : ℕ → ℕ) (i j n : ℕ) → ((k : ℕ) → k < n → f (i + k) ≡ g (j + k)) → numberOf b f i n ≡ numberOf b g j n
-unfolding numberOf
+pub number-moved : (b : ℕ) (f g : ℕ → ℕ) (i j n : ℕ) → ((k : ℕ) → k < n → f (i + k) ≡ g (j + k)) → baseNumber b f i n ≡ baseNumber b g j n
+unfolding baseNumber
 number-moved b f g i j zero h = refl
 number-moved b f g i j (suc n) h =
     ap₂ (λ (x y : ℕ). x + b * y) (ap f (sym (add-zero i)) ∙ h 0 (omega arith) ∙ ap g (add-zero j))

@@ -1,4 +1,4 @@
--- The laws of tuples as bytes. Assumes nothing.
+-- The laws of tuples as bytes.
 use mathlib.Core.Bool.{Bool, true, false, cond}
 use mathlib.Core.List.{List, [], _++_}
 use mathlib.Core.Logic.{⊎-elim}
@@ -12,10 +12,10 @@ use borrow.Author.Tests.{eqb-true}
 use lib.ListN.{length, length-append}
 use lib.Pow.{pow-mono}
 use lib.Seq.{ext-getD}
-use Rattle.label.specs.Index.{tabulate}
+use Rattle.common.specs.Index.{tabulate}
 use Rattle.label.specs.Region.{regions}
 use Rattle.label.specs.Words.{bit, words}
-use Rattle.label.proofs.IndexLaws.{tabulate-at, tabulate-length}
+use Rattle.common.proofs.IndexLaws.{tabulate-at, tabulate-length}
 use Rattle.range.specs.Range
 use Rattle.range.specs.Tuple
 use Rattle.range.specs.declared.Range.{Range}
@@ -23,7 +23,7 @@ use Rattle.range.specs.declared.tuple.RegionRange.{RegionRange}
 use Rattle.range.specs.declared.tuple.Tuple.{Tuple}
 use Rattle.range.proofs.TupleLaws.{range-of, valid-absent, valid-placed, valid-region}
 use Rattle.frame.proofs.FrameLaws.{Bytes, bytes-append}
-use Rattle.hexline.specs.Body.{numberOf, rangeAt, rangeBytes, rangeSize}
+use Rattle.hexline.specs.Body.{baseNumber, rangeAt, rangeBytes, rangeSize}
 use Rattle.hexline.specs.Regions.{presenceOf, presentAt, presentBelow, regionAt, regionBytes, regionsBytes, tupleAt}
 use Rattle.hexline.proofs.BodyLaws.{Holds, Within, holds-first, holds-second, part, parts-join, range-back, range-bytes, range-forth, range-length}
 use Rattle.hexline.proofs.NumberLaws.{as-number, number-bound, number-digit, number-only}
@@ -38,7 +38,7 @@ pub region-none : (w : ℕ) (e : RegionRange) → Tuple.isThere e ≡ false → 
 unfolding regionBytes
 region-none w e h = rw h
 
-pub regions-next : (w : ℕ) (t : Tuple) (n : ℕ) → regionsBytes w t (n + 1) ≡ regionsBytes w t n ++ regionBytes w (Tuple.rangeAt t n)
+pub regions-next : (w : ℕ) (t : Tuple) (n : ℕ) → regionsBytes w t (n + 1) ≡ regionsBytes w t n ++ regionBytes w (Tuple.regionRangeAt t n)
 unfolding regionsBytes
 regions-next w t n = rw add-one
 
@@ -67,20 +67,20 @@ unfolding regionsBytes
 regions-size w t zero = omega arith
 regions-size w t (suc n) =
     let ih : length (regionsBytes w t n) ≤ n * rangeSize w = regions-size w t n in
-    let a = length-append (regionsBytes w t n) (regionBytes w (Tuple.rangeAt t n)) in
-    let e = region-size w (Tuple.rangeAt t n) in
-    let m : cond (Tuple.isThere (Tuple.rangeAt t n)) 1 0 * rangeSize w ≤ 1 * rangeSize w = mul-le-mul-right (rangeSize w) (one-of (Tuple.isThere (Tuple.rangeAt t n))) in
+    let a = length-append (regionsBytes w t n) (regionBytes w (Tuple.regionRangeAt t n)) in
+    let e = region-size w (Tuple.regionRangeAt t n) in
+    let m : cond (Tuple.isThere (Tuple.regionRangeAt t n)) 1 0 * rangeSize w ≤ 1 * rangeSize w = mul-le-mul-right (rangeSize w) (one-of (Tuple.isThere (Tuple.regionRangeAt t n))) in
     let s = suc-mul n (rangeSize w) in
     omega arith
 
 -- where all are there, exactly
-pub regions-full : (w : ℕ) (t : Tuple) (n : ℕ) → ((r : ℕ) → r < n → Tuple.isThere (Tuple.rangeAt t r) ≡ true) → length (regionsBytes w t n) ≡ n * rangeSize w
+pub regions-full : (w : ℕ) (t : Tuple) (n : ℕ) → ((r : ℕ) → r < n → Tuple.isThere (Tuple.regionRangeAt t r) ≡ true) → length (regionsBytes w t n) ≡ n * rangeSize w
 unfolding regionsBytes
 regions-full w t zero h = sym (zero-mul (rangeSize w))
 regions-full w t (suc n) h =
     let ih : length (regionsBytes w t n) ≡ n * rangeSize w = regions-full w t n (λ r l. h r (omega arith)) in
-    let a = length-append (regionsBytes w t n) (regionBytes w (Tuple.rangeAt t n)) in
-    let e = rw (h n (omega arith)) at (region-size w (Tuple.rangeAt t n)) in
+    let a = length-append (regionsBytes w t n) (regionBytes w (Tuple.regionRangeAt t n)) in
+    let e = rw (h n (omega arith)) at (region-size w (Tuple.regionRangeAt t n)) in
     let o = one-mul (rangeSize w) in
     let s = suc-mul n (rangeSize w) in
     omega arith
@@ -116,10 +116,10 @@ present-room p r n s h e =
 -- ---- the byte of presence
 
 pub present-small : (t : Tuple) (r : ℕ) → presentAt t r < 2
-present-small t r = let one = one-of (Tuple.isThere (Tuple.rangeAt t r)) in omega arith
+present-small t r = let one = one-of (Tuple.isThere (Tuple.regionRangeAt t r)) in omega arith
 
 -- the bits past the lowest leave room for one more
-pub presence-room : (t : Tuple) (r n : ℕ) → n ≤ 2 → numberOf 2 (presentAt t) r n < 4
+pub presence-room : (t : Tuple) (r n : ℕ) → n ≤ 2 → baseNumber 2 (presentAt t) r n < 4
 presence-room t r n h = lt-of-lt-of-le (number-bound 2 (presentAt t) (present-small t) r n) (pow-mono h)
 
 pub presence-small : (t : Tuple) → presenceOf t < 8
@@ -130,17 +130,17 @@ as-bit : (b : Bool) → eqb (cond b 1 0) 1 ≡ b
 as-bit true = refl
 as-bit false = refl
 
-presence-bit : (t : Tuple) (r : ℕ) → r < regions → bit (presenceOf t) r ≡ Tuple.isThere (Tuple.rangeAt t r)
+presence-bit : (t : Tuple) (r : ℕ) → r < regions → bit (presenceOf t) r ≡ Tuple.isThere (Tuple.regionRangeAt t r)
 unfolding bit presenceOf
 presence-bit t r h =
-    ap (λ (x : ℕ). eqb x 1) (number-digit 2 (presentAt t) (present-small t) 0 regions r h ∙ ap (presentAt t) (omega arith)) ∙ as-bit (Tuple.isThere (Tuple.rangeAt t r))
+    ap (λ (x : ℕ). eqb x 1) (number-digit 2 (presentAt t) (present-small t) 0 regions r h ∙ ap (presentAt t) (omega arith)) ∙ as-bit (Tuple.isThere (Tuple.regionRangeAt t r))
 
 presence-below : (w : ℕ) (t : Tuple) (n : ℕ) → n ≤ regions → length (regionsBytes w t n) ≡ presentBelow (presenceOf t) n * rangeSize w
 unfolding regionsBytes presentBelow
 presence-below w t zero h = sym (zero-mul (rangeSize w))
 presence-below w t (suc n) h =
-    length-append (regionsBytes w t n) (regionBytes w (Tuple.rangeAt t n))
-    ∙ ap₂ _+_ (presence-below w t n (omega arith)) (region-size w (Tuple.rangeAt t n) ∙ ap (λ (b : Bool). cond b 1 0 * rangeSize w) (sym (presence-bit t n h)))
+    length-append (regionsBytes w t n) (regionBytes w (Tuple.regionRangeAt t n))
+    ∙ ap₂ _+_ (presence-below w t n (omega arith)) (region-size w (Tuple.regionRangeAt t n) ∙ ap (λ (b : Bool). cond b 1 0 * rangeSize w) (sym (presence-bit t n h)))
     ∙ sym (add-mul (presentBelow (presenceOf t) n) (cond (bit (presenceOf t) n) 1 0) (rangeSize w))
 
 pub presence-size : (w : ℕ) (t : Tuple) → length (regionsBytes w t regions) ≡ presentBelow (presenceOf t) regions * rangeSize w
@@ -150,37 +150,37 @@ presence-size w t = presence-below w t regions (omega arith)
 
 -- every category of a tuple's labels stands in the bytes of w words
 abbrev pub WithinTuple : ℕ → Tuple → Type 0
-WithinTuple w t = (r : ℕ) → r < regions → Within w (Tuple.rangeAt t r .range .low) × Within w (Tuple.rangeAt t r .range .high)
+WithinTuple w t = (r : ℕ) → r < regions → Within w (Tuple.regionRangeAt t r .range .low) × Within w (Tuple.regionRangeAt t r .range .high)
 
 region-bytes : (w : ℕ) (e : RegionRange) → (Tuple.isThere e ≡ true → Range.validOf (e .range) ≡ true) → Bytes (regionBytes w e)
 region-bytes w e v =
     by-present (Tuple.isThere e) (λ h. rw (region-there w e h) (range-bytes w (e .range) (v h))) (λ h. rw (region-none w e h) (λ i. omega arith))
 
 -- the range of a region that is there is valid
-pub present-valid : (t : Tuple) → Tuple.validOf t ≡ true → (r : ℕ) → r < regions → Tuple.isThere (Tuple.rangeAt t r) ≡ true → Range.validOf (Tuple.rangeAt t r .range) ≡ true
-present-valid t v r l p = valid-placed r (Tuple.rangeAt t r) p (valid-region t v r l) .valid
+pub present-valid : (t : Tuple) → Tuple.validOf t ≡ true → (r : ℕ) → r < regions → Tuple.isThere (Tuple.regionRangeAt t r) ≡ true → Range.validOf (Tuple.regionRangeAt t r .range) ≡ true
+present-valid t v r l p = valid-placed r (Tuple.regionRangeAt t r) p (valid-region t v r l) .valid
 
 pub regions-bytes : (w : ℕ) (t : Tuple) → Tuple.validOf t ≡ true → (n : ℕ) → n ≤ regions → Bytes (regionsBytes w t n)
 unfolding regionsBytes
 regions-bytes w t v zero h = λ i. omega arith
 regions-bytes w t v (suc n) h =
-    bytes-append (regionsBytes w t n) (regionBytes w (Tuple.rangeAt t n)) (regions-bytes w t v n (omega arith)) (region-bytes w (Tuple.rangeAt t n) (present-valid t v n h))
+    bytes-append (regionsBytes w t n) (regionBytes w (Tuple.regionRangeAt t n)) (regions-bytes w t v n (omega arith)) (region-bytes w (Tuple.regionRangeAt t n) (present-valid t v n h))
 
 -- the regions below n stand first
 holds-below : (w : ℕ) (t : Tuple) (bs : List ℕ) (i m n : ℕ) → m ≤ n → Holds bs i (regionsBytes w t n) → Holds bs i (regionsBytes w t m)
 unfolding regionsBytes
 holds-below w t bs i m zero l h = let e : m ≡ 0 = omega arith in rw e h
 holds-below w t bs i m (suc n) l h =
-    ⊎-elim (λ e. rw e h) (λ q. holds-below w t bs i m n (omega arith) (holds-first bs i (regionsBytes w t n) (regionBytes w (Tuple.rangeAt t n)) h)) (eq-or-lt-of-le l)
+    ⊎-elim (λ e. rw e h) (λ q. holds-below w t bs i m n (omega arith) (holds-first bs i (regionsBytes w t n) (regionBytes w (Tuple.regionRangeAt t n)) h)) (eq-or-lt-of-le l)
 
 module _ (w : ℕ) (t : Tuple) (bs : List ℕ) (i : ℕ) (ty : Tuple.TypedTuple t) (within : WithinTuple w t) (valid : Tuple.validOf t ≡ true)
     (h : Holds bs i (regionsBytes w t regions)) where
-  region-back : (r : ℕ) → r < regions → regionAt w bs (presenceOf t) i r ≡ Tuple.rangeAt t r
+  region-back : (r : ℕ) → r < regions → regionAt w bs (presenceOf t) i r ≡ Tuple.regionRangeAt t r
   unfolding regionAt
   region-back r l = by-present (Tuple.isThere e) there none
     where
       e : RegionRange
-      e = Tuple.rangeAt t r
+      e = Tuple.regionRangeAt t r
 
       same : bit (presenceOf t) r ≡ Tuple.isThere e
       same = presence-bit t r l
@@ -211,7 +211,7 @@ module _ (w : ℕ) (t : Tuple) (bs : List ℕ) (i : ℕ) (ty : Tuple.TypedTuple 
 -- ---- a tuple that is read is written as the bytes that it was read from
 
 module _ (w : ℕ) (bs : List ℕ) (p i : ℕ) where
-  at-region : (r : ℕ) → r < regions → Tuple.rangeAt (tupleAt w bs p i) r ≡ regionAt w bs p i r
+  at-region : (r : ℕ) → r < regions → Tuple.regionRangeAt (tupleAt w bs p i) r ≡ regionAt w bs p i r
   unfolding tupleAt
   at-region r h = range-of (regionAt w bs p i) r h
 

@@ -1,5 +1,5 @@
 -- The laws of the alias entry that stands in a line: of an accepted line it is the entry that is read, and its name and abbreviation are
--- bytes of the line's body. Also what the texts of a valid entry are. Assumes nothing.
+-- bytes of the line's body. Also what the texts of a valid entry are.
 use mathlib.Core.Bool.{true}
 use mathlib.Core.List.{List}
 use mathlib.Core.Path.{_≡_, sym, _∙_}
@@ -7,15 +7,15 @@ use Prim.Native.Nat.{ℕ, _+_, _≤_, _<_, min}
 use native.Mathlib.Omega.{arith}
 use lib.ListN.{getD, length, take, length-take}
 use lib.Seq.{ext-getD, getD-take}
-use Rattle.label.specs.Answer.{granted, isGranted}
-use Rattle.label.specs.Index.{tabulate}
-use Rattle.label.proofs.IndexLaws.{tabulate-at, tabulate-length}
+use Rattle.common.specs.Answer.{granted, isGranted}
+use Rattle.common.specs.Index.{tabulate}
+use Rattle.common.proofs.IndexLaws.{tabulate-at, tabulate-length}
 use Rattle.frame.specs.Frame.{bodyOf}
 use Rattle.frame.proofs.FrameLaws.{body-small}
 use Rattle.hexline.specs.Body.{byteAt, lineWords}
 use Rattle.hexline.specs.Entry
 use Rattle.hexline.specs.Entry.{TypedEntry, abbreviationBytes, abbreviationSize, atMost, entryFrom, isNameByte, layoutOf, nameBytes, nameOf, nameSize, spanBytes, textByte, textFrom}
-use Rattle.hexline.specs.Line.{abbreviationIn, entryForm, entryIn, nameIn, readEntryOf, standingIn}
+use Rattle.hexline.specs.Line.{abbreviationIn, entryForm, entryIn, nameIn, readEntryLine, standingIn}
 use Rattle.hexline.specs.declared.entry.Entry.{Entry}
 use Rattle.hexline.specs.declared.entry.Span.{Span}
 use Rattle.hexline.proofs.EntryLaws.{label-from-typed, name-byte, text-byte, text-bytes, valid-parts}
@@ -23,11 +23,11 @@ use Rattle.hexline.proofs.LineLaws.{read-contents, read-granted}
 
 -- ---- of an accepted line, what stands there is what is read, and is valid
 
-pub entry-standing : (line : List ℕ) (e : Entry) → readEntryOf line ≡ granted e → (standingIn line ≡ e) × (Entry.validOf e ≡ true)
+pub entry-standing : (line : List ℕ) (e : Entry) → readEntryLine line ≡ granted e → (standingIn line ≡ e) × (Entry.validOf e ≡ true)
 unfolding standingIn
 entry-standing = read-granted (entryForm 4 lineWords) (entryIn lineWords) Entry.validOf
 
-pub standing-read : (line : List ℕ) → isGranted (readEntryOf line) ≡ true → readEntryOf line ≡ granted (standingIn line)
+pub standing-read : (line : List ℕ) → isGranted (readEntryLine line) ≡ true → readEntryLine line ≡ granted (standingIn line)
 unfolding standingIn
 standing-read = read-contents (entryForm 4 lineWords) (entryIn lineWords) Entry.validOf
 

@@ -1,17 +1,17 @@
--- What a body of an alias entry is judged by, and where the texts of an entry stand. Assumes nothing.
+-- What a body of an alias entry is judged by, and where the texts of an entry stand.
 use mathlib.Core.Bool.{Bool, true, false, cond, _&&_, _||_}
 use mathlib.Core.List.{List}
 use mathlib.Core.Path.{_≡_}
 use Prim.Native.Nat.{ℕ}
 use lib.Dec.{eqb, leb}
 use lib.ListN.{drop, length, replicate, take}
-use Rattle.label.specs.Answer.{isGranted}
-use Rattle.label.specs.Buffer.{overlay}
-use Rattle.label.specs.Index.{every}
+use Rattle.common.specs.Answer.{isGranted}
+use Rattle.common.specs.Buffer.{overlay}
+use Rattle.common.specs.Index.{every}
 use Rattle.frame.specs.Frame.{bodyOf}
 use Rattle.hexline.specs.Body.{byteAt, lineWords}
 use Rattle.hexline.specs.Entry.{abbreviationBytes, isLetter, isNameByte, layoutOf, nameBytes}
-use Rattle.hexline.specs.Line.{readEntryOf, standingIn}
+use Rattle.hexline.specs.Line.{readEntryLine, standingIn}
 use Rattle.hexline.specs.declared.accept.Judged.{Judged}
 use Rattle.hexline.specs.declared.entry.Span.{Span}
 
@@ -33,9 +33,9 @@ abbrev pub noEntry : Judged
 noEntry = record { accepted = false; name = noText; abbreviation = noText; body = replicate 83 0 }
 
 -- an accepted line of kind 04: where the texts of its entry stand in its body, and the body with zeros behind it
-unfoldable pub judgedOf : List ℕ → Judged
-judgedOf line =
-    cond (isGranted (readEntryOf line))
+unfoldable pub judgedEntry : List ℕ → Judged
+judgedEntry line =
+    cond (isGranted (readEntryLine line))
     (record {
       accepted = true;
       name = layoutOf lineWords (bodyOf line) 1 .name;
@@ -45,10 +45,10 @@ judgedOf line =
     noEntry
 
 -- the bytes of a buffer at a span
-abbrev pub partOf : List ℕ → Span → List ℕ
-partOf out s = take (s .length) (drop (s .at) out)
+abbrev pub spanPart : List ℕ → Span → List ℕ
+spanPart out s = take (s .length) (drop (s .at) out)
 
 -- the texts of the entry in a line stand in a buffer at these spans
 pub record TextsAt (line : List ℕ) (name abbreviation : Span) (out : List ℕ) : Type 0 where
-  pub name-is : partOf out name ≡ nameBytes (standingIn line)
-  pub abbreviation-is : partOf out abbreviation ≡ abbreviationBytes (standingIn line)
+  pub name-is : spanPart out name ≡ nameBytes (standingIn line)
+  pub abbreviation-is : spanPart out abbreviation ≡ abbreviationBytes (standingIn line)

@@ -1,12 +1,11 @@
--- Document 01, "Hex lines": labels and ranges as the bytes of a body, over the number of words that a label's set has there. Assumes
--- nothing.
+-- Document 01, "Hex lines": labels and ranges as the bytes of a body, over the number of words that a label's set has there.
 use mathlib.Core.Bool.{cond}
 use mathlib.Core.List.{List, _∷_, _++_}
 use mathlib.Core.Path.{_≡_}
 use Prim.Native.Nat.{ℕ, zero, suc, _+_, _*_}
 use lib.Dec.{ltb}
 use lib.ListN.{getD, length, take}
-use Rattle.label.specs.Index.{tabulate}
+use Rattle.common.specs.Index.{tabulate}
 use Rattle.label.specs.Label
 use Rattle.label.specs.Words.{has, words}
 use Rattle.label.specs.declared.Label.{Label}
@@ -21,9 +20,9 @@ abbrev pub byteAt : List ℕ → ℕ → ℕ
 byteAt bs i = getD bs i 0
 
 -- the number whose n digits in base b are f i, f (i + 1), .., the lowest first
-unfoldable pub numberOf : ℕ → (ℕ → ℕ) → ℕ → ℕ → ℕ
-numberOf b f i zero = 0
-numberOf b f i (suc n) = f i + b * numberOf b f (suc i) n
+unfoldable pub baseNumber : ℕ → (ℕ → ℕ) → ℕ → ℕ → ℕ
+baseNumber b f i zero = 0
+baseNumber b f i (suc n) = f i + b * baseNumber b f (suc i) n
 
 -- ---- writing
 
@@ -33,7 +32,7 @@ categoryBit ws c = cond (has ws c) 1 0
 
 -- byte i of a set: category c is bit c mod 8 of byte c / 8
 unfoldable pub categoryByte : List ℕ → ℕ → ℕ
-categoryByte ws i = numberOf 2 (λ k. categoryBit ws (8 * i + k)) 0 8
+categoryByte ws i = baseNumber 2 (λ k. categoryBit ws (8 * i + k)) 0 8
 
 -- the hierarchy, then the categories, in the bytes of w words
 unfoldable pub labelBytes : ℕ → Label → List ℕ
@@ -54,7 +53,7 @@ rangeSize w = labelSize w + labelSize w
 
 -- word j of a set of w words whose bytes begin at index i
 unfoldable pub wordFrom : ℕ → List ℕ → ℕ → ℕ → ℕ
-wordFrom w bs i j = cond (ltb j w) (numberOf 256 (byteAt bs) (i + 8 * j) 8) 0
+wordFrom w bs i j = cond (ltb j w) (baseNumber 256 (byteAt bs) (i + 8 * j) 8) 0
 
 unfoldable pub labelAt : ℕ → List ℕ → ℕ → Label
 labelAt w bs i = Label.labelOf (byteAt bs i) (tabulate (wordFrom w bs (i + 1)) words)
@@ -64,7 +63,7 @@ rangeAt w bs i = Range.rangeOf (labelAt w bs i) (labelAt w bs (i + labelSize w))
 
 -- ---- a buffer that is filled from the front: bytes are put at index i, and r is the index past them
 
-pub record Appended (before : List ℕ) (i : ℕ) (bs : List ℕ) (r : ℕ) (after : List ℕ) : Type 0 where
+pub record BodyAppended (before : List ℕ) (i : ℕ) (bs : List ℕ) (r : ℕ) (after : List ℕ) : Type 0 where
   pub next : r ≡ i + length bs
   pub holds : take r after ≡ take i before ++ bs
   pub size : length after ≡ length before

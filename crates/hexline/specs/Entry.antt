@@ -1,11 +1,11 @@
--- Document 01, "Hex lines" and "Names and text": an alias entry, and its bytes in a body. Assumes nothing.
+-- Document 01, "Hex lines" and "Names and text": an alias entry, and its bytes in a body.
 use mathlib.Core.Bool.{Bool, cond, _&&_, _||_}
 use mathlib.Core.List.{List, [], _∷_, _++_}
 use mathlib.Core.Path.{_≡_}
 use Prim.Native.Nat.{ℕ, _+_, _^_, _<_, min}
 use lib.Dec.{eqb, leb, ltb}
 use lib.ListN.{length, replicate, take}
-use Rattle.label.specs.Index.{every, tabulate}
+use Rattle.common.specs.Index.{every, tabulate}
 use Rattle.label.specs.Label
 use Rattle.label.specs.declared.Label.{Label}
 use Rattle.hexline.specs.Body.{byteAt, labelAt, labelBytes, labelSize}
@@ -79,10 +79,10 @@ validOf e =
 
 -- ---- writing
 
-abbrev pub classOf : Value → ℕ
-classOf (Hierarchy h) = 1
-classOf (Category c) = 2
-classOf WholeLabel = 3
+abbrev pub valueClass : Value → ℕ
+valueClass (Hierarchy h) = 1
+valueClass (Category c) = 2
+valueClass WholeLabel = 3
 
 unfoldable pub valueBytes : ℕ → Value → Label → List ℕ
 valueBytes w (Hierarchy h) l = h ∷ []
@@ -96,7 +96,7 @@ textBytes bs n = n ∷ take n bs
 -- class, value, name, abbreviation
 unfoldable pub entryBytes : ℕ → Entry → List ℕ
 entryBytes w e =
-    classOf (e .value) ∷ valueBytes w (e .value) (e .label) ++ textBytes (e .name .bytes) (e .name .length)
+    valueClass (e .value) ∷ valueBytes w (e .value) (e .label) ++ textBytes (e .name .bytes) (e .name .length)
     ++ textBytes (e .abbreviation .bytes) (e .abbreviation .length)
 
 -- the most bytes that this is: class, label, and two lengths with their texts
@@ -124,8 +124,8 @@ nameSpan w bs i = spanOf bs (i + 1 + valueSize w (byteAt bs i))
 unfoldable pub layoutOf : ℕ → List ℕ → ℕ → Layout
 layoutOf w bs i = record { class = byteAt bs i; name = nameSpan w bs i; abbreviation = spanOf bs (past (nameSpan w bs i)) }
 
-unfoldable pub valueFrom : ℕ → ℕ → Value
-valueFrom class b = cond (eqb class 1) (Hierarchy b) (cond (eqb class 2) (Category b) WholeLabel)
+unfoldable pub valueByClass : ℕ → ℕ → Value
+valueByClass class b = cond (eqb class 1) (Hierarchy b) (cond (eqb class 2) (Category b) WholeLabel)
 
 unfoldable pub labelFrom : ℕ → List ℕ → ℕ → ℕ → Label
 labelFrom w bs class i = cond (eqb class 3) (labelAt w bs i) Label.zeroLabel
@@ -141,7 +141,7 @@ textFrom most bs i n = tabulate (textByte bs i n) most
 -- the entry of a layout, its value at index i
 unfoldable pub entryFrom : ℕ → List ℕ → ℕ → Layout → Entry
 entryFrom w bs i p =
-    entryOf (valueFrom (p .class) (byteAt bs i)) (labelFrom w bs (p .class) i)
+    entryOf (valueByClass (p .class) (byteAt bs i)) (labelFrom w bs (p .class) i)
     (nameText (textFrom nameSize bs (p .name .at) (p .name .length)) (p .name .length))
     (abbreviationText (textFrom abbreviationSize bs (p .abbreviation .at) (p .abbreviation .length)) (p .abbreviation .length))
 

@@ -1,11 +1,11 @@
 -- Document 01, "Hex lines": the lines of labels, ranges, tuples and alias entries, kinds 01 to 04. A body is the kind, then the contents;
--- each definition is over the kind's number and the words that a set has in it. Assumes nothing.
+-- each definition is over the kind's number and the words that a set has in it.
 use mathlib.Core.Bool.{Bool, _&&_}
 use mathlib.Core.List.{List, _∷_}
 use Prim.Native.Nat.{ℕ, _+_, _*_, _^_}
 use lib.Dec.{eqb, leb, ltb}
 use lib.ListN.{length}
-use Rattle.label.specs.Answer.{Answer, granted, refusedBy, require}
+use Rattle.common.specs.Answer.{Answer, granted, refusedBy, require}
 use Rattle.label.specs.Label
 use Rattle.label.specs.Region.{regions}
 use Rattle.label.specs.declared.Label.{Label}
@@ -16,7 +16,7 @@ use Rattle.range.specs.declared.tuple.Tuple.{Tuple}
 use Rattle.hexline.specs.Body.{byteAt, labelAt, labelBytes, labelSize, lineWords, rangeAt, rangeBytes, rangeSize}
 use Rattle.hexline.specs.Entry
 use Rattle.hexline.specs.Entry.{abbreviationSize, atMost, entryBytes, entryFrom, layoutOf, maxAbbreviation, maxName, nameSize, past}
-use Rattle.frame.specs.Frame.{bodyOf, frameOf, framedOf, readOf}
+use Rattle.frame.specs.Frame.{bodyOf, frameOf, framedOf, readBody}
 use Rattle.hexline.specs.Regions.{presenceOf, presentBelow, regionsBytes, tupleAt}
 use Rattle.hexline.specs.declared.entry.Entry.{Entry}
 use Rattle.hexline.specs.declared.entry.Span.{Span}
@@ -26,8 +26,8 @@ use Rattle.hexline.specs.declared.Kind.the-variants.{OfLabel, OfRange, O
 -- ---- what a kind has in common with the others
 
 -- a body has so many bytes, and that kind
-unfoldable pub formOf : List ℕ → ℕ → ℕ → Bool
-formOf bs n kind = eqb (length bs) n && eqb (byteAt bs 0) kind
+unfoldable pub bodyForm : List ℕ → ℕ → ℕ → Bool
+bodyForm bs n kind = eqb (length bs) n && eqb (byteAt bs 0) kind
 
 -- what is read of a body that has the kind's form: the contents that stand there, where they are valid, else 22
 unfoldable pub contentsOf : {A : Type 0} → (List ℕ → Bool) → (List ℕ → A) → (A → Bool) → List ℕ → Answer A
@@ -43,17 +43,17 @@ unfoldable pub labelBody : ℕ → ℕ → Label → List ℕ
 labelBody kind w l = kind ∷ labelBytes w l
 
 unfoldable pub labelForm : ℕ → ℕ → List ℕ → Bool
-labelForm kind w bs = formOf bs (1 + labelSize w) kind
+labelForm kind w bs = bodyForm bs (1 + labelSize w) kind
 
-abbrev pub labelIn : ℕ → List ℕ → Label
-labelIn w bs = labelAt w bs 1
+abbrev pub labelInBody : ℕ → List ℕ → Label
+labelInBody w bs = labelAt w bs 1
 
 -- the line of a label, kind 01
 abbrev pub labelLineOf : Label → Answer (List ℕ)
 labelLineOf l = lineOf (Label.validOf l) (labelBody 1 lineWords l)
 
-abbrev pub readLabelOf : List ℕ → Answer Label
-readLabelOf = readOf (contentsOf (labelForm 1 lineWords) (labelIn lineWords) Label.validOf)
+abbrev pub readLabelLine : List ℕ → Answer Label
+readLabelLine = readBody (contentsOf (labelForm 1 lineWords) (labelInBody lineWords) Label.validOf)
 
 -- ---- ranges
 
@@ -61,7 +61,7 @@ unfoldable pub rangeBody : ℕ → ℕ → Range → List ℕ
 rangeBody kind w x = kind ∷ rangeBytes w x
 
 unfoldable pub rangeForm : ℕ → ℕ → List ℕ → Bool
-rangeForm kind w bs = formOf bs (1 + rangeSize w) kind
+rangeForm kind w bs = bodyForm bs (1 + rangeSize w) kind
 
 abbrev pub rangeIn : ℕ → List ℕ → Range
 rangeIn w bs = rangeAt w bs 1
@@ -70,8 +70,8 @@ rangeIn w bs = rangeAt w bs 1
 abbrev pub rangeLineOf : Range → Answer (List ℕ)
 rangeLineOf x = lineOf (Range.validOf x) (rangeBody 2 lineWords x)
 
-abbrev pub readRangeOf : List ℕ → Answer Range
-readRangeOf = readOf (contentsOf (rangeForm 2 lineWords) (rangeIn lineWords) Range.validOf)
+abbrev pub readRangeLine : List ℕ → Answer Range
+readRangeLine = readBody (contentsOf (rangeForm 2 lineWords) (rangeIn lineWords) Range.validOf)
 
 -- ---- tuples
 
@@ -80,7 +80,7 @@ tupleBody kind w t = kind ∷ presenceOf t ∷ regionsBytes w t regions
 
 -- the byte of presence has no bit but those of the regions, and the ranges that are there fill the body
 unfoldable pub tupleForm : ℕ → ℕ → List ℕ → Bool
-tupleForm kind w bs = ltb (byteAt bs 1) (2 ^ regions) && formOf bs (presentBelow (byteAt bs 1) regions * rangeSize w + 2) kind
+tupleForm kind w bs = ltb (byteAt bs 1) (2 ^ regions) && bodyForm bs (presentBelow (byteAt bs 1) regions * rangeSize w + 2) kind
 
 abbrev pub tupleIn : ℕ → List ℕ → Tuple
 tupleIn w bs = tupleAt w bs (byteAt bs 1) 2
@@ -89,8 +89,8 @@ tupleIn w bs = tupleAt w bs (byteAt bs 1) 2
 abbrev pub tupleLineOf : Tuple → Answer (List ℕ)
 tupleLineOf t = lineOf (Tuple.validOf t) (tupleBody 3 lineWords t)
 
-abbrev pub readTupleOf : List ℕ → Answer Tuple
-readTupleOf = readOf (contentsOf (tupleForm 3 lineWords) (tupleIn lineWords) Tuple.validOf)
+abbrev pub readTupleLine : List ℕ → Answer Tuple
+readTupleLine = readBody (contentsOf (tupleForm 3 lineWords) (tupleIn lineWords) Tuple.validOf)
 
 -- ---- alias entries
 
@@ -101,7 +101,7 @@ entryBody kind w e = kind ∷ entryBytes w e
 unfoldable pub entryForm : ℕ → ℕ → List ℕ → Bool
 entryForm kind w bs =
     leb (layoutOf w bs 1 .name .length) maxName && leb (layoutOf w bs 1 .abbreviation .length) maxAbbreviation
-    && (formOf bs (past (layoutOf w bs 1 .abbreviation)) kind && leb 1 (layoutOf w bs 1 .class) && leb (layoutOf w bs 1 .class) 3)
+    && (bodyForm bs (past (layoutOf w bs 1 .abbreviation)) kind && leb 1 (layoutOf w bs 1 .class) && leb (layoutOf w bs 1 .class) 3)
 
 abbrev pub entryIn : ℕ → List ℕ → Entry
 entryIn w bs = entryFrom w bs 2 (layoutOf w bs 1)
@@ -110,8 +110,8 @@ entryIn w bs = entryFrom w bs 2 (layoutOf w bs 1)
 abbrev pub entryLineOf : Entry → Answer (List ℕ)
 entryLineOf e = lineOf (Entry.validOf e) (entryBody 4 lineWords e)
 
-abbrev pub readEntryOf : List ℕ → Answer Entry
-readEntryOf = readOf (contentsOf (entryForm 4 lineWords) (entryIn lineWords) Entry.validOf)
+abbrev pub readEntryLine : List ℕ → Answer Entry
+readEntryLine = readBody (contentsOf (entryForm 4 lineWords) (entryIn lineWords) Entry.validOf)
 
 -- ---- the parts of the alias entry that stands in a line, whether or not the line is accepted: of an accepted line it is the entry that is
 -- read (the law `entry-standing`)
@@ -137,5 +137,5 @@ kindAnswerOf OfEntry = granted 4
 kindAnswerOf (Refused e) = refusedBy e
 
 -- the kind that a line says it has: a line that is no frame, or has another kind, is refused with 22
-abbrev pub kindOf : List ℕ → Answer ℕ
-kindOf line = require (framedOf line && leb 1 (byteAt (bodyOf line) 0) && leb (byteAt (bodyOf line) 0) 4) 22 (granted (byteAt (bodyOf line) 0))
+abbrev pub lineKindOf : List ℕ → Answer ℕ
+lineKindOf line = require (framedOf line && leb 1 (byteAt (bodyOf line) 0) && leb (byteAt (bodyOf line) 0) 4) 22 (granted (byteAt (bodyOf line) 0))

@@ -12,10 +12,10 @@ ghost use mathlib.Core.Path.{_≡_};
 ghost use mathlib.Core.Bool.{true, _&&_};
 ghost use Prim.Native.Nat.{_+_, _<_, _≤_};
 ghost use lib.ListN.{length};
-ghost use Rattle.label.specs.Buffer.{overlay};
-ghost use Rattle.label.specs.Index.{every};
+ghost use Rattle.common.specs.Buffer.{overlay};
+ghost use Rattle.common.specs.Index.{every};
 ghost use Rattle.frame.specs.Frame.{bodyOf, framedOf};
-ghost use Rattle.hexline.specs.Accept.{judgedOf, noEntry, textOk, valueByteOk};
+ghost use Rattle.hexline.specs.Accept.{judgedEntry, noEntry, textOk, valueByteOk};
 ghost use Rattle.hexline.specs.Body.{byteAt, lineWords};
 ghost use Rattle.hexline.specs.Entry.{isNameByte, layoutOf, spanOf, validOf};
 ghost use Rattle.hexline.specs.Line.{entryForm, entryIn};
@@ -145,7 +145,7 @@ fn refused() -> Judged
 // What a framed line is judged to be, with a body of n bytes.
 fn judge_framed(line: &[u8], n: usize) -> Judged
     requires { ⌜ (framedOf (now line) ≡ true) × (n ≡ length (bodyOf (now line))) × (n ≤ 83) ⌝ }
-    ensures { λ r. ⌜ r ≡ judgedOf (now (line .entry)) ⌝ }
+    ensures { λ r. ⌜ r ≡ judgedEntry (now (line .entry)) ⌝ }
 {
     let mut body = [0u8; ENTRY_BYTES];
     decode(line, n, &mut body);
@@ -165,7 +165,7 @@ fn judge_framed(line: &[u8], n: usize) -> Judged
 
 // What a line is judged to be: an accepted line of kind 04, or not.
 pub fn judge_entry(line: &[u8]) -> Judged
-    ensures { λ r. ⌜ r ≡ judgedOf (now (line .entry)) ⌝ }
+    ensures { λ r. ⌜ r ≡ judgedEntry (now (line .entry)) ⌝ }
 {
     let n = frame::body_length(line);
     if ENTRY_BYTES < n {

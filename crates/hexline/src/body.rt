@@ -6,12 +6,12 @@ ghost use mathlib.Core.Path.{_≡_};
 ghost use mathlib.Core.Bool.{true};
 ghost use Prim.Native.Nat.{_+_, _*_, _/_, _%_, _<_, _≤_, _^_};
 ghost use lib.ListN.{length};
-ghost use Rattle.label.specs.Index.{tabulate};
+ghost use Rattle.common.specs.Index.{tabulate};
 ghost use Rattle.label.specs.Label as labels;
 ghost use Rattle.label.specs.Words.{words as setWords};
 ghost use Rattle.range.specs.Range as ranges;
 ghost use Rattle.frame.specs.Frame.{bodyOf};
-ghost use Rattle.hexline.specs.Body.{Appended, byteAt, labelAt, labelBytes, labelSize, numberOf, rangeAt, rangeBytes, rangeSize, wordFrom};
+ghost use Rattle.hexline.specs.Body.{BodyAppended, byteAt, labelAt, labelBytes, labelSize, baseNumber, rangeAt, rangeBytes, rangeSize, wordFrom};
 
 // How many words a set has in lines of kinds 01 to 04.
 pub(crate) const LINE_WORDS: usize = 4;
@@ -22,7 +22,7 @@ const LABEL_BYTES: usize = 1 + 8 * WORDS;
 // The eight bytes of a word at index at, the lowest first. With the word at hand, and not the set, they are stored at once.
 fn put_word(out: &mut [u8], at: usize, w: u64)
     requires { ⌜ at + 8 ≤ length (now out) ⌝ }
-    ensures { λ _. ⌜ Appended (now (out .entry)) at (tabulate (λ k. w / 256 ^ k % 256) 8) (at + 8) (now (out .exit)) ⌝ }
+    ensures { λ _. ⌜ BodyAppended (now (out .entry)) at (tabulate (λ k. w / 256 ^ k % 256) 8) (at + 8) (now (out .exit)) ⌝ }
 {
     let mut k = 0;
     while k < 8 {
@@ -35,7 +35,7 @@ fn put_word(out: &mut [u8], at: usize, w: u64)
 // A valid label's bytes at index at, and the index past them.
 pub(crate) fn put_label(out: &mut [u8], at: usize, l: Label, words: usize) -> usize
     requires { ⌜ (words ≤ setWords) × (at + labelSize words ≤ length (now out)) × (labels.validOf l ≡ true) ⌝ }
-    ensures { λ r. ⌜ Appended (now (out .entry)) at (labelBytes words l) r (now (out .exit)) ⌝ }
+    ensures { λ r. ⌜ BodyAppended (now (out .entry)) at (labelBytes words l) r (now (out .exit)) ⌝ }
 {
     out[at] = l.hierarchy as u8;
     let categories = l.categories;
@@ -50,7 +50,7 @@ pub(crate) fn put_label(out: &mut [u8], at: usize, l: Label, words: usize) -> us
 // A valid range's bytes at index at, and the index past them.
 pub(crate) fn put_range(out: &mut [u8], at: usize, x: Range, words: usize) -> usize
     requires { ⌜ (words ≤ setWords) × (at + rangeSize words ≤ length (now out)) × (ranges.validOf x ≡ true) ⌝ }
-    ensures { λ r. ⌜ Appended (now (out .entry)) at (rangeBytes words x) r (now (out .exit)) ⌝ }
+    ensures { λ r. ⌜ BodyAppended (now (out .entry)) at (rangeBytes words x) r (now (out .exit)) ⌝ }
 {
     let next = put_label(out, at, x.low, words);
     put_label(out, next, x.high, words)
@@ -59,7 +59,7 @@ pub(crate) fn put_range(out: &mut [u8], at: usize, x: Range, words: usize) -> us
 // The word whose eight bytes begin at index at, the lowest first.
 fn word_at(bytes: &[u8], at: usize) -> u64
     requires { ⌜ at + 8 ≤ length (now bytes) ⌝ }
-    ensures { λ r. ⌜ r ≡ numberOf 256 (byteAt (now (bytes .entry))) at 8 ⌝ }
+    ensures { λ r. ⌜ r ≡ baseNumber 256 (byteAt (now (bytes .entry))) at 8 ⌝ }
 {
     let mut w: u64 = 0;
     let mut k = 8;

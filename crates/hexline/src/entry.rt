@@ -2,19 +2,19 @@
 // handed over by value; bytes past a length are zeros, and so is the label where the class has none.
 use crate::body::label_at;
 use crate::body::put_label;
+use common::answer::Outcome;
 use label::Label;
 use label::MAX_HIERARCHY;
-use label::answer::Outcome;
 ghost use mathlib.Core.Path.{_≡_};
 ghost use mathlib.Core.List.{_∷_, []};
 ghost use Prim.Native.Nat.{_+_, _*_, _<_, _≤_, _^_};
 ghost use mathlib.Core.Bool.{true};
 ghost use lib.ListN.{length, take};
-ghost use Rattle.label.specs.Index.{every};
+ghost use Rattle.common.specs.Index.{every};
 ghost use Rattle.label.specs.Words.{words as setWords};
 ghost use Rattle.frame.specs.Frame.{bodyOf};
-ghost use Rattle.hexline.specs.Body.{Appended, byteAt, labelSize};
-ghost use Rattle.hexline.specs.Entry.{TypedEntry, classOf, entryBytes, entryFrom, entrySize, isLetter, isNameByte, labelFrom, layoutOf, maxAbbreviation, maxName, nameByteAt, nameByteOk, nameOf, spanOf, textByte, textBytes, textFrom, validOf, valueBytes, valueFrom, valueOk, valueSize, zeroEntry};
+ghost use Rattle.hexline.specs.Body.{BodyAppended, byteAt, labelSize};
+ghost use Rattle.hexline.specs.Entry.{TypedEntry, valueClass, entryBytes, entryFrom, entrySize, isLetter, isNameByte, labelFrom, layoutOf, maxAbbreviation, maxName, nameByteAt, nameByteOk, nameOf, spanOf, textByte, textBytes, textFrom, validOf, valueBytes, valueByClass, valueOk, valueSize, zeroEntry};
 
 pub const MAX_NAME: usize = 31;
 
@@ -154,7 +154,7 @@ pub fn valid(e: Entry) -> bool
 }
 
 fn class_of(v: Value) -> u8
-    ensures { λ r. ⌜ r ≡ classOf v ⌝ }
+    ensures { λ r. ⌜ r ≡ valueClass v ⌝ }
 {
     match v {
         Value::Hierarchy(_) => 1,
@@ -166,7 +166,7 @@ fn class_of(v: Value) -> u8
 // A byte at index at, and the index past it.
 fn put_byte(out: &mut [u8], at: usize, b: u8) -> usize
     requires { ⌜ at < length (now out) ⌝ }
-    ensures { λ r. ⌜ Appended (now (out .entry)) at (b ∷ []) r (now (out .exit)) ⌝ }
+    ensures { λ r. ⌜ BodyAppended (now (out .entry)) at (b ∷ []) r (now (out .exit)) ⌝ }
 {
     out[at] = b;
     at + 1
@@ -175,7 +175,7 @@ fn put_byte(out: &mut [u8], at: usize, b: u8) -> usize
 // A value's bytes at index at, and the index past them.
 fn put_value(out: &mut [u8], at: usize, v: Value, l: Label, words: usize) -> usize
     requires { ⌜ (words ≤ setWords) × (at + labelSize words ≤ length (now out)) × (valueOk v l ≡ true) ⌝ }
-    ensures { λ r. ⌜ Appended (now (out .entry)) at (valueBytes words v l) r (now (out .exit)) ⌝ }
+    ensures { λ r. ⌜ BodyAppended (now (out .entry)) at (valueBytes words v l) r (now (out .exit)) ⌝ }
 {
     match v {
         Value::Hierarchy(h) => put_byte(out, at, h as u8),
@@ -187,7 +187,7 @@ fn put_value(out: &mut [u8], at: usize, v: Value, l: Label, words: usize) -> usi
 // The first n bytes of a text at index at.
 fn put_bytes(out: &mut [u8], at: usize, text: &[u8], n: usize) -> usize
     requires { ⌜ (n ≤ length (now text)) × (at + n ≤ length (now out)) ⌝ }
-    ensures { λ r. ⌜ Appended (now (out .entry)) at (take n (now (text .entry))) r (now (out .exit)) ⌝ }
+    ensures { λ r. ⌜ BodyAppended (now (out .entry)) at (take n (now (text .entry))) r (now (out .exit)) ⌝ }
 {
     bytes::copy(&text[..n], &mut out[at..]);
     at + n
@@ -196,7 +196,7 @@ fn put_bytes(out: &mut [u8], at: usize, text: &[u8], n: usize) -> usize
 // A length and that many bytes of a text at index at, and the index past them.
 fn put_text(out: &mut [u8], at: usize, text: &[u8], n: usize) -> usize
     requires { ⌜ (n ≤ length (now text)) × (n < 256) × (at + 1 + n ≤ length (now out)) ⌝ }
-    ensures { λ r. ⌜ Appended (now (out .entry)) at (textBytes (now (text .entry)) n) r (now (out .exit)) ⌝ }
+    ensures { λ r. ⌜ BodyAppended (now (out .entry)) at (textBytes (now (text .entry)) n) r (now (out .exit)) ⌝ }
 {
     let next = put_byte(out, at, (n % 256) as u8);
     put_bytes(out, next, text, n)
@@ -205,7 +205,7 @@ fn put_text(out: &mut [u8], at: usize, text: &[u8], n: usize) -> usize
 // An entry's bytes at index at, and the index past them.
 pub(crate) fn put_entry(out: &mut [u8], at: usize, e: Entry, words: usize) -> usize
     requires { ⌜ (words ≤ setWords) × (at + entrySize words ≤ length (now out)) × (validOf e ≡ true) ⌝ }
-    ensures { λ r. ⌜ Appended (now (out .entry)) at (entryBytes words e) r (now (out .exit)) ⌝ }
+    ensures { λ r. ⌜ BodyAppended (now (out .entry)) at (entryBytes words e) r (now (out .exit)) ⌝ }
     ensures { λ r. ⌜ r ≤ at + entrySize words ⌝ }
 {
     let v = e.value;
@@ -278,7 +278,7 @@ pub(crate) fn layout_at(line: &[u8], at: usize, words: usize) -> Layout
 }
 
 pub(crate) fn value_from(class: u8, b: u8) -> Value
-    ensures { λ r. ⌜ r ≡ valueFrom class b ⌝ }
+    ensures { λ r. ⌜ r ≡ valueByClass class b ⌝ }
 {
     if class == 1 {
         return Value::Hierarchy(b as u64);

@@ -23,11 +23,11 @@ use crate::regions::presence;
 use crate::regions::present_below;
 use crate::regions::put_regions;
 use crate::regions::tuple_at;
+use common::answer::Outcome;
+use common::answer::Written;
+use common::errno::Errno;
 use label::Label;
 use label::LabelAnswer;
-use label::answer::Outcome;
-use label::answer::Written;
-use label::errno::Errno;
 use label::region::REGIONS;
 use range::Range;
 use range::RangeAnswer;
@@ -37,8 +37,8 @@ use range::tuple::TupleAnswer;
 ghost use mathlib.Core.Path.{_≡_};
 ghost use Prim.Native.Nat.{_+_, _<_};
 ghost use lib.ListN.{take};
-ghost use Rattle.label.specs.Answer.{Answered, require};
-ghost use Rattle.label.specs.Buffer.{WrittenTo};
+ghost use Rattle.common.specs.Answer.{Answered, require};
+ghost use Rattle.common.specs.Buffer.{WrittenTo};
 ghost use Rattle.label.specs.Label as labels;
 ghost use Rattle.range.specs.Range as ranges;
 ghost use Rattle.range.specs.Tuple as tuples;
@@ -46,7 +46,7 @@ ghost use Rattle.hexline.specs.Body.{lineWords};
 ghost use Rattle.hexline.specs.Entry as entries;
 ghost use Rattle.hexline.specs.Entry.{layoutOf};
 ghost use Rattle.frame.specs.Frame.{bodyOf, frameAnswerOf};
-ghost use Rattle.hexline.specs.Line.{entryForm, entryLineOf, formOf, kindAnswerOf, kindOf, labelLineOf, rangeLineOf, readEntryOf, readLabelOf, readRangeOf, readTupleOf, tupleForm, tupleLineOf};
+ghost use Rattle.hexline.specs.Line.{entryForm, entryLineOf, bodyForm, kindAnswerOf, lineKindOf, labelLineOf, rangeLineOf, readEntryLine, readLabelLine, readRangeLine, readTupleLine, tupleForm, tupleLineOf};
 
 // The longest body is a full tuple's: kind, presence, six labels.
 pub(crate) const BODY_BYTES: usize = 200;
@@ -62,7 +62,7 @@ pub enum Kind {
 
 // Which reader a line is for.
 pub fn kind_of(line: &[u8]) -> Kind
-    ensures { λ r. ⌜ kindAnswerOf r ≡ kindOf (now (line .entry)) ⌝ }
+    ensures { λ r. ⌜ kindAnswerOf r ≡ lineKindOf (now (line .entry)) ⌝ }
 {
     if !frame::framed(line) {
         return Kind::Refused(Errno::Invalid);
@@ -145,14 +145,14 @@ pub fn write_entry(e: Entry, out: &mut [u8]) -> Written
 
 // Whether a line's body has that many bytes, and that kind.
 fn has_form(line: &[u8], bytes: usize, kind: u8) -> bool
-    ensures { λ r. ⌜ r ≡ formOf (bodyOf (now (line .entry))) bytes kind ⌝ }
+    ensures { λ r. ⌜ r ≡ bodyForm (bodyOf (now (line .entry))) bytes kind ⌝ }
 {
     (frame::body_length(line) == bytes) & (frame::byte(line, 0) == kind)
 }
 
 // The label of a line of kind 01.
 pub fn read_label(line: &[u8]) -> LabelAnswer
-    ensures { λ r. ⌜ Answered (r .outcome) (r .label) labels.zeroLabel (readLabelOf (now (line .entry))) ⌝ }
+    ensures { λ r. ⌜ Answered (r .outcome) (r .label) labels.zeroLabel (readLabelLine (now (line .entry))) ⌝ }
 {
     let l = label_at(line, 1, LINE_WORDS);
     if frame::framed(line) & has_form(line, 34, 1) & label::valid(l) {
@@ -169,7 +169,7 @@ pub fn read_label(line: &[u8]) -> LabelAnswer
 
 // The range of a line of kind 02.
 pub fn read_range(line: &[u8]) -> RangeAnswer
-    ensures { λ r. ⌜ Answered (r .outcome) (r .range) ranges.zeroRange (readRangeOf (now (line .entry))) ⌝ }
+    ensures { λ r. ⌜ Answered (r .outcome) (r .range) ranges.zeroRange (readRangeLine (now (line .entry))) ⌝ }
 {
     let x = range_at(line, 1, LINE_WORDS);
     if frame::framed(line) & has_form(line, 67, 2) & range::valid(x) {
@@ -195,7 +195,7 @@ fn has_tuple_form(line: &[u8]) -> bool
 
 // The tuple of a line of kind 03.
 pub fn read_tuple(line: &[u8]) -> TupleAnswer
-    ensures { λ r. ⌜ Answered (r .outcome) (r .tuple) tuples.emptyTuple (readTupleOf (now (line .entry))) ⌝ }
+    ensures { λ r. ⌜ Answered (r .outcome) (r .tuple) tuples.emptyTuple (readTupleLine (now (line .entry))) ⌝ }
 {
     let t = tuple_at(line, frame::byte(line, 1), 2, LINE_WORDS);
     if frame::framed(line) & has_tuple_form(line) & tuple::valid(t) {
@@ -224,7 +224,7 @@ fn has_entry_form(line: &[u8], p: Layout) -> bool
 
 // The alias entry of a line of kind 04.
 pub fn read_entry(line: &[u8]) -> EntryAnswer
-    ensures { λ r. ⌜ Answered (r .outcome) (r .entry) entries.zeroEntry (readEntryOf (now (line .entry))) ⌝ }
+    ensures { λ r. ⌜ Answered (r .outcome) (r .entry) entries.zeroEntry (readEntryLine (now (line .entry))) ⌝ }
 {
     let p = layout_at(line, 1, LINE_WORDS);
     let e = entry_from(line, 2, p, LINE_WORDS);

@@ -14,7 +14,7 @@ ghost use Rattle.label.specs.Words.{bit, words as setWords};
 ghost use Rattle.range.specs.Range as ranges;
 ghost use Rattle.range.specs.Tuple as tuples;
 ghost use Rattle.frame.specs.Frame.{bodyOf};
-ghost use Rattle.hexline.specs.Body.{Appended, rangeSize};
+ghost use Rattle.hexline.specs.Body.{BodyAppended, rangeSize};
 ghost use Rattle.hexline.specs.Regions.{presenceOf, presentAt, presentBelow, regionAt, regionBytes, regionsBytes, tupleAt};
 
 fn present_at(t: Tuple, r: usize) -> u8
@@ -40,7 +40,7 @@ pub(crate) fn presence(t: Tuple) -> u8
 // The bytes of a valid range where it is there, and the index past them.
 fn put_region(out: &mut [u8], at: usize, e: RegionRange, words: usize) -> usize
     requires { ⌜ (words ≤ setWords) × (at + rangeSize words ≤ length (now out)) × (tuples.isThere e ≡ true → ranges.validOf (e .range) ≡ true) ⌝ }
-    ensures { λ r. ⌜ Appended (now (out .entry)) at (regionBytes words e) r (now (out .exit)) ⌝ }
+    ensures { λ r. ⌜ BodyAppended (now (out .entry)) at (regionBytes words e) r (now (out .exit)) ⌝ }
 {
     if e.present == 1 {
         return put_range(out, at, e.range, words);
@@ -51,7 +51,7 @@ fn put_region(out: &mut [u8], at: usize, e: RegionRange, words: usize) -> usize
 // The bytes of the ranges that are there in a valid tuple, at index at, and the index past them.
 pub(crate) fn put_regions(out: &mut [u8], at: usize, t: Tuple, words: usize) -> usize
     requires { ⌜ (words ≤ setWords) × (at + regions * rangeSize words ≤ length (now out)) × (tuples.validOf t ≡ true) ⌝ }
-    ensures { λ r. ⌜ Appended (now (out .entry)) at (regionsBytes words t regions) r (now (out .exit)) ⌝ }
+    ensures { λ r. ⌜ BodyAppended (now (out .entry)) at (regionsBytes words t regions) r (now (out .exit)) ⌝ }
 {
     let mut next = at;
     let mut r = 0;

@@ -1,4 +1,4 @@
--- A short input, step by step, by computation. Assumes nothing.
+-- A short input, step by step, by computation.
 use mathlib.Core.Bool.{true, false}
 use mathlib.Core.List.{List, [], _∷_}
 use mathlib.Core.Path.{_≡_, refl}
@@ -7,7 +7,7 @@ use Rattle.octets.specs.Bytes.{indexOf, lf}
 use Rattle.console.specs.Lines.{fitsOf, held, pieceOf}
 use Rattle.console.specs.declared.lines.Line.{Line}
 use Rattle.console.specs.declared.lines.Line.the-variants.{More, Whole, Bad}
-use Rattle.input.specs.Input.{emptyInput, inputOf, leftOf, ofPiece, readOf, someLeft}
+use Rattle.input.specs.Input.{emptyInput, inputOf, chunkRest, ofPiece, turnAfterRead, someLeft}
 use Rattle.input.specs.declared.Input.{Input}
 use Rattle.input.specs.declared.Turn.{Turn}
 
@@ -18,18 +18,18 @@ chunk = 97 ∷ 98 ∷ lf ∷ 99 ∷ 7 ∷ 7 ∷ []
 abbrev turn : Input → Line → Turn
 turn i l = record { input = i; line = l }
 
-four-bytes : readOf (held 0) 4 ≡ turn (inputOf (held 0) 0 4) More
-unfolding readOf
+four-bytes : turnAfterRead (held 0) 4 ≡ turn (inputOf (held 0) 0 4) More
+unfolding turnAfterRead
 four-bytes = refl
 
 -- the line, in a buffer of 5 bytes
-whole-line : ofPiece 4 (pieceOf (leftOf (inputOf (held 0) 0 4) chunk) 0 5 (held 0)) ≡ turn (inputOf (held 0) 3 4) (Whole 3)
-unfolding leftOf pieceOf indexOf fitsOf
+whole-line : ofPiece 4 (pieceOf (chunkRest (inputOf (held 0) 0 4) chunk) 0 5 (held 0)) ≡ turn (inputOf (held 0) 3 4) (Whole 3)
+unfolding chunkRest pieceOf indexOf fitsOf
 whole-line = refl
 
 -- the byte that begins the next, and not the two that no read filled
-part-held : ofPiece 4 (pieceOf (leftOf (inputOf (held 0) 3 4) chunk) 3 5 (held 0)) ≡ turn (inputOf (held 1) 4 4) More
-unfolding leftOf pieceOf indexOf fitsOf
+part-held : ofPiece 4 (pieceOf (chunkRest (inputOf (held 0) 3 4) chunk) 3 5 (held 0)) ≡ turn (inputOf (held 1) 4 4) More
+unfolding chunkRest pieceOf indexOf fitsOf
 part-held = refl
 
 -- bytes are left at index 3, and at index 4 none are
@@ -38,6 +38,6 @@ unfolding someLeft
 left = (refl, refl)
 
 -- the end, with a byte held and with none
-ends : (readOf (held 1) 0 ≡ turn (emptyInput true) Bad) × (readOf (held 0) 0 ≡ turn (emptyInput true) More)
-unfolding readOf
+ends : (turnAfterRead (held 1) 0 ≡ turn (emptyInput true) Bad) × (turnAfterRead (held 0) 0 ≡ turn (emptyInput true) More)
+unfolding turnAfterRead
 ends = (refl, refl)

@@ -1,4 +1,4 @@
--- What a step has, from what `lines::take` and a read leave. Assumes nothing.
+-- What a step has, from what `lines::take` and a read leave.
 use mathlib.Core.Bool.{Bool, true, false, _||_, cond, true≢false}
 use mathlib.Core.List.{List}
 use mathlib.Core.Path.{_≡_, refl, sym, _∙_}
@@ -6,20 +6,20 @@ use Prim.Native.Nat.{ℕ}
 use native.Mathlib.Omega.{arith}
 use lib.Dec.{eqb, ltb}
 use lib.ListN.{length, take}
-use Rattle.console.specs.Lines.{Taken, lastOf}
+use Rattle.console.specs.Lines.{Taken, lineAtEnd}
 use Rattle.console.specs.declared.lines.Line.the-variants.{More, Whole, Bad}
 use Rattle.console.specs.declared.lines.Partial.{Partial}
 use Rattle.console.specs.declared.lines.Piece.{Piece}
-use Rattle.input.specs.Input.{Pieced, Refilled, Stepped, atEnd, filledBy, leftOf, ofPiece, readOf, someLeft}
+use Rattle.input.specs.Input.{Pieced, Refilled, Stepped, atEnd, filledBy, chunkRest, ofPiece, turnAfterRead, someLeft}
 use Rattle.input.specs.declared.Input.{Input}
 use Rattle.input.specs.declared.Turn.{Turn}
 
 pub piece-taken : {i : Input} {chunk line xs after : List ℕ} {p : Piece} → xs ≡ take (i .filled) chunk → Taken xs (i .at) line (i .partial) p after
     → Pieced i chunk line (ofPiece (i .filled) p) after
-unfolding leftOf
+unfolding chunkRest
 piece-taken e t = record { turn-is = rw (← e, ← t .piece-is); line-is = rw (← e) (t .buffer-is); same-length = t .same-length; whole = t .whole }
 
-last-whole : (p : Partial) (m : ℕ) → lastOf p ≡ Whole m → ⊥
+last-whole : (p : Partial) (m : ℕ) → lineAtEnd p ≡ Whole m → ⊥
 last-whole p m = pick (p .long || ltb 0 (p .length))
   where
     pick : (b : Bool) → cond b Bad More ≡ Whole m → ⊥
@@ -27,8 +27,8 @@ last-whole p m = pick (p .long || ltb 0 (p .length))
     pick false e = let z : _≡_ {A = ℕ} 0 1 = cc in omega arith
 
 -- a read makes no whole line
-read-whole : (p : Partial) (n m : ℕ) → readOf p n .line ≡ Whole m → ⊥
-unfolding readOf
+read-whole : (p : Partial) (n m : ℕ) → turnAfterRead p n .line ≡ Whole m → ⊥
+unfolding turnAfterRead
 read-whole p n m = pick (eqb n 0)
   where
     pick : (b : Bool) → cond b (atEnd p) (filledBy p n) .line ≡ Whole m → ⊥

@@ -1,11 +1,11 @@
--- Lines of standard input, one step at a time. Assumes nothing.
+-- Lines of standard input, one step at a time.
 use mathlib.Core.Bool.{Bool, true, false, _&&_, cond}
 use mathlib.Core.List.{List}
 use mathlib.Core.Path.{_≡_}
 use Prim.Native.Nat.{ℕ, _-_, _≤_}
 use lib.Dec.{eqb, ltb}
 use lib.ListN.{drop, length, take}
-use Rattle.console.specs.Lines.{bufferOf, held, lastOf, pieceOf}
+use Rattle.console.specs.Lines.{pieceBuffer, held, lineAtEnd, pieceOf}
 use Rattle.console.specs.declared.lines.Line.the-variants.{More, Whole}
 use Rattle.console.specs.declared.lines.Partial.{Partial}
 use Rattle.console.specs.declared.lines.Piece.{Piece}
@@ -25,8 +25,8 @@ abbrev pub someLeft : Input → ℕ → Bool
 someLeft i size = ltb (i .at) (i .filled) && ltb (i .at) size
 
 -- the bytes of the chunk that are left to take
-unfoldable pub leftOf : Input → List ℕ → List ℕ
-leftOf i chunk = drop (i .at) (take (i .filled) chunk)
+unfoldable pub chunkRest : Input → List ℕ → List ℕ
+chunkRest i chunk = drop (i .at) (take (i .filled) chunk)
 
 -- the step that a piece of the chunk makes
 abbrev pub ofPiece : ℕ → Piece → Turn
@@ -34,20 +34,20 @@ ofPiece filled p = record { input = inputOf (p .partial) (p .next) filled; line 
 
 -- the step at the end of the input, where p is held of a line: a line with no LF is bad
 abbrev pub atEnd : Partial → Turn
-atEnd p = record { input = emptyInput true; line = lastOf p }
+atEnd p = record { input = emptyInput true; line = lineAtEnd p }
 
 -- the step that fills the first n bytes of the chunk
 abbrev pub filledBy : Partial → ℕ → Turn
 filledBy p n = record { input = inputOf p 0 n; line = More }
 
 -- the step that a read of n bytes makes: none are the end
-unfoldable pub readOf : Partial → ℕ → Turn
-readOf p n = cond (eqb n 0) (atEnd p) (filledBy p n)
+unfoldable pub turnAfterRead : Partial → ℕ → Turn
+turnAfterRead p n = cond (eqb n 0) (atEnd p) (filledBy p n)
 
 -- r and the buffer `after` are what `lines::take` makes of the bytes that are left. The last two follow, and are stated for callers
 pub record Pieced (i : Input) (chunk line : List ℕ) (r : Turn) (after : List ℕ) : Type 0 where
-  pub turn-is : r ≡ ofPiece (i .filled) (pieceOf (leftOf i chunk) (i .at) (length line) (i .partial))
-  pub line-is : after ≡ bufferOf (leftOf i chunk) line (i .partial)
+  pub turn-is : r ≡ ofPiece (i .filled) (pieceOf (chunkRest i chunk) (i .at) (length line) (i .partial))
+  pub line-is : after ≡ pieceBuffer (chunkRest i chunk) line (i .partial)
   pub same-length : length after ≡ length line
   pub whole : (n : ℕ) → r .line ≡ Whole n → n ≤ length after
 
@@ -55,7 +55,7 @@ pub record Pieced (i : Input) (chunk line : List ℕ) (r : Turn) (after : List �
 pub record Refilled (p : Partial) (size : ℕ) (r : Turn) : Type 0 where
   pub count : ℕ
   pub within : count ≤ size
-  pub turn-is : r ≡ readOf p count
+  pub turn-is : r ≡ turnAfterRead p count
 
 -- r and the two buffers are what a step makes: where some of the chunk is left a piece of it is taken, and where none is the chunk is read into,
 -- and of its bytes then nothing is said. The last three follow, and are stated for callers

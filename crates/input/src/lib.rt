@@ -7,7 +7,7 @@ use libc::STDIN_FILENO;
 ghost use mathlib.Core.Bool.{false};
 ghost use mathlib.Core.Path.{_≡_};
 ghost use lib.ListN.{length};
-ghost use Rattle.input.specs.Input.{Pieced, Refilled, Stepped, TurnsLeft, emptyInput, readOf};
+ghost use Rattle.input.specs.Input.{Pieced, Refilled, Stepped, TurnsLeft, emptyInput, turnAfterRead};
 
 // Where the input stands.
 pub struct Input {
@@ -63,7 +63,7 @@ fn next_piece(i: Input, chunk: &[u8], line: &mut [u8]) -> Turn
 
 // What a read of n bytes makes. No bytes are the end of the input, or a read that failed.
 fn after_read(partial: Partial, n: usize) -> Turn
-    ensures { λ r. ⌜ r ≡ readOf partial n ⌝ }
+    ensures { λ r. ⌜ r ≡ turnAfterRead partial n ⌝ }
 {
     if n == 0 {
         let input = empty_input(true);

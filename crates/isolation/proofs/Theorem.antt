@@ -1,6 +1,6 @@
 -- Demand 3, proved. A slot with an owner holds, after any list of calls, what its owner's calls alone make of it; a slot without one stays
 -- as it was; and a call answers by its caller's own slots, by what never changes, and by what is visible of a slot that it looks at.
--- `stepOf` is not opened here: CallsLaws and SoundLaws of `segments` say what is needed of it. Assumes nothing.
+-- `stepOf` is not opened here: CallsLaws and SoundLaws of `segments` say what is needed of it.
 use mathlib.Core.Bool.{Bool, true, false, cond, true≢false}
 use mathlib.Core.List.{List, [], _∷_}
 use mathlib.Core.Logic.{_⊎_, inl, inr, ⊎-elim, _↔_}
@@ -10,10 +10,10 @@ use Prim.Native.Nat.{ℕ}
 use native.Mathlib.Omega.{arith}
 use borrow.Author.Tests.{eqb-false, eqb-true}
 use lib.Dec.{eqb}
-use Rattle.label.specs.Answer.{granted, refused, require}
-use Rattle.label.specs.Index.{any}
-use Rattle.label.proofs.BoolLaws.{not-so}
-use Rattle.label.proofs.SearchLaws.{any-then, none-of}
+use Rattle.common.specs.Answer.{granted, refused, require}
+use Rattle.common.specs.Index.{someBelow}
+use Rattle.common.proofs.BoolLaws.{not-so}
+use Rattle.common.proofs.SearchLaws.{any-then, none-of}
 use Rattle.segments.specs.Calls.{lookedAt, stepOf, visible}
 use Rattle.segments.specs.Replies.{shown}
 use Rattle.segments.specs.Segments.{Lengths, segmentAt, tenantId, tenants}
@@ -127,14 +127,14 @@ unowned p (c ∷ cs) s h =
     ∙ untouched s (c .tenant) (c .label) (c .action) p (h (c .tenant))
 
 same-slots : (s : SegmentTable) (xs ys : List Call) → Lengths s → sound s ≡ true → Interleaving xs ys → (p : Slot) → segmentAt (run s xs) p ≡ segmentAt (run s ys) p
-same-slots s xs ys l h i p = go (any (λ t. owns s (tenantId t) p) tenants) refl
+same-slots s xs ys l h i p = go (someBelow (λ t. owns s (tenantId t) p) tenants) refl
   where
     after : (t : TenantId) (zs : List Call) → owns s t p ≡ true → segmentAt (run s zs) p ≡ segmentAt (run s (callsOf t zs)) p
     after t zs o =
         let k = run-alike t zs s s (alike-itself t s h l) in
         k .own p (owns-kept (run s zs) s t p (run-reached zs s s (reached-itself s l h) .records) ∙ o)
 
-    go : (b : Bool) → any (λ t. owns s (tenantId t) p) tenants ≡ b → segmentAt (run s xs) p ≡ segmentAt (run s ys) p
+    go : (b : Bool) → someBelow (λ t. owns s (tenantId t) p) tenants ≡ b → segmentAt (run s xs) p ≡ segmentAt (run s ys) p
     go true e =
         any-then (λ t. owns s (tenantId t) p) tenants e
         (λ t m o. after (tenantId t) xs o ∙ ap (λ (zs : List Call). segmentAt (run s zs) p) (i (tenantId t)) ∙ sym (after (tenantId t) ys o))

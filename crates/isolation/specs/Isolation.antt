@@ -1,4 +1,4 @@
--- Demand 3 of 00-demands.md, over the calls of document 01's table (`stepOf`). Assumes nothing.
+-- Demand 3 of 00-demands.md, over the calls of document 01's table (`stepOf`).
 use mathlib.Core.Bool.{true, cond}
 use mathlib.Core.List.{List, [], _∷_}
 use mathlib.Core.Logic.{_⊎_, _↔_}
@@ -6,7 +6,7 @@ use mathlib.Core.Option.{Option, none, some}
 use mathlib.Core.Path.{_≡_}
 use Prim.Native.Nat.{_<_, _≤_}
 use lib.Dec.{eqb}
-use Rattle.label.specs.Answer.{Answer, refused}
+use Rattle.common.specs.Answer.{Answer, refused}
 use Rattle.segments.specs.Calls.{lookedAt, stepOf, visible}
 use Rattle.segments.specs.Replies.{Grant}
 use Rattle.segments.specs.Segments.{Lengths, ceilingAt, clearanceAt, segmentAt, tenants}

@@ -1,5 +1,5 @@
 -- The bits of `&` and `|`, and that a number is known by its bits: with these a law of `&` and `|` is a law of `&&` and `||`.
--- Assumes nothing.
+--
 use mathlib.Core.Bool.{Bool, true, false, _&&_, _||_, true≢false}
 use mathlib.Core.Path.{_≡_, refl, sym, ap, _∙_}
 use Prim.Native.Nat.{ℕ, zero, suc, _+_, _/_, _%_, _^_, _≤_, _<_}
@@ -10,7 +10,7 @@ use lib.Bits.{bitAnd, bitOr, and-shr, or-shr, and-mod, or-mod}
 use lib.Dec.{eqb}
 use lib.Pow.{pow-mono}
 use Rattle.label.specs.Words.{bit}
-use Rattle.label.proofs.BoolLaws.{first-true, same-truth, both, second-true}
+use Rattle.common.proofs.BoolLaws.{first-true, same-truth, both, second-true}
 
 -- ---- the bits of an operation that goes bit by bit, and so of `|` and of `&`
 

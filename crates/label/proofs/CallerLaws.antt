@@ -1,11 +1,11 @@
--- What a caller sees, with the read override and without. Assumes nothing.
+-- What a caller sees, with the read override and without.
 use mathlib.Core.Bool.{Bool, true, false, _||_}
 use mathlib.Core.Path.{_≡_, refl, sym, ap, _∙_}
 use Rattle.label.specs.Caller.{seesOf}
 use Rattle.label.specs.Label.{dominatesOf}
 use Rattle.label.specs.declared.Label.{Label}
 use Rattle.label.specs.declared.caller.Caller.{Caller}
-use Rattle.label.proofs.BoolLaws.{or-first}
+use Rattle.common.proofs.BoolLaws.{or-first}
 
 abbrev pub withOverride : Caller → Bool → Caller
 withOverride c o = record { label = c .label; «read_override» = o }

@@ -1,14 +1,14 @@
--- Labels and regions on examples beside those of the crate `examples`, by computation. Assumes nothing.
+-- Labels and regions on examples beside those of the crate `examples`, by computation.
 use mathlib.Core.Bool.{true, false}
 use mathlib.Core.List.{[], _∷_}
 use mathlib.Core.Option.{none, some}
 use mathlib.Core.Path.{_≡_, refl}
 use Prim.Native.Nat.{_+_, _^_}
 use Rattle.label.specs.Example.{exampleOf}
-use Rattle.label.specs.Index.{every, firstFrom, tabulate}
+use Rattle.common.specs.Index.{every, firstFrom, tabulate}
 use Rattle.label.specs.Label.{equalOf, validOf, withCategoryOf}
 use Rattle.label.specs.Region.{regionOf}
-use Rattle.label.specs.Words.{bit, combine, has, includesOf, membersBelow, membersOf, nextOf, sameOf, singleOf, unionOf}
+use Rattle.label.specs.Words.{bit, combine, has, includesOf, membersBelow, membersOf, nextCategoryFrom, sameOf, singleOf, unionOf}
 
 -- (20,{2}) and (30,{}) are not equal
 incomparable-equal : equalOf (exampleOf 20 (2 ∷ [])) (exampleOf 30 []) ≡ false
@@ -35,16 +35,16 @@ listed : membersOf ((2 ^ 7) ∷ (2 ^ 63 + 1) ∷ 0 ∷ (2 ^ 63) ∷ []) ≡ 7 �
 unfolding membersOf membersBelow has bit
 listed = refl
 
-next-here : nextOf ((2 ^ 7) ∷ 0 ∷ 0 ∷ (2 ^ 63) ∷ []) 7 ≡ some 7
-unfolding nextOf firstFrom has bit
+next-here : nextCategoryFrom ((2 ^ 7) ∷ 0 ∷ 0 ∷ (2 ^ 63) ∷ []) 7 ≡ some 7
+unfolding nextCategoryFrom firstFrom has bit
 next-here = refl
 
-next-last : nextOf ((2 ^ 7) ∷ 0 ∷ 0 ∷ (2 ^ 63) ∷ []) 8 ≡ some 255
-unfolding nextOf firstFrom has bit
+next-last : nextCategoryFrom ((2 ^ 7) ∷ 0 ∷ 0 ∷ (2 ^ 63) ∷ []) 8 ≡ some 255
+unfolding nextCategoryFrom firstFrom has bit
 next-last = refl
 
-next-above : nextOf ((2 ^ 7) ∷ 0 ∷ 0 ∷ (2 ^ 63) ∷ []) 256 ≡ none
-unfolding nextOf firstFrom has bit
+next-above : nextCategoryFrom ((2 ^ 7) ∷ 0 ∷ 0 ∷ (2 ^ 63) ∷ []) 256 ≡ none
+unfolding nextCategoryFrom firstFrom has bit
 next-above = refl
 
 -- virus prevention 0 to 19, user 20 to 179, administrative 180 to 199

@@ -1,4 +1,4 @@
--- The laws of labels, with a set of any number of words. Assumes nothing.
+-- The laws of labels, with a set of any number of words.
 use mathlib.Core.Bool.{Bool, true, _&&_, _||_}
 use mathlib.Core.Logic.{_↔_}
 use mathlib.Core.Path.{_≡_, refl, sym, ap, ap₂, _∙_, subst}
@@ -12,7 +12,7 @@ use borrow.Author.Tests.{eqb-true, eq-eqb, leb-true, le-leb, ltb-true}
 use Rattle.label.specs.Label.{Typed, dominatesOf, equalOf, labelOf, lowerBoundOf, upperBoundOf, validOf, withCategoryOf}
 use Rattle.label.specs.Words.{categories, has, includesOf, sameOf, singleOf, unionOf, wordAt}
 use Rattle.label.specs.declared.Label.{Label}
-use Rattle.label.proofs.BoolLaws.{both, exactly-both, first-true, second-true, swap-and}
+use Rattle.common.proofs.BoolLaws.{both, exactly-both, first-true, second-true, swap-and}
 use Rattle.label.proofs.SingleLaws.{has-single, includes-single}
 use Rattle.label.proofs.WordLaws.{has-union, includes-antisym, includes-intersection, includes-refl, includes-trans, same-equal, same-refl, union-at, union-includes, union-length}
 

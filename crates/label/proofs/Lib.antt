@@ -1,13 +1,8 @@
-pub mod BoolLaws
-pub mod IndexLaws
-pub mod SearchLaws
 pub mod BitLaws
 pub mod WordLaws
 pub mod ListingLaws
 pub mod SingleLaws
 pub mod RegionLaws
-pub mod AnswerLaws
-pub mod BufferLaws
 pub mod LabelLaws
 pub mod CallerLaws
 pub mod LabelExamples

@@ -1,5 +1,5 @@
 -- The listing of a set's categories, their number by the set bits of each word, and the next category by the zeros below a shifted
--- word's lowest set bit. Assumes nothing.
+-- word's lowest set bit.
 use mathlib.Core.Bool.{Bool, true, false, true≢false}
 use mathlib.Core.List.{List, [], _∷_, _++_, append-assoc, append-nil, List·Memᴰ, List·Memᴰ·head, List·Memᴰ·not-nil, List·Memᴰ·eq-of-singleton, List·Memᴰ·append-cases, Memᴰ·append-left, Memᴰ·append-right}
 use mathlib.Core.Logic.{⊎-elim, _⊎_, inl, inr, _↔_}
@@ -14,11 +14,11 @@ use lib.Dec.{eqb}
 use lib.ListN.{length, getD, length-append, List·getD-append, List·getD-eq-default}
 use lib.Pow.{pow-pos, mod-pow-add, shr-shr, shr-le}
 use lib.Seq.{getD-at}
-use Rattle.label.specs.Index.{firstFrom}
-use Rattle.label.specs.Words.{bit, has, listedIf, membersBelow, membersOf, nextOf, wordAt}
+use Rattle.common.specs.Index.{firstFrom}
+use Rattle.label.specs.Words.{bit, has, listedIf, membersBelow, membersOf, nextCategoryFrom, wordAt}
 use Rattle.label.proofs.BitLaws.{bit-high, bit-suc, bit-zero}
-use Rattle.label.proofs.IndexLaws.{le-or-lt}
-use Rattle.label.proofs.SearchLaws.{Least, first-least, first-none, hit, pass, search-end}
+use Rattle.common.proofs.IndexLaws.{le-or-lt}
+use Rattle.common.proofs.SearchLaws.{Least, first-least, first-none, hit, pass, search-end}
 use Rattle.label.proofs.WordLaws.{has-at}
 
 no-bit : (j : ℕ) → bit 0 j ≡ false
@@ -123,16 +123,16 @@ tz-inside w s h p =
 
 -- a step of the search by words: the word has a category at or above c, or the search goes on with the next word
 pub next-hit : (ws : List ℕ) (c : ℕ) → c < length ws * 64 → wordAt ws (c / 64) < 2 ^ 64 → 0 < shifted ws c
-    → some (c + trailingZeros 64 (shifted ws c)) ≡ nextOf ws c
-unfolding nextOf
+    → some (c + trailingZeros 64 (shifted ws c)) ≡ nextCategoryFrom ws c
+unfolding nextCategoryFrom
 next-hit ws c l h p =
     let s : c % 64 + trailingZeros 64 (shifted ws c) < 64 = tz-inside (wordAt ws (c / 64)) (c % 64) h p in
     sym (hit (has ws) c (length ws * 64 - c) (trailingZeros 64 (shifted ws c)) (omega arith)
     (λ j k. has-shifted ws c j (omega arith) ∙ tz-low 64 (shifted ws c) j k)
     (has-shifted ws c _ s ∙ tz-hit 64 (shifted ws c) p (lt-of-le-of-lt (shr-le (wordAt ws (c / 64)) (c % 64)) h)))
 
-pub next-pass : (ws : List ℕ) (c : ℕ) → c < length ws * 64 → shifted ws c ≡ 0 → nextOf ws c ≡ nextOf ws ((c / 64 + 1) * 64)
-unfolding nextOf
+pub next-pass : (ws : List ℕ) (c : ℕ) → c < length ws * 64 → shifted ws c ≡ 0 → nextCategoryFrom ws c ≡ nextCategoryFrom ws ((c / 64 + 1) * 64)
+unfolding nextCategoryFrom
 next-pass ws c l e =
     let f : length ws * 64 - c ≡ (64 - c % 64) + (length ws * 64 - (c / 64 + 1) * 64) = omega arith in
     let g : c + (64 - c % 64) ≡ (c / 64 + 1) * 64 = omega arith in
@@ -140,29 +140,29 @@ next-pass ws c l e =
     ∙ pass (has ws) c (64 - c % 64) _ (λ j k. has-shifted ws c j (omega arith) ∙ ap (λ (x : ℕ). bit x j) e ∙ no-bit j)
     ∙ ap (λ (k : ℕ). firstFrom (has ws) k (length ws * 64 - (c / 64 + 1) * 64)) g
 
-pub next-end : (ws : List ℕ) (c : ℕ) → length ws * 64 ≤ c → nextOf ws c ≡ none
-unfolding nextOf
+pub next-end : (ws : List ℕ) (c : ℕ) → length ws * 64 ≤ c → nextCategoryFrom ws c ≡ none
+unfolding nextCategoryFrom
 next-end ws c h = search-end (has ws) c (length ws * 64) h
 
 -- ---- the next category is the least at or above, and there is none exactly if the set has none there
 
-next-least : (ws : List ℕ) (c k : ℕ) → nextOf ws c ≡ some k → Least (has ws) c k
-unfolding nextOf
+next-least : (ws : List ℕ) (c k : ℕ) → nextCategoryFrom ws c ≡ some k → Least (has ws) c k
+unfolding nextCategoryFrom
 next-least ws c k e = first-least (has ws) c _ k e .0
 
-pub next-none : (ws : List ℕ) (c : ℕ) → (nextOf ws c ≡ none) ↔ ((k : ℕ) → c ≤ k → has ws k ≡ false)
-unfolding nextOf
-next-none ws c = (λ e k a. ⊎-elim (has-beyond ws k) (λ l. first-none (has ws) c _ e k a (omega arith)) (le-or-lt (length ws * 64) k), λ h. go h (nextOf ws c) refl)
+pub next-none : (ws : List ℕ) (c : ℕ) → (nextCategoryFrom ws c ≡ none) ↔ ((k : ℕ) → c ≤ k → has ws k ≡ false)
+unfolding nextCategoryFrom
+next-none ws c = (λ e k a. ⊎-elim (has-beyond ws k) (λ l. first-none (has ws) c _ e k a (omega arith)) (le-or-lt (length ws * 64) k), λ h. go h (nextCategoryFrom ws c) refl)
   where
-    go : ((k : ℕ) → c ≤ k → has ws k ≡ false) → (o : Option ℕ) → nextOf ws c ≡ o → nextOf ws c ≡ none
+    go : ((k : ℕ) → c ≤ k → has ws k ≡ false) → (o : Option ℕ) → nextCategoryFrom ws c ≡ o → nextCategoryFrom ws c ≡ none
     go h none e = e
     go h (some k) e = let r = next-least ws c k e in absurd (true≢false (sym (r .there) ∙ h k (r .above)))
 
 -- the least is what the search answers
-pub next-exact : (ws : List ℕ) (c k : ℕ) → (nextOf ws c ≡ some k) ↔ Least (has ws) c k
-next-exact ws c k = (next-least ws c k, λ l. go l (nextOf ws c) refl)
+pub next-exact : (ws : List ℕ) (c k : ℕ) → (nextCategoryFrom ws c ≡ some k) ↔ Least (has ws) c k
+next-exact ws c k = (next-least ws c k, λ l. go l (nextCategoryFrom ws c) refl)
   where
-    go : Least (has ws) c k → (o : Option ℕ) → nextOf ws c ≡ o → nextOf ws c ≡ some k
+    go : Least (has ws) c k → (o : Option ℕ) → nextCategoryFrom ws c ≡ o → nextCategoryFrom ws c ≡ some k
     go l none e = absurd (true≢false (sym (l .there) ∙ next-none ws c .0 e k (l .above)))
     go l (some m) e = e ∙ ap some (only (next-least ws c m e))
       where
@@ -245,7 +245,7 @@ members-exact ws k = (listed-has ws (length ws * 64) k, λ h. has-listed ws (len
 
 -- ---- a listing by one search after another
 
-pub next-within : (ws : List ℕ) (c k : ℕ) → nextOf ws c ≡ some k → (c ≤ k) × (k < length ws * 64)
+pub next-within : (ws : List ℕ) (c k : ℕ) → nextCategoryFrom ws c ≡ some k → (c ≤ k) × (k < length ws * 64)
 next-within ws c k e = let l = next-least ws c k e in (l .above, has-within ws k (l .there))
 
 below-skip : (ws : List ℕ) (c d : ℕ) → c ≤ d → ((j : ℕ) → c ≤ j → j < d → has ws j ≡ false) → membersBelow ws d ≡ membersBelow ws c
@@ -255,12 +255,12 @@ below-skip ws c (suc d) l h =
     ⊎-elim (λ e. ap (membersBelow ws) (sym e)) (λ u. rw (h d (omega arith) (omega arith)) (below-skip ws c d (omega arith) (λ j a b. h j a (omega arith)))) (eq-or-lt-of-le l)
 
 -- the category that is found is listed next
-pub next-listed : (ws : List ℕ) (c k : ℕ) → nextOf ws c ≡ some k → membersBelow ws (k + 1) ≡ membersBelow ws c ++ (k ∷ [])
+pub next-listed : (ws : List ℕ) (c k : ℕ) → nextCategoryFrom ws c ≡ some k → membersBelow ws (k + 1) ≡ membersBelow ws c ++ (k ∷ [])
 unfolding membersBelow
 next-listed ws c k e = let l = next-least ws c k e in rw (add-one, l .there, below-skip ws c k (l .above) (l .none-before))
 
 -- where none is found, all are listed
-pub last-listed : (ws : List ℕ) (c d : ℕ) → nextOf ws c ≡ none → c ≤ d → membersBelow ws d ≡ membersBelow ws c
+pub last-listed : (ws : List ℕ) (c d : ℕ) → nextCategoryFrom ws c ≡ none → c ≤ d → membersBelow ws d ≡ membersBelow ws c
 last-listed ws c d e l = below-skip ws c d l (λ j a b. next-none ws c .0 e j a)
 
 pub all-listed : (ws : List ℕ) (c : ℕ) → c ≡ length ws * 64 → membersBelow ws c ≡ membersOf ws

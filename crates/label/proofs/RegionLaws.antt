@@ -1,19 +1,19 @@
--- Each valid hierarchy lies in exactly one region. Assumes nothing.
+-- Each valid hierarchy lies in exactly one region.
 use mathlib.Core.Bool.{Bool, true, false, cond, _&&_}
 use mathlib.Core.Path.{_≡_, refl}
 use Prim.Native.Nat.{ℕ, zero, suc, _≤_, _<_}
 use native.Mathlib.Omega.{arith}
 use lib.Dec.{leb, lit<}
 use borrow.Author.Tests.{leb-true, leb-false, le-leb, lt-leb}
-use Rattle.label.specs.Index.{every}
-use Rattle.label.specs.Region.{firstOf, lastOf, regionOf, regions}
-use Rattle.label.proofs.BoolLaws.{first-true, second-true}
-use Rattle.label.proofs.IndexLaws.{every-at}
+use Rattle.common.specs.Index.{every}
+use Rattle.label.specs.Region.{firstHierarchy, lastHierarchy, regionOf, regions}
+use Rattle.common.proofs.BoolLaws.{first-true, second-true}
+use Rattle.common.proofs.IndexLaws.{every-at}
 
 pub record Within (r h : ℕ) : Type 0 where
   pub known : r < regions
-  pub first : firstOf r ≤ h
-  pub last : h ≤ 199 → h ≤ lastOf r
+  pub first : firstHierarchy r ≤ h
+  pub last : h ≤ 199 → h ≤ lastHierarchy r
 
 -- the region of a hierarchy holds it, where it is valid
 pub region-within : (h : ℕ) → Within (regionOf h) h
@@ -29,7 +29,7 @@ region-within h = go (leb h 19) refl (leb h 179) refl
     go false e false f = let b = leb-false h 179 f in record { known = lit< tt; first = omega arith; last = λ v. omega arith }
 
 -- and it is the only one that does
-pub region-unique : (r h : ℕ) → r < regions → firstOf r ≤ h → h ≤ lastOf r → regionOf h ≡ r
+pub region-unique : (r h : ℕ) → r < regions → firstHierarchy r ≤ h → h ≤ lastHierarchy r → regionOf h ≡ r
 unfolding regionOf
 region-unique zero h k f l = simp (le-leb h 19 l)
 region-unique (suc zero) h k f l = simp (lt-leb h 19 f, le-leb h 179 l)
@@ -37,11 +37,11 @@ region-unique (suc (suc zero)) h k f l = let g : 19 < h = omega arith in simp (l
 region-unique (suc (suc (suc r))) h k f l = absurd (omega arith)
 
 -- a region's borders are in order, and valid: a test over the whole table, and the rule at each region
-borders : every (λ r. leb (firstOf r) (lastOf r) && leb (lastOf r) 199) regions ≡ true
+borders : every (λ r. leb (firstHierarchy r) (lastHierarchy r) && leb (lastHierarchy r) 199) regions ≡ true
 unfolding every
 borders = refl
 
-pub region-order : (r : ℕ) → r < regions → (firstOf r ≤ lastOf r) × (lastOf r ≤ 199)
+pub region-order : (r : ℕ) → r < regions → (firstHierarchy r ≤ lastHierarchy r) × (lastHierarchy r ≤ 199)
 region-order r h =
-    let e = every-at (λ k. leb (firstOf k) (lastOf k) && leb (lastOf k) 199) regions r borders h in
-    (leb-true (firstOf r) (lastOf r) (first-true _ _ e), leb-true (lastOf r) 199 (second-true (leb (firstOf r) (lastOf r)) _ e))
+    let e = every-at (λ k. leb (firstHierarchy k) (lastHierarchy k) && leb (lastHierarchy k) 199) regions r borders h in
+    (leb-true (firstHierarchy r) (lastHierarchy r) (first-true _ _ e), leb-true (lastHierarchy r) 199 (second-true (leb (firstHierarchy r) (lastHierarchy r)) _ e))

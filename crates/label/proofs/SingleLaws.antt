@@ -1,4 +1,4 @@
--- The set of one category: what it has, and what includes it. Assumes nothing.
+-- The set of one category: what it has, and what includes it.
 use mathlib.Core.Bool.{true, false}
 use mathlib.Core.List.{List}
 use mathlib.Core.Logic.{⊎-elim}
@@ -13,9 +13,9 @@ use lib.Seq.{getD-set-other, getD-set-same}
 use borrow.Author.Tests.{eq-eqb, eqb-true, ne-eqb}
 use Rattle.label.specs.Words.{bit, has, includesOf, singleOf, wordAt, words}
 use Rattle.label.proofs.BitLaws.{bit-high}
-use Rattle.label.proofs.BoolLaws.{same-truth}
-use Rattle.label.proofs.IndexLaws.{le-or-lt}
-use Rattle.label.proofs.SearchLaws.{same-or-not}
+use Rattle.common.proofs.BoolLaws.{same-truth}
+use Rattle.common.proofs.IndexLaws.{le-or-lt}
+use Rattle.common.proofs.SearchLaws.{same-or-not}
 use Rattle.label.proofs.WordLaws.{includes-exact}
 
 -- ---- the bits of a power of two

@@ -1,4 +1,4 @@
--- The laws of category sets, over lists of words of any length. Assumes nothing.
+-- The laws of category sets, over lists of words of any length.
 use mathlib.Core.Bool.{true, _&&_, _||_, true≢false}
 use mathlib.Core.List.{List}
 use mathlib.Core.Logic.{_↔_, ⊎-elim}
@@ -10,11 +10,11 @@ use lib.Bits.{bitAnd, bitOr}
 use lib.ListN.{length, getD, List·getD-eq-default}
 use lib.Seq.{ext-getD}
 use borrow.Author.Tests.{eqb-true, eq-eqb}
-use Rattle.label.specs.Index.{every, tabulate}
+use Rattle.common.specs.Index.{every, tabulate}
 use Rattle.label.specs.Words.{bit, combine, combinedAt, has, includesAt, includesOf, intersectionOf, sameOf, unionOf, wordAt}
 use Rattle.label.proofs.BitLaws.{among-bits, bit-and, bit-high, bit-or, bits-among, bits-equal}
-use Rattle.label.proofs.BoolLaws.{both, either, exactly-both, first-true, or-first, or-second, same-truth, second-true}
-use Rattle.label.proofs.IndexLaws.{every-all, every-at, le-or-lt, tabulate-length, tabulate-pad}
+use Rattle.common.proofs.BoolLaws.{both, either, exactly-both, first-true, or-first, or-second, same-truth, second-true}
+use Rattle.common.proofs.IndexLaws.{every-all, every-at, le-or-lt, tabulate-length, tabulate-pad}
 
 -- ---- by the word
 

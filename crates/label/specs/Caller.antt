@@ -1,4 +1,4 @@
--- Who asks: document 01's subject of a text, and the caller of the monitor. Assumes nothing.
+-- Who asks: document 01's subject of a text, and the caller of the monitor.
 use mathlib.Core.Bool.{Bool, _||_}
 use Rattle.label.specs.Label.{dominatesOf, validOf}
 use Rattle.label.specs.declared.Label.{Label}

@@ -1,4 +1,4 @@
--- Document 01, "Labels and regions": labels, with a set of any number of words. Assumes nothing.
+-- Document 01, "Labels and regions": labels, with a set of any number of words.
 use mathlib.Core.Bool.{Bool, _&&_}
 use mathlib.Core.List.{List}
 use mathlib.Core.Option.{Option, none, some}
@@ -6,7 +6,7 @@ use mathlib.Core.Path.{_≡_}
 use Prim.Native.Nat.{ℕ, _<_, _^_, max, min}
 use lib.Dec.{eqb, leb}
 use lib.ListN.{length, replicate}
-use Rattle.label.specs.Answer.{Answer, granted, refusedBy}
+use Rattle.common.specs.Answer.{Answer, granted, refusedBy}
 use Rattle.label.specs.Words.{includesOf, intersectionOf, sameOf, singleOf, unionOf, wordAt, words}
 use Rattle.label.specs.declared.Label.{Label}
 use Rattle.label.specs.declared.Next.{Next}

@@ -1,5 +1,5 @@
 -- Document 01, "Labels and regions": a set of categories as a list of words of 64 bits, of any length. A list is taken as going on with
--- words that are 0. Assumes nothing.
+-- words that are 0.
 use mathlib.Core.Bool.{Bool, true, false, _&&_}
 use mathlib.Core.List.{List, [], _∷_, _++_}
 use mathlib.Core.Option.{Option, none, some}
@@ -7,9 +7,9 @@ use Prim.Native.Nat.{ℕ, zero, suc, _*_, _-_, _/_, _%_, _^_, max}
 use lib.Bits.{bitAnd, bitOr}
 use lib.Dec.{eqb}
 use lib.ListN.{getD, length, replicate, set}
-use Rattle.label.specs.Index.{every, firstFrom, tabulate}
-use Rattle.label.specs.declared.words.Found.{Found}
-use Rattle.label.specs.declared.words.Found.the-variants.{At, Nothing}
+use Rattle.common.specs.Index.{every, firstFrom, tabulate}
+use Rattle.label.specs.declared.words.FoundCategory.{FoundCategory}
+use Rattle.label.specs.declared.words.FoundCategory.the-variants.{At, Nothing}
 
 -- how many words a label's set has
 abbrev pub words : ℕ
@@ -74,10 +74,10 @@ unfoldable pub membersOf : List ℕ → List ℕ
 membersOf ws = membersBelow ws (length ws * 64)
 
 -- the least category at or above c, if there is one
-unfoldable pub nextOf : List ℕ → ℕ → Option ℕ
-nextOf ws c = firstFrom (has ws) c (length ws * 64 - c)
+unfoldable pub nextCategoryFrom : List ℕ → ℕ → Option ℕ
+nextCategoryFrom ws c = firstFrom (has ws) c (length ws * 64 - c)
 
 -- what the enum Found says
-abbrev pub foundOf : Found → Option ℕ
-foundOf (At c) = some c
-foundOf Nothing = none
+abbrev pub foundCategoryOf : FoundCategory → Option ℕ
+foundCategoryOf (At c) = some c
+foundCategoryOf Nothing = none

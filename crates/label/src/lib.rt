@@ -1,26 +1,24 @@
 // Labels for mandatory access control: a hierarchy number and a set of categories. Each function tests the labels that it is handed and
 // refuses an invalid one with 22; only `valid` and `is_zero` answer a bare yes or no.
-pub mod answer;
 pub mod caller;
 pub mod components;
-pub mod errno;
 pub mod region;
 pub mod words;
 
-use crate::answer::Number;
-use crate::answer::Outcome;
-use crate::answer::Test;
-use crate::errno::Errno;
-use crate::words::Found;
+use crate::words::FoundCategory;
 use crate::words::WORDS;
+use common::answer::Number;
+use common::answer::Outcome;
+use common::answer::Test;
+use common::errno::Errno;
 ghost use mathlib.Core.Path.{_≡_};
 ghost use mathlib.Core.Bool.{_&&_};
 ghost use lib.Dec.{ltb};
 ghost use lib.ListN.{length};
-ghost use Rattle.label.specs.Answer.{Answered, granted, require, testOf, numberAnswerOf};
+ghost use Rattle.common.specs.Answer.{Answered, granted, require, testOf, numberAnswerOf};
 ghost use Rattle.label.specs.Label.{dominatesOf, equalOf, lowerBoundOf, nextAnswerOf, upperBoundOf, validOf, withCategoryOf, zeroLabel, Typed};
 ghost use Rattle.label.specs.Region.{regionOf};
-ghost use Rattle.label.specs.Words.{categories, has, membersOf, nextOf};
+ghost use Rattle.label.specs.Words.{categories, has, membersOf, nextCategoryFrom};
 
 // The largest hierarchy number of a valid label.
 pub const MAX_HIERARCHY: u64 = 199;
@@ -189,13 +187,13 @@ pub fn with_category(a: Label, c: u64) -> LabelAnswer
 
 // The least category of a at or above from.
 pub fn next_category(a: Label, from: u64) -> Next
-    ensures { λ r. ⌜ nextAnswerOf r ≡ require (validOf a) 22 (granted (nextOf (a .categories) from)) ⌝ }
+    ensures { λ r. ⌜ nextAnswerOf r ≡ require (validOf a) 22 (granted (nextCategoryFrom (a .categories) from)) ⌝ }
 {
     if valid(a) {
         let x = a.categories;
         return match words::next(x, from) {
-            Found::At(c) => Next::Category(c),
-            Found::Nothing => Next::Nothing,
+            FoundCategory::At(c) => Next::Category(c),
+            FoundCategory::Nothing => Next::Nothing,
         };
     }
     Next::Refused(Errno::Invalid)

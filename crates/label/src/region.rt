@@ -1,7 +1,7 @@
 // Regions: each is a run of hierarchy numbers, and is known by its number in document 01's order.
 ghost use mathlib.Core.Path.{_≡_};
 ghost use lib.ListN.{getD};
-ghost use Rattle.label.specs.Region.{firstOf, lastOf, regionOf};
+ghost use Rattle.label.specs.Region.{firstHierarchy, lastHierarchy, regionOf};
 
 pub const REGIONS: usize = 3;
 
@@ -24,14 +24,14 @@ fn entry(table: [u64; REGIONS], region: usize) -> u64
 
 // The least hierarchy number of a region; 0 where there is no such region.
 pub fn first(region: usize) -> u64
-    ensures { λ r. ⌜ r ≡ firstOf region ⌝ }
+    ensures { λ r. ⌜ r ≡ firstHierarchy region ⌝ }
 {
     entry(FIRST, region)
 }
 
 // The greatest hierarchy number of a region; 0 where there is no such region.
 pub fn last(region: usize) -> u64
-    ensures { λ r. ⌜ r ≡ lastOf region ⌝ }
+    ensures { λ r. ⌜ r ≡ lastHierarchy region ⌝ }
 {
     entry(LAST, region)
 }

@@ -1,13 +1,13 @@
 // A set of categories as an array of words, by value. These functions are total: any words are a set.
 ghost use mathlib.Core.Path.{_≡_};
 ghost use lib.ListN.{length};
-ghost use Rattle.label.specs.Words.{foundOf, includesOf, intersectionOf, membersOf, nextOf, sameOf, singleOf, unionOf};
+ghost use Rattle.label.specs.Words.{foundCategoryOf, includesOf, intersectionOf, membersOf, nextCategoryFrom, sameOf, singleOf, unionOf};
 
 // How many words a set has. Category c is bit c % 64 of word c / 64.
 pub const WORDS: usize = 4;
 
 // The least category at or above a number.
-pub enum Found {
+pub enum FoundCategory {
     At(u64),
     Nothing,
 }
@@ -85,16 +85,16 @@ pub fn count(a: [u64; WORDS]) -> u64
 }
 
 // The least category of a at or above from. It goes from word to word, and in a word to its lowest set bit.
-pub fn next(a: [u64; WORDS], from: u64) -> Found
-    ensures { λ r. ⌜ foundOf r ≡ nextOf a from ⌝ }
+pub fn next(a: [u64; WORDS], from: u64) -> FoundCategory
+    ensures { λ r. ⌜ foundCategoryOf r ≡ nextCategoryFrom a from ⌝ }
 {
     let mut c = from as usize;
     while c < WORDS * 64 {
         let w = a[c / 64] >> (c % 64);
         if w != 0 {
-            return Found::At((c + u64::trailing_zeros(w) as usize) as u64);
+            return FoundCategory::At((c + u64::trailing_zeros(w) as usize) as u64);
         }
         c = (c / 64 + 1) * 64;
     }
-    Found::Nothing
+    FoundCategory::Nothing
 }

@@ -1,30 +1,30 @@
 // The monitor.
 use abi::answer;
-use abi::answer::Answer;
+use abi::answer::CAnswer;
 use abi::caller;
-use abi::caller::Caller;
+use abi::caller::CCaller;
 use abi::request;
-use abi::request::Credentials;
-use abi::request::Object;
-use label::errno::Errno;
+use abi::request::CCredentials;
+use abi::request::CObject;
+use common::errno::Errno;
 use monitor::Request;
 ghost use mathlib.Core.Path.{_≡_};
 ghost use mathlib.Core.Bool.{_&&_};
-ghost use Rattle.label.specs.Answer.{require};
-ghost use Rattle.monitor.specs.Monitor.{decide};
+ghost use Rattle.common.specs.Answer.{require};
+ghost use Rattle.monitor.specs.Monitor.{decisionFor};
 ghost use Rattle.abi.specs.Answer.{numberAnswer};
 ghost use Rattle.abi.specs.Caller.{callerFormed};
-ghost use Rattle.abi.specs.Request.{credentialsFormed, objectFormed, requestOf};
+ghost use Rattle.abi.specs.Request.{credentialsFormed, objectFormed, monitorRequest};
 
 #[no_mangle]
 pub extern "C" fn lurm_check(
-    caller: Caller,
-    credentials: Credentials,
-    object: Object,
+    caller: CCaller,
+    credentials: CCredentials,
+    object: CObject,
     intents: u64,
     attribute: u64,
-) -> Answer
-    ensures { λ r. ⌜ r ≡ numberAnswer (require (callerFormed caller && credentialsFormed credentials && objectFormed object) 22 (decide (requestOf caller credentials object intents attribute))) ⌝ }
+) -> CAnswer
+    ensures { λ r. ⌜ r ≡ numberAnswer (require (callerFormed caller && credentialsFormed credentials && objectFormed object) 22 (decisionFor (monitorRequest caller credentials object intents attribute))) ⌝ }
 {
     if caller::formed(caller)
         & request::credentials_formed(credentials)

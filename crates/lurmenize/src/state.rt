@@ -1,8 +1,8 @@
 // Calls on a state that is passed and handed back.
 use abi::answer;
-use abi::answer::Answer;
+use abi::answer::CAnswer;
 use abi::outcome;
-use abi::outcome::Outcome;
+use abi::outcome::COutcome;
 use label::Label;
 use range::tuple::Tuple;
 use segments::Action;
@@ -19,7 +19,7 @@ use segments::TenantId;
 use segments::calls;
 use segments::operator;
 ghost use mathlib.Core.Path.{_≡_};
-ghost use Rattle.label.specs.Answer.{granted, require};
+ghost use Rattle.common.specs.Answer.{granted, require};
 ghost use Rattle.segments.specs.Calls.{Decides, callOf, closeCall, lookCall, openCall, postCall, sizeCall, stepOf};
 ghost use Rattle.segments.specs.Operator.{admitOf, makeOf, setCeilingOf};
 ghost use Rattle.segments.specs.Slots.{pagesOf};
@@ -28,7 +28,7 @@ ghost use Rattle.abi.specs.Answer.{numberAnswer, testAnswer};
 ghost use Rattle.abi.specs.Outcome.{stepOutcome};
 
 #[no_mangle]
-pub extern "C" fn lurm_make(pool: u64) -> Outcome
+pub extern "C" fn lurm_make(pool: u64) -> COutcome
     ensures { λ r. ⌜ r ≡ stepOutcome (makeOf pool) ⌝ }
 {
     outcome::hand_back(operator::make(pool))
@@ -40,14 +40,14 @@ pub extern "C" fn lurm_admit(
     tenant: TenantId,
     ceiling: u64,
     clearance: Tuple,
-) -> Outcome
+) -> COutcome
     ensures { λ r. ⌜ r ≡ stepOutcome (admitOf state tenant ceiling clearance) ⌝ }
 {
     outcome::hand_back(operator::admit(state, tenant, ceiling, clearance))
 }
 
 #[no_mangle]
-pub extern "C" fn lurm_set_ceiling(state: SegmentTable, tenant: TenantId, ceiling: u64) -> Outcome
+pub extern "C" fn lurm_set_ceiling(state: SegmentTable, tenant: TenantId, ceiling: u64) -> COutcome
     ensures { λ r. ⌜ r ≡ stepOutcome (setCeilingOf state tenant ceiling) ⌝ }
 {
     outcome::hand_back(operator::set_ceiling(state, tenant, ceiling))
@@ -71,7 +71,7 @@ pub extern "C" fn lurm_open(
     tenant: TenantId,
     label: Label,
     pages: u64,
-) -> Outcome
+) -> COutcome
     ensures { λ r. ⌜ r ≡ stepOutcome (stepOf state (openCall tenant label pages)) ⌝ }
 {
     let action = Action::Open(OpenCall { pages });
@@ -85,7 +85,7 @@ pub extern "C" fn lurm_size(
     label: Label,
     slot: Slot,
     pages: u64,
-) -> Outcome
+) -> COutcome
     ensures { λ r. ⌜ r ≡ stepOutcome (stepOf state (sizeCall tenant label slot pages)) ⌝ }
 {
     let action = Action::Size(SizeCall { slot, pages });
@@ -99,7 +99,7 @@ pub extern "C" fn lurm_post(
     label: Label,
     slot: Slot,
     version: u64,
-) -> Outcome
+) -> COutcome
     ensures { λ r. ⌜ r ≡ stepOutcome (stepOf state (postCall tenant label slot version)) ⌝ }
 {
     let action = Action::Post(PostCall { slot, version });
@@ -112,7 +112,7 @@ pub extern "C" fn lurm_close(
     tenant: TenantId,
     label: Label,
     slot: Slot,
-) -> Outcome
+) -> COutcome
     ensures { λ r. ⌜ r ≡ stepOutcome (stepOf state (closeCall tenant label slot)) ⌝ }
 {
     let action = Action::Close(CloseCall { slot });
@@ -125,7 +125,7 @@ pub extern "C" fn lurm_look(
     tenant: TenantId,
     label: Label,
     slot: Slot,
-) -> Outcome
+) -> COutcome
     ensures { λ r. ⌜ r ≡ stepOutcome (stepOf state (lookCall tenant label slot)) ⌝ }
 {
     let action = Action::Look(LookCall { slot });
@@ -134,7 +134,7 @@ pub extern "C" fn lurm_look(
 
 // Whether a state is sound.
 #[no_mangle]
-pub extern "C" fn lurm_sound(state: SegmentTable) -> Answer
+pub extern "C" fn lurm_sound(state: SegmentTable) -> CAnswer
     ensures { λ r. ⌜ r ≡ testAnswer (granted (sound state)) ⌝ }
 {
     if segments::state::sound(state) {
@@ -144,7 +144,7 @@ pub extern "C" fn lurm_sound(state: SegmentTable) -> Answer
 }
 
 #[no_mangle]
-pub extern "C" fn lurm_pages_in_use(state: SegmentTable, tenant: TenantId) -> Answer
+pub extern "C" fn lurm_pages_in_use(state: SegmentTable, tenant: TenantId) -> CAnswer
     ensures { λ r. ⌜ r ≡ numberAnswer (require (sound state) 22 (require (admitted state tenant) 22 (granted (pagesOf state tenant)))) ⌝ }
 {
     answer::of_number(segments::state::pages_in_use(state, tenant))

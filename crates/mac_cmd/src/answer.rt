@@ -1,13 +1,13 @@
 // Answers as text. Each function puts an answer's line at the front of a buffer and gives its length.
+use common::answer::Number;
+use common::answer::Outcome;
+use common::answer::Test;
+use common::answer::Written;
+use common::errno::Errno;
 use console::format;
 use hexline::entry::EntryAnswer;
 use label::LabelAnswer;
 use label::Next;
-use label::answer::Number;
-use label::answer::Outcome;
-use label::answer::Test;
-use label::answer::Written;
-use label::errno::Errno;
 use label::region;
 use range::RangeAnswer;
 use range::tuple::TupleAnswer;

@@ -2,10 +2,10 @@
 // at the front of a buffer and gives its length.
 use crate::answer;
 use crate::request::Request;
+use common::answer::granted;
 use console::format;
 use hexline::Kind;
 use label::Label;
-use label::answer::granted;
 use range::tuple;
 
 // Whether H is a valid hierarchy. A number above a byte is none.

@@ -1,12 +1,12 @@
--- The rules of document 01's "The monitor", with requests 2026-01 and 2026-03, on examples, by computation. Assumes nothing.
+-- The rules of document 01's "The monitor", with requests 2026-01 and 2026-03, on examples, by computation.
 use mathlib.Core.Bool.{Bool, true, false}
 use mathlib.Core.List.{List, [], _∷_, map}
 use mathlib.Core.Option.{none}
 use mathlib.Core.Path.{_≡_, refl}
 use Prim.Native.Nat.{ℕ}
-use Rattle.label.specs.Answer.{Answer, granted, refused}
+use Rattle.common.specs.Answer.{Answer, granted, refused}
 use Rattle.label.specs.Caller.{seesOf}
-use Rattle.label.specs.Index.{every}
+use Rattle.common.specs.Index.{every}
 use Rattle.label.specs.Label.{dominatesOf, equalOf, zeroLabel}
 use Rattle.label.specs.Label as labels
 use Rattle.label.specs.Region.{regionOf}
@@ -18,7 +18,7 @@ use Rattle.range.specs.Range.{containsOf, rangeOf, validOf as rangeValid}
 use Rattle.range.specs.Tuple.{absent, containsAt, emptyTuple, present, tupleOf, validAt}
 use Rattle.range.specs.Tuple as tuples
 use Rattle.range.specs.declared.tuple.Tuple.{Tuple}
-use Rattle.monitor.specs.Monitor.{any, attributeValid, callerSees, credentialsValid, decide, decideBy, grantBy, intentsBy, intentsValid, kindValid, metOf, objectValid, table, validOf}
+use Rattle.monitor.specs.Monitor.{someRow, attributeValid, callerSees, credentialsValid, decisionFor, decideBy, grantBy, intentsBy, intentsValid, kindValid, metOf, objectValid, table, validOf}
 use Rattle.monitor.specs.declared.FileKind.{FileKind}
 use Rattle.monitor.specs.declared.FileKind.the-variants.{Regular, Directory}
 use Rattle.monitor.specs.declared.Object.{Object}
@@ -178,6 +178,6 @@ examples =
     ∷ (askedBy 20 false (by 30 alone (labelled File 30) 32 1), refusal 13)
     ∷ []
 
-examples-hold : map (λ (x : Request × Answer ℕ). decide (x .0)) examples ≡ map (λ (x : Request × Answer ℕ). x .1) examples
-unfolding decideBy intentsBy callerSees seesOf grantBy any table metOf validOf intentsValid credentialsValid objectValid kindValid attributeValid bit rangeValid containsOf labels.validOf dominatesOf equalOf includesOf sameOf every tuples.validOf tuples.containsOf validAt containsAt regionOf
+examples-hold : map (λ (x : Request × Answer ℕ). decisionFor (x .0)) examples ≡ map (λ (x : Request × Answer ℕ). x .1) examples
+unfolding decideBy intentsBy callerSees seesOf grantBy someRow table metOf validOf intentsValid credentialsValid objectValid kindValid attributeValid bit rangeValid containsOf labels.validOf dominatesOf equalOf includesOf sameOf every tuples.validOf tuples.containsOf validAt containsAt regionOf
 examples-hold = refl

@@ -1,4 +1,4 @@
--- What the monitor's decisions come from: the theorems to read. Assumes nothing.
+-- What the monitor's decisions come from: the theorems to read.
 use mathlib.Core.Bool.{Bool, true, false, not, _&&_, _||_, and-true, true≢false}
 use mathlib.Core.List.{List, [], _∷_}
 use mathlib.Core.Logic.{_⊎_, inl, inr}
@@ -6,18 +6,18 @@ use mathlib.Core.Option.{none}
 use mathlib.Core.Path.{_≡_, refl, sym, ap, ap₂, _∙_}
 use Prim.Native.Nat.{ℕ}
 use borrow.Author.Tests.{not-true}
-use Rattle.label.specs.Answer.{Answer, granted, refused, require}
+use Rattle.common.specs.Answer.{Answer, granted, refused, require}
 use Rattle.label.specs.Caller.{callerValid, seesOf}
 use Rattle.label.specs.Label.{dominatesOf}
 use Rattle.label.specs.declared.Label.{Label}
 use Rattle.label.specs.declared.caller.Caller.{Caller}
 use Rattle.range.specs.Tuple
 use Rattle.range.specs.declared.tuple.Tuple.{Tuple}
-use Rattle.label.proofs.AnswerLaws.{grant-passed, grants-same, passed, stopped}
+use Rattle.common.proofs.AnswerLaws.{grant-passed, grants-same, passed, stopped}
 use Rattle.label.proofs.LabelLaws.{dominates-refl}
 use Rattle.label.proofs.CallerLaws.{sees-all, sees-dominated, sees-still, withOverride}
-use Rattle.label.proofs.BoolLaws.{both, either, first-true, not-so, or-first, or-second, same-truth, second-true}
-use Rattle.monitor.specs.Monitor.{Row, any, applies, asks, attributeValid, callerSees, credentialsValid, decide, decideBy, denied, grantBy, implies, intentGet, intentSet, intentsBy, isFile, kindValid, metOf, objectValid, overrideOf, table, unmet, validOf}
+use Rattle.common.proofs.BoolLaws.{both, either, first-true, not-so, or-first, or-second, same-truth, second-true}
+use Rattle.monitor.specs.Monitor.{Row, someRow, applies, asks, attributeValid, callerSees, credentialsValid, decisionFor, decideBy, denied, grantBy, implies, intentGet, intentSet, intentsBy, isFile, kindValid, metOf, objectValid, overrideOf, table, unmet, validOf}
 use Rattle.monitor.specs.Needs.{answerBy, neededOf}
 use Rattle.monitor.specs.declared.Access.{Access}
 use Rattle.monitor.specs.declared.Access.the-variants.{Observe, Modify}
@@ -85,33 +85,33 @@ abbrev pub In : Row → List Row → Type 0
 In x [] = ⊥
 In x (y ∷ ys) = (x ≡ y) ⊎ In x ys
 
-any-of : (f : Row → Bool) (x : Row) (xs : List Row) → In x xs → f x ≡ true → any f xs ≡ true
-unfolding any
+any-of : (f : Row → Bool) (x : Row) (xs : List Row) → In x xs → f x ≡ true → someRow f xs ≡ true
+unfolding someRow
 any-of f x (y ∷ ys) (inl p) e = or-first _ (ap f (sym p) ∙ e)
 any-of f x (y ∷ ys) (inr h) e = or-second (f y) (any-of f x ys h e)
 
-none-of : (f : Row → Bool) (x : Row) (xs : List Row) → In x xs → any f xs ≡ false → f x ≡ false
+none-of : (f : Row → Bool) (x : Row) (xs : List Row) → In x xs → someRow f xs ≡ false → f x ≡ false
 none-of f x xs h e = not-so (f x) (λ k. true≢false (sym (any-of f x xs h k) ∙ e))
 
 -- what follows from each row for which f holds follows where f holds for any
-from-any : {C : Type 0} (f : Row → Bool) (xs : List Row) → ((x : Row) → In x xs → f x ≡ true → C) → any f xs ≡ true → C
-unfolding any
+from-any : {C : Type 0} (f : Row → Bool) (xs : List Row) → ((x : Row) → In x xs → f x ≡ true → C) → someRow f xs ≡ true → C
+unfolding someRow
 from-any f [] h e = absurd (true≢false (sym e))
-from-any {C} f (y ∷ ys) h e = by (either (f y) (any f ys) e) (from-any f ys (λ x m. h x (inr m)))
+from-any {C} f (y ∷ ys) h e = by (either (f y) (someRow f ys) e) (from-any f ys (λ x m. h x (inr m)))
   where
-    by : (f y ≡ true) ⊎ (any f ys ≡ true) → (any f ys ≡ true → C) → C
+    by : (f y ≡ true) ⊎ (someRow f ys ≡ true) → (someRow f ys ≡ true → C) → C
     by (inl k) rest = h y (inl refl) k
     by (inr k) rest = rest k
 
 -- ---- the order of the intents plays no part
 
-any-same : (f : Row → Bool) (xs ys : List Row) → ((x : Row) → In x xs → In x ys) → ((x : Row) → In x ys → In x xs) → any f xs ≡ any f ys
+any-same : (f : Row → Bool) (xs ys : List Row) → ((x : Row) → In x xs → In x ys) → ((x : Row) → In x ys → In x xs) → someRow f xs ≡ someRow f ys
 any-same f xs ys h k =
     same-truth _ _ (from-any f xs (λ x m. any-of f x ys (h x m))) (from-any f ys (λ x m. any-of f x xs (k x m)))
 
 -- a list with the rows of the table, in whatever order and however often, decides as the table does
 pub order-of-intents : (rows : List Row) (r : Request) → ((x : Row) → In x rows → In x table) → ((x : Row) → In x table → In x rows)
-    → decideBy rows r ≡ decide r
+    → decideBy rows r ≡ decisionFor r
 unfolding decideBy intentsBy grantBy
 order-of-intents rows r h k = rw (any-same (denied r) rows table h k, any-same (unmet r) rows table h k)
 
@@ -121,14 +121,14 @@ order-of-intents rows r h k = rw (any-same (denied r) rows table h k, any-same (
 pub record Granted (r : Request) (n : ℕ) : Type 0 where
   pub valid : validOf r ≡ true
   pub seen : callerSees r ≡ true
-  pub allowed : any (denied r) table ≡ false
+  pub allowed : someRow (denied r) table ≡ false
   pub relabel : (asks (r .intents) intentSet && not (r .credentials .privileges .relabel)) ≡ false
   pub answer : n ≡ grantBy table r
 
-pub granted-parts : (r : Request) (n : ℕ) → decide r ≡ granted n → Granted r n
+pub granted-parts : (r : Request) (n : ℕ) → decisionFor r ≡ granted n → Granted r n
 unfolding decideBy intentsBy
 granted-parts r n e =
-    let d = any (denied r) table in
+    let d = someRow (denied r) table in
     let s = asks (r .intents) intentSet && not (r .credentials .privileges .relabel) in
     let third = require (not s) 1 (granted (grantBy table r)) in
     let second = require (not d) 13 third in
@@ -144,7 +144,7 @@ granted-parts r n e =
       answer = grants-same n (grantBy table r) (c .1);
     }
 
-pub parts-granted : (r : Request) (n : ℕ) → Granted r n → decide r ≡ granted n
+pub parts-granted : (r : Request) (n : ℕ) → Granted r n → decisionFor r ≡ granted n
 unfolding decideBy intentsBy
 parts-granted r n g = rw (g .valid, g .seen, g .allowed, g .relabel, g .answer)
 
@@ -188,7 +188,7 @@ met-alone true false false e f h = sym e
 met-alone false m o e f h = absurd (true≢false (sym h))
 
 -- the test of a row that is asked for is met where the subject lacks its override
-pub granted-met : (r : Request) (n : ℕ) (x : Row) → In x table → decide r ≡ granted n → applies r x ≡ true
+pub granted-met : (r : Request) (n : ℕ) (x : Row) → In x table → decisionFor r ≡ granted n → applies r x ≡ true
     → overrideOf (x .access) (r .credentials .privileges) ≡ false → metOf (r .credentials .label) (r .object) (x .access) ≡ true
 granted-met r n x m e a o =
     met-alone
@@ -215,7 +215,7 @@ no-override : (a : Access) (p : Privileges) → p ≡ noPrivileges → overrideO
 no-override Observe p e = ap (λ (q : Privileges). q .read) e
 no-override Modify p e = ap (λ (q : Privileges). q .write) e
 
-pub unprivileged-grant : (r : Request) (n : ℕ) → r .credentials .privileges ≡ noPrivileges → decide r ≡ granted n → Unprivileged r n
+pub unprivileged-grant : (r : Request) (n : ℕ) → r .credentials .privileges ≡ noPrivileges → decisionFor r ≡ granted n → Unprivileged r n
 unfolding grantBy
 unprivileged-grant r n p e =
     record { answer = g .answer ∙ rw (no-row, no-set); met = met; caller = λ o. sym (caller-dominates r o) ∙ g .seen }
@@ -226,9 +226,9 @@ unprivileged-grant r n p e =
     met : (x : Row) → In x table → applies r x ≡ true → metOf (r .credentials .label) (r .object) (x .access) ≡ true
     met x m a = granted-met r n x m e a (no-override (x .access) (r .credentials .privileges) p)
 
-    no-row : any (unmet r) table ≡ false
+    no-row : someRow (unmet r) table ≡ false
     no-row =
-        not-so (any (unmet r) table) (from-any (unmet r) table (λ x m u.
+        not-so (someRow (unmet r) table) (from-any (unmet r) table (λ x m u.
         let a = first-true (applies r x) _ u in
         true≢false (sym (second-true (applies r x) _ u) ∙ ap not (met x m a))))
 
@@ -281,7 +281,7 @@ withGained r q o = withCaller (withPrivileges r q) (withOverride (r .caller) o)
 
 -- what is granted is granted with the same answer where there are more privileges, the subject's or the caller's
 pub more-privileges : (r : Request) (q : Privileges) (o : Bool) (n : ℕ) → AmongPrivileges (r .credentials .privileges) q
-    → (r .caller .«read_override» ≡ true → o ≡ true) → decide r ≡ granted n → decide (withGained r q o) ≡ granted n
+    → (r .caller .«read_override» ≡ true → o ≡ true) → decisionFor r ≡ granted n → decisionFor (withGained r q o) ≡ granted n
 unfolding validOf credentialsValid callerSees grantBy
 more-privileges r q o n h k e =
     parts-granted (withGained r q o) n (record {
@@ -310,7 +310,7 @@ more-privileges r q o n h k e =
 -- a decision goes by whether the request is valid, by whether the caller sees what it asks about, by the privileges that are needed and by those
 -- that are there
 pub same-decision : (r s : Request) → validOf r ≡ validOf s → callerSees r ≡ callerSees s → neededOf r ≡ neededOf s
-    → r .credentials .privileges ≡ s .credentials .privileges → decide r ≡ decide s
+    → r .credentials .privileges ≡ s .credentials .privileges → decisionFor r ≡ decisionFor s
 same-decision r s v c n p =
     decide-needed r
     ∙ ap₂ (λ (t : Bool) (rest : Answer ℕ). require t 22 rest) v (ap₂ (λ (t : Bool) (rest : Answer ℕ). require t 13 rest) c (ap₂ answerBy n p))
@@ -318,41 +318,41 @@ same-decision r s v c n p =
 
 -- the tuple, or that there is none, where a label governs and the tuple is valid
 pub label-governs : (r : Request) (f g : Bool) (t u : Tuple) → r .object .present .label ≡ true
-    → implies f (Tuple.validOf t) ≡ true → implies g (Tuple.validOf u) ≡ true → decide (withTuple r f t) ≡ decide (withTuple r g u)
+    → implies f (Tuple.validOf t) ≡ true → implies g (Tuple.validOf u) ≡ true → decisionFor (withTuple r f t) ≡ decisionFor (withTuple r g u)
 unfolding validOf objectValid callerSees neededOf metOf
 label-governs r f g t u e h k = same-decision _ _ (rw (e, h, k)) refl (rw e) refl
 
 -- what a label or a tuple holds that is not there
-pub absent-label : (r : Request) (l m : Label) → decide (withLabel r false l) ≡ decide (withLabel r false m)
+pub absent-label : (r : Request) (l m : Label) → decisionFor (withLabel r false l) ≡ decisionFor (withLabel r false m)
 unfolding validOf objectValid callerSees neededOf metOf
 absent-label r l m = same-decision _ _ refl refl refl refl
 
-pub absent-tuple : (r : Request) (t u : Tuple) → decide (withTuple r false t) ≡ decide (withTuple r false u)
+pub absent-tuple : (r : Request) (t u : Tuple) → decisionFor (withTuple r false t) ≡ decisionFor (withTuple r false u)
 unfolding validOf objectValid callerSees neededOf metOf
 absent-tuple r t u = same-decision _ _ refl refl refl refl
 
 -- the file kind of what is no file
-pub kind-of-no-file : (r : Request) (k l : FileKind) → isFile (r .object .class) ≡ false → decide (withKind r k) ≡ decide (withKind r l)
+pub kind-of-no-file : (r : Request) (k l : FileKind) → isFile (r .object .class) ≡ false → decisionFor (withKind r k) ≡ decisionFor (withKind r l)
 unfolding validOf objectValid kindValid callerSees neededOf metOf
 kind-of-no-file r k l e = same-decision _ _ (rw e) refl refl refl
 
 -- the attribute type where no attribute is asked for
 pub attribute-unasked : (r : Request) (a b : ℕ) → (asks (r .intents) intentGet || asks (r .intents) intentSet) ≡ false
-    → decide (withAttribute r a) ≡ decide (withAttribute r b)
+    → decisionFor (withAttribute r a) ≡ decisionFor (withAttribute r b)
 unfolding validOf attributeValid callerSees neededOf
 attribute-unasked r a b e = same-decision _ _ (rw e) refl refl refl
 
 -- ---- the caller
 
 -- an invalid one is refused with 22, with the override too, whatever it asks
-pub invalid-caller : (r : Request) → callerValid (r .caller) ≡ false → decide r ≡ refused 22 none
+pub invalid-caller : (r : Request) → callerValid (r .caller) ≡ false → decisionFor r ≡ refused 22 none
 invalid-caller r e =
     decide-needed r ∙ stopped (validOf r) 22 _ (not-so (validOf r) (λ h. true≢false (sym (valid-parts r h .caller) ∙ e)))
 
 -- one that does not see what it asks about is refused with 13, whatever privileges the subject has and whatever it intends
 pub caller-denied : (r : Request) (p : Privileges) (intents attribute : ℕ) → callerSees r ≡ false
     → validOf (withIntents (withPrivileges r p) intents attribute) ≡ true
-    → decide (withIntents (withPrivileges r p) intents attribute) ≡ refused 13 none
+    → decisionFor (withIntents (withPrivileges r p) intents attribute) ≡ refused 13 none
 unfolding decideBy callerSees
 caller-denied r p intents attribute e v = passed _ 22 _ v ∙ stopped _ 13 _ e
 
@@ -362,7 +362,7 @@ pub record MayAsk (r : Request) (c : Caller) : Type 0 where
   pub seen : callerSees (withCaller r c) ≡ true
 
 -- it plays no other part: two that may ask get the same decision, so that the override by which one of them sees never makes the answer 1
-pub caller-no-other-part : (r : Request) (c d : Caller) → MayAsk r c → MayAsk r d → decide (withCaller r c) ≡ decide (withCaller r d)
+pub caller-no-other-part : (r : Request) (c d : Caller) → MayAsk r c → MayAsk r d → decisionFor (withCaller r c) ≡ decisionFor (withCaller r d)
 unfolding validOf neededOf
 caller-no-other-part r c d f g = same-decision _ _ (rw (f .valid, g .valid)) (f .seen ∙ sym (g .seen)) refl refl
 

@@ -1,10 +1,10 @@
--- What is decided by the privileges that a request needs is what is decided by the table of intents. Assumes nothing.
+-- What is decided by the privileges that a request needs is what is decided by the table of intents.
 use mathlib.Core.Bool.{Bool, true, false, cond, not, _&&_, _||_, and-true, and-false, or-assoc, or-false}
 use mathlib.Core.List.{List, [], _∷_}
 use mathlib.Core.Option.{none}
 use mathlib.Core.Path.{_≡_, refl, ap, ap₂, _∙_}
-use Rattle.label.specs.Answer.{granted, refused, require}
-use Rattle.monitor.specs.Monitor.{Row, any, applies, callerSees, decide, decideBy, denied, grantBy, intentsBy, metOf, overrideOf, table, unmet, validOf}
+use Rattle.common.specs.Answer.{granted, refused, require}
+use Rattle.monitor.specs.Monitor.{Row, someRow, applies, callerSees, decisionFor, decideBy, denied, grantBy, intentsBy, metOf, overrideOf, table, unmet, validOf}
 use Rattle.monitor.specs.Needs.{answerBy, modifiesOf, neededOf, observesOf}
 use Rattle.monitor.specs.declared.Access.{Access}
 use Rattle.monitor.specs.declared.Access.the-variants.{Observe, Modify}
@@ -23,10 +23,10 @@ modifying Modify = true
 
 -- whether some row that observes, or modifies, is asked for
 abbrev anyObserving : (Row → Bool) → List Row → Bool
-anyObserving asked xs = any (λ x. asked x && observing (x .access)) xs
+anyObserving asked xs = someRow (λ x. asked x && observing (x .access)) xs
 
 abbrev anyModifying : (Row → Bool) → List Row → Bool
-anyModifying asked xs = any (λ x. asked x && modifying (x .access)) xs
+anyModifying asked xs = someRow (λ x. asked x && modifying (x .access)) xs
 
 observe-first : (t o m : Bool) → (t || (o && t || m)) ≡ (t || m)
 observe-first true o m = refl
@@ -49,8 +49,8 @@ one-row test true Modify o m = modify-first (test Modify) (o && test Observe) m
 
 -- a test that goes by the access holds of some row that is asked for, if it holds of an access that such a row has
 by-access : (asked : Row → Bool) (test : Access → Bool) (xs : List Row) →
-    any (λ x. asked x && test (x .access)) xs ≡ (anyObserving asked xs && test Observe || anyModifying asked xs && test Modify)
-unfolding any
+    someRow (λ x. asked x && test (x .access)) xs ≡ (anyObserving asked xs && test Observe || anyModifying asked xs && test Modify)
+unfolding someRow
 by-access asked test [] = refl
 by-access asked test (x ∷ xs) =
     ap (λ (q : Bool). asked x && test (x .access) || q) (by-access asked test xs)
@@ -59,15 +59,15 @@ by-access asked test (x ∷ xs) =
 -- ---- the table by access
 
 observes-table : (r : Request) → anyObserving (applies r) table ≡ observesOf (r .intents)
-unfolding any table observesOf
+unfolding someRow table observesOf
 observes-table r = simp (and-true, and-false, or-false, or-assoc)
 
 modifies-table : (r : Request) → anyModifying (applies r) table ≡ modifiesOf (r .intents) (r .object .class)
-unfolding any table modifiesOf
+unfolding someRow table modifiesOf
 modifies-table r = simp (and-true, and-false, or-false, or-assoc)
 
 table-by-access : (r : Request) (test : Access → Bool) →
-    any (λ x. applies r x && test (x .access)) table
+    someRow (λ x. applies r x && test (x .access)) table
     ≡ (observesOf (r .intents) && test Observe || modifiesOf (r .intents) (r .object .class) && test Modify)
 table-by-access r test =
     by-access (applies r) test table
@@ -80,12 +80,12 @@ neither true true p = refl
 neither true false p = refl
 neither false m p = refl
 
-unmet-needed : (r : Request) → any (unmet r) table ≡ (neededOf r .read || neededOf r .write)
+unmet-needed : (r : Request) → someRow (unmet r) table ≡ (neededOf r .read || neededOf r .write)
 unfolding neededOf
 unmet-needed r = table-by-access r (λ a. not (metOf (r .credentials .label) (r .object) a))
 
 denied-needed : (r : Request) →
-    any (denied r) table
+    someRow (denied r) table
     ≡ (neededOf r .read && not (r .credentials .privileges .read) || neededOf r .write && not (r .credentials .privileges .write))
 unfolding neededOf
 denied-needed r =
@@ -101,7 +101,7 @@ unfolding intentsBy grantBy answerBy neededOf
 intents-needed r = rw (denied-needed r, unmet-needed r)
 
 pub decide-needed : (r : Request) →
-    decide r ≡ require (validOf r) 22 (require (callerSees r) 13 (answerBy (neededOf r) (r .credentials .privileges)))
+    decisionFor r ≡ require (validOf r) 22 (require (callerSees r) 13 (answerBy (neededOf r) (r .credentials .privileges)))
 unfolding decideBy
 decide-needed r = rw (intents-needed r)
 

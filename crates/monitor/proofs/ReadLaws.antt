@@ -1,16 +1,16 @@
--- What is answered to a read, which is a write too where it takes away what it reads. Assumes nothing.
+-- What is answered to a read, which is a write too where it takes away what it reads.
 use mathlib.Core.Bool.{Bool, true, false, cond, not, _&&_, _||_, or-false, true≢false}
 use mathlib.Core.Logic.{inl, inr}
 use mathlib.Core.Path.{_≡_, refl, sym, ap, _∙_}
 use Prim.Native.Nat.{ℕ}
-use Rattle.label.specs.Answer.{granted, require}
+use Rattle.common.specs.Answer.{granted, require}
 use Rattle.label.specs.Label.{equalOf}
 use Rattle.label.specs.Words.{bit}
 use Rattle.label.specs.declared.Label.{Label}
-use Rattle.label.proofs.AnswerLaws.{passed}
-use Rattle.label.proofs.BoolLaws.{both}
+use Rattle.common.proofs.AnswerLaws.{passed}
+use Rattle.common.proofs.BoolLaws.{both}
 use Rattle.label.proofs.LabelLaws.{equal-dominates}
-use Rattle.monitor.specs.Monitor.{asks, callerSees, decide, destructiveRead, intentRead, isFile, kindValid, metOf, objectValid, row, table, underLabel, underTuple, validOf}
+use Rattle.monitor.specs.Monitor.{asks, callerSees, decisionFor, destructiveRead, intentRead, isFile, kindValid, metOf, objectValid, row, table, underLabel, underTuple, validOf}
 use Rattle.monitor.specs.Needs.{answerBy, modifiesOf, neededOf, observesOf}
 use Rattle.monitor.specs.declared.Access.{Access}
 use Rattle.monitor.specs.declared.Access.the-variants.{Observe, Modify}
@@ -31,12 +31,12 @@ withClass r c =
 -- whether it is a file, and whether a read that is asked for takes away what it reads: nothing else
 pub class-no-other-part : (r : Request) (c d : ObjectClass) → isFile c ≡ isFile d
     → (asks (r .intents) intentRead && destructiveRead c) ≡ (asks (r .intents) intentRead && destructiveRead d)
-    → decide (withClass r c) ≡ decide (withClass r d)
+    → decisionFor (withClass r c) ≡ decisionFor (withClass r d)
 unfolding validOf objectValid kindValid callerSees neededOf modifiesOf metOf
 class-no-other-part r c d f t = same-decision _ _ (rw f) refl (rw t) refl
 
 -- so a message queue is decided about as a fifo is, whatever is asked
-pub queue-as-fifo : (r : Request) → decide (withClass r MessageQueue) ≡ decide (withClass r Fifo)
+pub queue-as-fifo : (r : Request) → decisionFor (withClass r MessageQueue) ≡ decisionFor (withClass r Fifo)
 queue-as-fifo r = class-no-other-part r MessageQueue Fifo refl refl
 
 -- ---- the tests of the two accesses
@@ -73,7 +73,7 @@ modify-observe r m = by (r .object .present .label) refl
 
 -- where it is granted under a label without the write override, the labels are equal
 pub destructive-read-equal : (r : Request) (n : ℕ) → asks (r .intents) intentRead ≡ true → destructiveRead (r .object .class) ≡ true
-    → r .object .present .label ≡ true → r .credentials .privileges .write ≡ false → decide r ≡ granted n
+    → r .object .present .label ≡ true → r .credentials .privileges .write ≡ false → decisionFor r ≡ granted n
     → equalOf (r .credentials .label) (r .object .label) ≡ true
 unfolding table
 destructive-read-equal r n a d l w e =
@@ -97,7 +97,7 @@ unfolding neededOf observesOf modifiesOf bit readNeeds
 needs-of-read r d e f = rw (e, f, or-false)
 
 read-needed : (r : Request) (d : Bool) → ReadAlone r → destructiveRead (r .object .class) ≡ d
-    → decide r ≡ answerBy (readNeeds (mayObserve r) (mayModify r) d) (r .credentials .privileges)
+    → decisionFor r ≡ answerBy (readNeeds (mayObserve r) (mayModify r) d) (r .credentials .privileges)
 read-needed r d a f =
     decide-needed r
     ∙ passed _ 22 _ (a .valid)
@@ -113,7 +113,7 @@ observe-cases false false = refl
 
 -- where it takes nothing away, the subject may observe, or has the read override, by which the answer is 1
 pub read-answer : (r : Request) → ReadAlone r → destructiveRead (r .object .class) ≡ false
-    → decide r ≡ require (mayObserve r || r .credentials .privileges .read) 13 (granted (cond (mayObserve r) 0 1))
+    → decisionFor r ≡ require (mayObserve r || r .credentials .privileges .read) 13 (granted (cond (mayObserve r) 0 1))
 unfolding answerBy readNeeds
 read-answer r a f = read-needed r false a f ∙ observe-cases (mayObserve r) (r .credentials .privileges .read)
 
@@ -132,7 +132,7 @@ modify-cases false false false false h = refl
 -- where it takes away what it reads, the subject may modify; or it has the write override, and may observe or has the read override too, by which
 -- the answer is 1
 pub destructive-read-answer : (r : Request) → ReadAlone r → destructiveRead (r .object .class) ≡ true →
-    decide r
+    decisionFor r
     ≡ require (mayModify r || r .credentials .privileges .write && (mayObserve r || r .credentials .privileges .read)) 13
     (granted (cond (mayModify r) 0 1))
 unfolding answerBy readNeeds

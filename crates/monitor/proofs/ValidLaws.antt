@@ -1,15 +1,15 @@
--- What a valid request has. Assumes nothing.
+-- What a valid request has.
 use mathlib.Core.Bool.{Bool, true, false, _&&_, true≢false}
 use mathlib.Core.Path.{_≡_, refl, sym, _∙_}
-use Rattle.label.specs.Answer.{Answer, granted, require, testOf}
+use Rattle.common.specs.Answer.{Answer, granted, require, testOf}
 use Rattle.label.specs.Caller.{callerValid}
 use Rattle.label.specs.Label
 use Rattle.label.specs.declared.Label.{Label}
-use Rattle.label.specs.declared.answer.Test.{Test}
+use Rattle.common.specs.declared.answer.Test.{Test}
 use Rattle.range.specs.Range
 use Rattle.range.specs.Tuple
-use Rattle.label.proofs.AnswerLaws.{readBy, test-read}
-use Rattle.label.proofs.BoolLaws.{and-implied, both, first-true, not-so, second-true, three-true}
+use Rattle.common.proofs.AnswerLaws.{readBy, test-read}
+use Rattle.common.proofs.BoolLaws.{and-implied, both, first-true, not-so, second-true, three-true}
 use Rattle.range.proofs.RangeLaws.{contains-valid}
 use Rattle.monitor.specs.Monitor.{attributeValid, credentialsValid, implies, intentsValid, kindValid, labelOrTuple, labelValid, objectValid, tupleValid, validOf}
 use Rattle.monitor.specs.declared.Credentials.{Credentials}

@@ -1,9 +1,9 @@
--- Document 01, "The monitor", with document 02's requests 2026-01, who may ask it, and 2026-03, receiving a message. Assumes nothing.
+-- Document 01, "The monitor", with document 02's requests 2026-01, who may ask it, and 2026-03, receiving a message.
 use mathlib.Core.Bool.{Bool, true, false, cond, not, _&&_, _||_}
 use mathlib.Core.List.{List, [], _∷_}
 use Prim.Native.Nat.{ℕ}
 use lib.Dec.{eqb, leb, ltb}
-use Rattle.label.specs.Answer.{Answer, granted, refusedBy, require}
+use Rattle.common.specs.Answer.{Answer, granted, refusedBy, require}
 use Rattle.label.specs.Caller.{callerValid, seesOf}
 use Rattle.label.specs.Label
 use Rattle.label.specs.Words.{bit}
@@ -185,28 +185,28 @@ denied r x =
     applies r x
     && not (metOf (r .credentials .label) (r .object) (x .access) || overrideOf (x .access) (r .credentials .privileges))
 
-unfoldable pub any : (Row → Bool) → List Row → Bool
-any f [] = false
-any f (x ∷ xs) = f x || any f xs
+unfoldable pub someRow : (Row → Bool) → List Row → Bool
+someRow f [] = false
+someRow f (x ∷ xs) = f x || someRow f xs
 
 -- ---- the steps, and the answer
 
 -- what a grant answers: 1 if any privilege was needed, and set attribute always needs one, else 0
 unfoldable pub grantBy : List Row → Request → ℕ
-grantBy rows r = cond (any (unmet r) rows || asks (r .intents) intentSet) 1 0
+grantBy rows r = cond (someRow (unmet r) rows || asks (r .intents) intentSet) 1 0
 
 -- what is answered once the caller may ask, whoever that is
 unfoldable pub intentsBy : List Row → Request → Answer ℕ
 intentsBy rows r =
-    require (not (any (denied r) rows)) 13
+    require (not (someRow (denied r) rows)) 13
     (require (not (asks (r .intents) intentSet && not (r .credentials .privileges .relabel))) 1 (granted (grantBy rows r)))
 
 unfoldable pub decideBy : List Row → Request → Answer ℕ
 decideBy rows r = require (validOf r) 22 (require (callerSees r) 13 (intentsBy rows r))
 
 -- the monitor's decision
-abbrev pub decide : Request → Answer ℕ
-decide r = decideBy table r
+abbrev pub decisionFor : Request → Answer ℕ
+decisionFor r = decideBy table r
 
 -- what the enum Decision says
 abbrev pub decisionOf : Decision → Answer ℕ

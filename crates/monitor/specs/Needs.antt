@@ -1,8 +1,8 @@
 -- The privileges that a request needs, by which the code decides. That this is document 01's table is the law `decide-needed`: nothing here
--- has to be believed. Assumes nothing.
+-- has to be believed.
 use mathlib.Core.Bool.{Bool, cond, not, _&&_, _||_}
 use Prim.Native.Nat.{ℕ}
-use Rattle.label.specs.Answer.{Answer, granted, require}
+use Rattle.common.specs.Answer.{Answer, granted, require}
 use Rattle.monitor.specs.Monitor.{asks, destructiveRead, intentExecute, intentGet, intentRead, intentSearch, intentSet, intentWrite, metOf}
 use Rattle.monitor.specs.declared.Access.the-variants.{Observe, Modify}
 use Rattle.monitor.specs.declared.ObjectClass.{ObjectClass}

@@ -1,4 +1,4 @@
--- Classes and kinds by their numbers, as a program reads them. Assumes nothing.
+-- Classes and kinds by their numbers, as a program reads them.
 use mathlib.Core.Bool.{cond}
 use Prim.Native.Nat.{ℕ}
 use lib.Dec.{eqb}
@@ -8,12 +8,12 @@ use Rattle.monitor.specs.declared.ObjectClass.{ObjectClass}
 use Rattle.monitor.specs.declared.ObjectClass.the-variants.{File, Fifo, Process, MessageQueue, SharedMemory, Semaphore}
 
 -- the classes, 0 to 5
-abbrev pub classOf : ℕ → ObjectClass
-classOf n =
+abbrev pub objectClassOf : ℕ → ObjectClass
+objectClassOf n =
     cond (eqb n 0) File
     (cond (eqb n 1) Fifo
     (cond (eqb n 2) Process (cond (eqb n 3) MessageQueue (cond (eqb n 4) SharedMemory Semaphore))))
 
 -- the kinds, 0 to 2
-abbrev pub kindOf : ℕ → FileKind
-kindOf n = cond (eqb n 0) Regular (cond (eqb n 1) Directory Other)
+abbrev pub fileKindOf : ℕ → FileKind
+fileKindOf n = cond (eqb n 0) Regular (cond (eqb n 1) Directory Other)

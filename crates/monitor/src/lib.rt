@@ -3,21 +3,21 @@
 mod intent;
 pub mod numbers;
 
+use common::answer::Test;
+use common::errno::Errno;
 use label::Label;
-use label::answer::Test;
 use label::caller;
 use label::caller::Caller;
 use label::components;
-use label::errno::Errno;
 use range::Range;
 use range::tuple;
 use range::tuple::Tuple;
 ghost use mathlib.Core.Path.{_≡_};
 ghost use mathlib.Core.Bool.{true, _&&_};
-ghost use Rattle.label.specs.Answer.{granted, require, testOf};
+ghost use Rattle.common.specs.Answer.{granted, require, testOf};
 ghost use Rattle.label.specs.Label as labels;
 ghost use Rattle.range.specs.Tuple as tuples;
-ghost use Rattle.monitor.specs.Monitor.{callerSees, credentialsValid, decide, decisionOf, implies, metOf, objectValid, tupleValid, underLabel, underTuple, validOf};
+ghost use Rattle.monitor.specs.Monitor.{callerSees, credentialsValid, decisionFor, decisionOf, implies, metOf, objectValid, tupleValid, underLabel, underTuple, validOf};
 ghost use Rattle.monitor.specs.Needs.{answerBy, neededOf};
 
 // Document 01's privileges: read override, write override, relabel.
@@ -199,7 +199,7 @@ fn answer(needed: Privileges, p: Privileges) -> Decision
 fn check_tested(r: Request, inside: bool) -> Decision
     requires { ⌜ tupleValid (r .object) ≡ true ⌝ }
     requires { ⌜ inside ≡ underTuple (r .credentials .label) (r .object) ⌝ }
-    ensures { λ d. ⌜ decisionOf d ≡ decide r ⌝ }
+    ensures { λ d. ⌜ decisionOf d ≡ decisionFor r ⌝ }
 {
     if !valid(r) {
         return Decision::Refused(Errno::Invalid);
@@ -212,7 +212,7 @@ fn check_tested(r: Request, inside: bool) -> Decision
 
 // May the subject do that to the object.
 pub fn check(r: Request) -> Decision
-    ensures { λ d. ⌜ decisionOf d ≡ decide r ⌝ }
+    ensures { λ d. ⌜ decisionOf d ≡ decisionFor r ⌝ }
 {
     let t = contained(r.credentials.label, r.object);
     match t {

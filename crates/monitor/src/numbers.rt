@@ -6,7 +6,7 @@ ghost use Rattle.monitor.specs.Numbers as rules;
 
 // The class that a number stands for, 0 to 5. Others count as 5 here: whoever asks has tested the number.
 pub fn class_of(n: u64) -> ObjectClass
-    ensures { λ r. ⌜ r ≡ rules.classOf n ⌝ }
+    ensures { λ r. ⌜ r ≡ rules.objectClassOf n ⌝ }
 {
     if n == 0 {
         return ObjectClass::File;
@@ -28,7 +28,7 @@ pub fn class_of(n: u64) -> ObjectClass
 
 // The kind that a number stands for, 0 to 2. Others count as 2 here.
 pub fn kind_of(n: u64) -> FileKind
-    ensures { λ r. ⌜ r ≡ rules.kindOf n ⌝ }
+    ensures { λ r. ⌜ r ≡ rules.fileKindOf n ⌝ }
 {
     if n == 0 {
         return FileKind::Regular;

@@ -1,6 +1,6 @@
 // Decisions as text.
+use common::errno::Errno;
 use console::format;
-use label::errno::Errno;
 use libc::STDOUT_FILENO;
 use monitor::Decision;
 

@@ -1,7 +1,7 @@
 // A request as it is put together: the numbers of its command line, then one operand line after the other.
+use common::answer::granted;
 use console::command::MAX_NUMBERS;
 use label::Label;
-use label::answer::granted;
 use label::caller::Caller;
 use monitor::Credentials;
 use monitor::Object;

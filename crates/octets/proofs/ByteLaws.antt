@@ -1,4 +1,4 @@
--- The laws of `indexOf`, `split`, `putAt`, `sameBytes` and of appending, and what a loop over the index needs of them. Assumes nothing.
+-- The laws of `indexOf`, `split`, `putAt`, `sameBytes` and of appending, and what a loop over the index needs of them.
 use mathlib.Core.Bool.{Bool, true, false, _&&_, cond, true≢false}
 use mathlib.Core.List.{List, [], _∷_, _++_, append-assoc, append-nil}
 use mathlib.Core.Path.{_≡_, refl, sym, ap, _∙_}

@@ -1,4 +1,4 @@
--- Small examples, by computation. Assumes nothing.
+-- Small examples, by computation.
 use mathlib.Core.Bool.{true, false}
 use mathlib.Core.List.{List, [], _∷_}
 use mathlib.Core.Path.{_≡_, refl}

@@ -1,5 +1,4 @@
--- Lists of bytes: where a byte stands, the fields between bytes, bytes that are put over others or appended, two lists that are the same. Assumes
--- nothing.
+-- Lists of bytes: where a byte stands, the fields between bytes, bytes that are put over others or appended, two lists that are the same.
 use mathlib.Core.Bool.{Bool, true, false, _&&_, cond}
 use mathlib.Core.List.{List, [], _∷_, _++_}
 use mathlib.Core.Path.{_≡_}
@@ -35,13 +34,13 @@ unfoldable pub split : ℕ → List ℕ → List (List ℕ)
 split b [] = [] ∷ []
 split b (x ∷ xs) = cond (eqb x b) ([] ∷ split b xs) (onFirst x (split b xs))
 
-abbrev pub firstOf : List (List ℕ) → List ℕ
-firstOf [] = []
-firstOf (f ∷ fs) = f
+abbrev pub firstField : List (List ℕ) → List ℕ
+firstField [] = []
+firstField (f ∷ fs) = f
 
-abbrev pub othersOf : List (List ℕ) → List (List ℕ)
-othersOf [] = []
-othersOf (f ∷ fs) = fs
+abbrev pub otherFields : List (List ℕ) → List (List ℕ)
+otherFields [] = []
+otherFields (f ∷ fs) = fs
 
 -- out with the bytes bs from index at on
 unfoldable pub putAt : List ℕ → ℕ → List ℕ → List ℕ
@@ -63,7 +62,7 @@ sameBytes (x ∷ xs) [] = false
 sameBytes (x ∷ xs) (y ∷ ys) = eqb x y && sameBytes xs ys
 
 -- r is the index of the first b in xs
-pub record Found (b : ℕ) (xs : List ℕ) (r : ℕ) : Type 0 where
+pub record FirstIndex (b : ℕ) (xs : List ℕ) (r : ℕ) : Type 0 where
   pub index : r ≡ indexOf b xs
   pub within : r ≤ length xs
 

@@ -4,7 +4,7 @@ ghost use mathlib.Core.Path.{_≡_};
 ghost use Prim.Native.Nat.{_+_, _≤_};
 ghost use lib.Dec.{leb};
 ghost use lib.ListN.{drop, length, take};
-ghost use Rattle.octets.specs.Bytes.{Appended, Found, Put, sameBytes};
+ghost use Rattle.octets.specs.Bytes.{Appended, FirstIndex, Put, sameBytes};
 
 pub const LF: u8 = 10;
 
@@ -32,7 +32,7 @@ pub fn front(xs: &[u8], n: usize) -> &[u8]
 
 // The index of the first b in xs, or its length where there is none.
 pub fn index_of(b: u8, xs: &[u8]) -> usize
-    ensures { λ r. ⌜ Found b (now (xs .entry)) r ⌝ }
+    ensures { λ r. ⌜ FirstIndex b (now (xs .entry)) r ⌝ }
 {
     let mut i = 0;
     while i < xs.len() {

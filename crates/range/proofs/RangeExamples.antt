@@ -1,8 +1,8 @@
--- Which ranges and tuples are valid, on examples, by computation. Assumes nothing.
+-- Which ranges and tuples are valid, on examples, by computation.
 use mathlib.Core.Bool.{true, false}
 use mathlib.Core.List.{[], _∷_}
 use mathlib.Core.Path.{_≡_, refl}
-use Rattle.label.specs.Index.{every}
+use Rattle.common.specs.Index.{every}
 use Rattle.label.specs.Label.{dominatesOf, equalOf}
 use Rattle.label.specs.Label as labels
 use Rattle.label.specs.Region.{regionOf}

@@ -1,16 +1,16 @@
--- The laws of ranges. Assumes nothing.
+-- The laws of ranges.
 use mathlib.Core.Bool.{Bool, true, false, _&&_, true≢false}
 use mathlib.Core.Logic.{_↔_}
 use mathlib.Core.Option.{none}
 use mathlib.Core.Path.{_≡_, refl, sym, ap₂, _∙_, subst}
 use Prim.Native.Nat.{ℕ}
 use native.Mathlib.Omega.{arith}
-use Rattle.label.specs.Answer.{granted, refused, require}
+use Rattle.common.specs.Answer.{granted, refused, require}
 use Rattle.label.specs.Label
 use Rattle.label.specs.Label.{Typed, dominatesOf}
 use Rattle.label.specs.declared.Label.{Label}
-use Rattle.label.proofs.AnswerLaws.{passed, stopped}
-use Rattle.label.proofs.BoolLaws.{both, first-true, second-true, swap-and, three-true}
+use Rattle.common.proofs.AnswerLaws.{passed, stopped}
+use Rattle.common.proofs.BoolLaws.{both, first-true, second-true, swap-and, three-true}
 use Rattle.label.proofs.LabelLaws.{dominates-parts, dominates-refl, dominates-trans, dominates-upper, hierarchy-valid, lower-dominates, lower-valid, upper-typed, upper-valid, valid-hierarchy}
 use Rattle.range.specs.Range.{TypedRange, commonOf, containsOf, meetAnswerOf, meetOf, validOf}
 use Rattle.range.specs.declared.Range.{Range}

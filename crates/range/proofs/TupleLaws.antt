@@ -1,4 +1,4 @@
--- The laws of tuples, by the region's number. Assumes nothing.
+-- The laws of tuples, by the region's number.
 use mathlib.Core.Bool.{Bool, true, false, cond, not, _&&_, _||_, and-false, true≢false}
 use mathlib.Core.Logic.{_↔_}
 use mathlib.Core.Path.{_≡_, refl, sym, ap, ap₂, _∙_, subst}
@@ -6,18 +6,18 @@ use Prim.Native.Nat.{ℕ, _≤_, _<_}
 use native.Mathlib.Omega.{arith}
 use lib.Dec.{eqb, leb}
 use borrow.Author.Tests.{eqb-true, eq-eqb, leb-true, le-leb}
-use Rattle.label.specs.Index.{tabulate}
+use Rattle.common.specs.Index.{tabulate}
 use Rattle.label.specs.Label
 use Rattle.label.specs.Label.{Typed, dominatesOf, zeroLabel}
-use Rattle.label.specs.Region.{firstOf, lastOf, regionOf, regions}
+use Rattle.label.specs.Region.{firstHierarchy, lastHierarchy, regionOf, regions}
 use Rattle.label.specs.declared.Label.{Label}
-use Rattle.label.proofs.BoolLaws.{both, first-true, not-so, same-truth, second-true, three-true}
-use Rattle.label.proofs.IndexLaws.{every-all, every-at, tabulate-at}
+use Rattle.common.proofs.BoolLaws.{both, first-true, not-so, same-truth, second-true, three-true}
+use Rattle.common.proofs.IndexLaws.{every-all, every-at, tabulate-at}
 use Rattle.label.proofs.LabelLaws.{dominates-parts, dominates-trans, equal-exact, hierarchy-valid, lower-hierarchy, parts-dominate, upper-hierarchy, valid-hierarchy}
 use Rattle.label.proofs.RegionLaws.{region-order, region-unique, region-within}
 use Rattle.range.specs.Range
 use Rattle.range.specs.Range.{commonOf}
-use Rattle.range.specs.Tuple.{TypedTuple, absent, containsAt, containsOf, cutOf, emptyOf, isThere, meetAt, meetOf, partOf, present, rangeAt, reaches, splitOf, tupleOf, validAt, validOf, withinAt, withinOf}
+use Rattle.range.specs.Tuple.{TypedTuple, absent, containsAt, containsOf, cutOf, emptyOf, isThere, meetAt, meetOf, regionPart, present, regionRangeAt, reaches, splitOf, tupleOf, validAt, validOf, withinAt, withinOf}
 use Rattle.range.specs.declared.Range.{Range}
 use Rattle.range.specs.declared.tuple.RegionRange.{RegionRange}
 use Rattle.range.specs.declared.tuple.Tuple.{Tuple}
@@ -26,7 +26,7 @@ use Rattle.range.proofs.RangeLaws.{common-label, contains-high, contain
 -- ---- by the region
 
 -- the tuple that has f r for each region r
-pub range-of : (f : ℕ → RegionRange) (r : ℕ) → r < regions → rangeAt (tupleOf (tabulate f regions)) r ≡ f r
+pub range-of : (f : ℕ → RegionRange) (r : ℕ) → r < regions → regionRangeAt (tupleOf (tabulate f regions)) r ≡ f r
 range-of f r h = tabulate-at f regions r _ h
 
 -- a valid range with both ends in region r
@@ -63,25 +63,25 @@ valid-absent r e t p h =
     let u = equal-exact (e .range .high) zeroLabel (t .high .length-is) .0 (z .2) in
     ap₂ (λ (n : ℕ) (x : Range). record { present = n; range = x }) (eqb-true (e .present) 0 (z .0)) (ap₂ Range.rangeOf l u)
 
-pub valid-region : (t : Tuple) → validOf t ≡ true → (r : ℕ) → r < regions → validAt r (rangeAt t r) ≡ true
+pub valid-region : (t : Tuple) → validOf t ≡ true → (r : ℕ) → r < regions → validAt r (regionRangeAt t r) ≡ true
 unfolding validOf
-valid-region t v r k = every-at (λ j. validAt j (rangeAt t j)) regions r v k
+valid-region t v r k = every-at (λ j. validAt j (regionRangeAt t j)) regions r v k
 
-placed-region : (t : Tuple) → validOf t ≡ true → (r : ℕ) → r < regions → isThere (rangeAt t r) ≡ true → Placed r (rangeAt t r .range)
-placed-region t v r k p = valid-placed r (rangeAt t r) p (valid-region t v r k)
+placed-region : (t : Tuple) → validOf t ≡ true → (r : ℕ) → r < regions → isThere (regionRangeAt t r) ≡ true → Placed r (regionRangeAt t r .range)
+placed-region t v r k p = valid-placed r (regionRangeAt t r) p (valid-region t v r k)
 
 -- the tuple that has f r for each region r is valid where each f r is
 tabulated-valid : (f : ℕ → RegionRange) → ((r : ℕ) → r < regions → validAt r (f r) ≡ true) → validOf (tupleOf (tabulate f regions)) ≡ true
 unfolding validOf
-tabulated-valid f h = every-all (λ r. validAt r (rangeAt (tupleOf (tabulate f regions)) r)) regions (λ r k. ap (validAt r) (range-of f r k) ∙ h r k)
+tabulated-valid f h = every-all (λ r. validAt r (regionRangeAt (tupleOf (tabulate f regions)) r)) regions (λ r k. ap (validAt r) (range-of f r k) ∙ h r k)
 
 -- hierarchies between two of a region's are of that region
 between : (r h a b : ℕ) → regionOf a ≡ r → regionOf b ≡ r → b ≤ 199 → a ≤ h → h ≤ b → regionOf h ≡ r
 between r h a b ea eb v l u =
     let wa = region-within a in
     let wb = region-within b in
-    let fa : firstOf r ≤ a = rw (← ea) (wa .first) in
-    let lb : b ≤ lastOf r = rw (← eb) (wb .last v) in
+    let fa : firstHierarchy r ≤ a = rw (← ea) (wa .first) in
+    let lb : b ≤ lastHierarchy r = rw (← eb) (wb .last v) in
     let k : r < regions = rw (← ea) (wa .known) in
     region-unique r h k (omega arith) (omega arith)
 
@@ -115,7 +115,7 @@ meet-at-valid r e f v w = go (isThere e && isThere f && commonOf (e .range) (f .
 pub tuple-meet-valid : (t u : Tuple) → validOf t ≡ true → validOf u ≡ true → validOf (meetOf t u) ≡ true
 unfolding meetOf
 tuple-meet-valid t u v w =
-    tabulated-valid (λ r. meetAt (rangeAt t r) (rangeAt u r)) (λ r k. meet-at-valid r (rangeAt t r) (rangeAt u r) (valid-region t v r k) (valid-region u w r k))
+    tabulated-valid (λ r. meetAt (regionRangeAt t r) (regionRangeAt u r)) (λ r k. meet-at-valid r (regionRangeAt t r) (regionRangeAt u r) (valid-region t v r k) (valid-region u w r k))
 
 -- ---- it contains exactly the common labels
 
@@ -135,8 +135,8 @@ pub tuple-meet-labels : (t u : Tuple) (l : Label) → containsOf (meetOf t u) l 
 unfolding containsOf meetOf
 tuple-meet-labels t u l =
     let r : ℕ = regionOf (l .hierarchy) in
-    ap (λ (e : RegionRange). containsAt e l) (range-of (λ k. meetAt (rangeAt t k) (rangeAt u k)) r (region-within (l .hierarchy) .known))
-    ∙ meet-at-labels (rangeAt t r) (rangeAt u r) l
+    ap (λ (e : RegionRange). containsAt e l) (range-of (λ k. meetAt (regionRangeAt t k) (regionRangeAt u k)) r (region-within (l .hierarchy) .known))
+    ∙ meet-at-labels (regionRangeAt t r) (regionRangeAt u r) l
 
 -- ---- what a tuple contains, by the region
 
@@ -148,15 +148,15 @@ contains-at-parts : (e : RegionRange) (l : Label) → containsAt e l ≡ true �
 unfolding containsAt
 contains-at-parts e l h = record { present = first-true (isThere e) _ h; range = second-true (isThere e) (Range.containsOf (e .range) l) h }
 
-contained : (t : Tuple) (l : Label) → containsOf t l ≡ true → Contains (rangeAt t (regionOf (l .hierarchy))) l
+contained : (t : Tuple) (l : Label) → containsOf t l ≡ true → Contains (regionRangeAt t (regionOf (l .hierarchy))) l
 unfolding containsOf
-contained t l h = contains-at-parts (rangeAt t (regionOf (l .hierarchy))) l h
+contained t l h = contains-at-parts (regionRangeAt t (regionOf (l .hierarchy))) l h
 
 -- of a label of region r
-contained-in : (t : Tuple) (l : Label) (r : ℕ) → regionOf (l .hierarchy) ≡ r → containsOf t l ≡ true → Contains (rangeAt t r) l
-contained-in t l r e h = subst (λ (k : ℕ). Contains (rangeAt t k) l) e (contained t l h)
+contained-in : (t : Tuple) (l : Label) (r : ℕ) → regionOf (l .hierarchy) ≡ r → containsOf t l ≡ true → Contains (regionRangeAt t r) l
+contained-in t l r e h = subst (λ (k : ℕ). Contains (regionRangeAt t k) l) e (contained t l h)
 
-contains-in : (t : Tuple) (l : Label) (r : ℕ) → regionOf (l .hierarchy) ≡ r → Contains (rangeAt t r) l → containsOf t l ≡ true
+contains-in : (t : Tuple) (l : Label) (r : ℕ) → regionOf (l .hierarchy) ≡ r → Contains (regionRangeAt t r) l → containsOf t l ≡ true
 unfolding containsOf containsAt
 contains-in t l r e c = rw e (both (c .present) (c .range))
 
@@ -165,7 +165,7 @@ pub contained-valid : (t : Tuple) (l : Label) → validOf t ≡ true → contain
 contained-valid t l v h =
     let r : ℕ = regionOf (l .hierarchy) in
     let c = contained t l h in
-    contains-valid (rangeAt t r .range) l (valid-placed r (rangeAt t r) (c .present) (valid-region t v r (region-within (l .hierarchy) .known)) .valid) (c .range)
+    contains-valid (regionRangeAt t r .range) l (valid-placed r (regionRangeAt t r) (c .present) (valid-region t v r (region-within (l .hierarchy) .known)) .valid) (c .range)
 
 -- ---- within exactly if each label of the one is in the other
 
@@ -198,73 +198,73 @@ unfolding withinOf
 within-labels t u w l h =
     let r : ℕ = regionOf (l .hierarchy) in
     let a = contained t l h in
-    let c = contains-parts (rangeAt t r .range) l (a .range) in
-    let i = within-inside (rangeAt t r) (rangeAt u r) (a .present) (every-at (λ k. withinAt (rangeAt t k) (rangeAt u k)) regions r w (region-within (l .hierarchy) .known)) in
+    let c = contains-parts (regionRangeAt t r .range) l (a .range) in
+    let i = within-inside (regionRangeAt t r) (regionRangeAt u r) (a .present) (every-at (λ k. withinAt (regionRangeAt t k) (regionRangeAt u k)) regions r w (region-within (l .hierarchy) .known)) in
     contains-in u l r refl (record {
       present = i .present;
-      range = parts-contain (rangeAt u r .range) l (record {
-        below = dominates-trans (rangeAt u r .range .high) (rangeAt t r .range .high) l (i .high) (c .below);
-        above = dominates-trans l (rangeAt t r .range .low) (rangeAt u r .range .low) (c .above) (i .low);
+      range = parts-contain (regionRangeAt u r .range) l (record {
+        below = dominates-trans (regionRangeAt u r .range .high) (regionRangeAt t r .range .high) l (i .high) (c .below);
+        above = dominates-trans l (regionRangeAt t r .range .low) (regionRangeAt u r .range .low) (c .above) (i .low);
       });
     })
 
 -- a label in t's range of region r is in u's
-label-carried : (t u : Tuple) → EachLabel t u → (r : ℕ) → isThere (rangeAt t r) ≡ true → (l : Label) → Typed l → Label.validOf l ≡ true
-    → regionOf (l .hierarchy) ≡ r → Range.containsOf (rangeAt t r .range) l ≡ true → Contains (rangeAt u r) l
+label-carried : (t u : Tuple) → EachLabel t u → (r : ℕ) → isThere (regionRangeAt t r) ≡ true → (l : Label) → Typed l → Label.validOf l ≡ true
+    → regionOf (l .hierarchy) ≡ r → Range.containsOf (regionRangeAt t r .range) l ≡ true → Contains (regionRangeAt u r) l
 label-carried t u h r p l s v e c = contained-in u l r e (h l s v (contains-in t l r e (record { present = p; range = c })))
 
-labels-inside : (t u : Tuple) → TypedTuple t → validOf t ≡ true → EachLabel t u → (r : ℕ) → r < regions → isThere (rangeAt t r) ≡ true → Inside (rangeAt t r) (rangeAt u r)
+labels-inside : (t u : Tuple) → TypedTuple t → validOf t ≡ true → EachLabel t u → (r : ℕ) → r < regions → isThere (regionRangeAt t r) ≡ true → Inside (regionRangeAt t r) (regionRangeAt u r)
 labels-inside t u s v h r k p =
-    let x : Range = rangeAt t r .range in
+    let x : Range = regionRangeAt t r .range in
     let placed = placed-region t v r k p in
     let parts = valid-parts x (placed .valid) in
     let low = label-carried t u h r p (x .low) (s .range r k .low) (parts .low) (placed .low) (contains-low x (placed .valid)) in
     let high = label-carried t u h r p (x .high) (s .range r k .high) (parts .high) (placed .high) (contains-high x (placed .valid)) in
     record {
       present = low .present;
-      high = contains-parts (rangeAt u r .range) (x .high) (high .range) .below;
-      low = contains-parts (rangeAt u r .range) (x .low) (low .range) .above;
+      high = contains-parts (regionRangeAt u r .range) (x .high) (high .range) .below;
+      low = contains-parts (regionRangeAt u r .range) (x .low) (low .range) .above;
     }
 
 pub within-exact : (t u : Tuple) → TypedTuple t → validOf t ≡ true → (withinOf t u ≡ true) ↔ EachLabel t u
 unfolding withinOf
 within-exact t u s v =
-    (λ w l tl vl h. within-labels t u w l h, λ h. every-all (λ r. withinAt (rangeAt t r) (rangeAt u r)) regions (λ r k. inside-within (rangeAt t r) (rangeAt u r) (labels-inside t u s v h r k)))
+    (λ w l tl vl h. within-labels t u w l h, λ h. every-all (λ r. withinAt (regionRangeAt t r) (regionRangeAt u r)) regions (λ r k. inside-within (regionRangeAt t r) (regionRangeAt u r) (labels-inside t u s v h r k)))
 
 -- ---- empty exactly if there is no label
 
 pub empty-none : (t : Tuple) (l : Label) → emptyOf t ≡ true → containsOf t l ≡ true → ⊥
 unfolding emptyOf
 empty-none t l w h =
-    let n = every-at (λ r. not (isThere (rangeAt t r))) regions (regionOf (l .hierarchy)) w (region-within (l .hierarchy) .known) in
+    let n = every-at (λ r. not (isThere (regionRangeAt t r))) regions (regionOf (l .hierarchy)) w (region-within (l .hierarchy) .known) in
     true≢false (sym n ∙ ap not (contained t l h .present))
 
 pub empty-exact : (t : Tuple) → TypedTuple t → validOf t ≡ true → (emptyOf t ≡ true) ↔ ((l : Label) → Typed l → Label.validOf l ≡ true → containsOf t l ≡ true → ⊥)
 unfolding emptyOf
-empty-exact t s v = (λ w l tl vl. empty-none t l w, λ h. every-all (λ r. not (isThere (rangeAt t r))) regions (back h))
+empty-exact t s v = (λ w l tl vl. empty-none t l w, λ h. every-all (λ r. not (isThere (regionRangeAt t r))) regions (back h))
   where
-    back : ((l : Label) → Typed l → Label.validOf l ≡ true → containsOf t l ≡ true → ⊥) → (r : ℕ) → r < regions → not (isThere (rangeAt t r)) ≡ true
-    back h r k = ap not (not-so (isThere (rangeAt t r)) (λ p.
-        let x : Range = rangeAt t r .range in
+    back : ((l : Label) → Typed l → Label.validOf l ≡ true → containsOf t l ≡ true → ⊥) → (r : ℕ) → r < regions → not (isThere (regionRangeAt t r)) ≡ true
+    back h r k = ap not (not-so (isThere (regionRangeAt t r)) (λ p.
+        let x : Range = regionRangeAt t r .range in
         let placed = placed-region t v r k p in
         h (x .low) (s .range r k .low) (valid-parts x (placed .valid) .low)
         (contains-in t (x .low) r (placed .low) (record { present = p; range = contains-low x (placed .valid) }))))
 
 -- ---- the tuple of a range
 
-part-placed : (x : Range) (r : ℕ) → r < regions → Range.validOf x ≡ true → reaches x r ≡ true → Placed r (partOf x r)
+part-placed : (x : Range) (r : ℕ) → r < regions → Range.validOf x ≡ true → reaches x r ≡ true → Placed r (regionPart x r)
 part-placed x r k v h =
-    let a = leb-true (firstOf r) (x .high .hierarchy) (first-true (leb (firstOf r) (x .high .hierarchy)) _ h) in
-    let b = leb-true (x .low .hierarchy) (lastOf r) (second-true (leb (firstOf r) (x .high .hierarchy)) _ h) in
+    let a = leb-true (firstHierarchy r) (x .high .hierarchy) (first-true (leb (firstHierarchy r) (x .high .hierarchy)) _ h) in
+    let b = leb-true (x .low .hierarchy) (lastHierarchy r) (second-true (leb (firstHierarchy r) (x .high .hierarchy)) _ h) in
     let o = region-order r k in
     let parts = valid-parts x v in
     let d = dominates-parts (x .high) (x .low) (parts .order) in
     let dh = d .hierarchy in
     record {
-      valid = parts-valid (partOf x r) (record {
-        low = hierarchy-valid (partOf x r .low) (omega arith);
-        high = hierarchy-valid (partOf x r .high) (omega arith);
-        order = parts-dominate (partOf x r .high) (partOf x r .low) (record { hierarchy = omega arith; categories = d .categories });
+      valid = parts-valid (regionPart x r) (record {
+        low = hierarchy-valid (regionPart x r .low) (omega arith);
+        high = hierarchy-valid (regionPart x r .high) (omega arith);
+        order = parts-dominate (regionPart x r .high) (regionPart x r .low) (record { hierarchy = omega arith; categories = d .categories });
       });
       low = region-unique r _ k (omega arith) (omega arith);
       high = region-unique r _ k (omega arith) (omega arith);
@@ -274,8 +274,8 @@ cut-valid : (x : Range) (r : ℕ) → r < regions → Range.validOf x ≡ true �
 unfolding cutOf
 cut-valid x r k v = go (reaches x r) refl
   where
-    go : (p : Bool) → reaches x r ≡ p → validAt r (cond p (present (partOf x r)) absent) ≡ true
-    go true h = placed-valid r (partOf x r) (part-placed x r k v h)
+    go : (p : Bool) → reaches x r ≡ p → validAt r (cond p (present (regionPart x r)) absent) ≡ true
+    go true h = placed-valid r (regionPart x r) (part-placed x r k v h)
     go false h = absent-valid r
 
 pub split-valid : (x : Range) → Range.validOf x ≡ true → validOf (splitOf x) ≡ true
@@ -296,22 +296,22 @@ contains-by-hierarchy x y l eh el fh fl c =
     })
 
 -- a label of region r is in x exactly if it is in x's part there
-cut-labels : (x : Range) (l : Label) (r : ℕ) → firstOf r ≤ l .hierarchy → (Range.containsOf x l ≡ true → l .hierarchy ≤ lastOf r) → containsAt (cutOf x r) l ≡ Range.containsOf x l
+cut-labels : (x : Range) (l : Label) (r : ℕ) → firstHierarchy r ≤ l .hierarchy → (Range.containsOf x l ≡ true → l .hierarchy ≤ lastHierarchy r) → containsAt (cutOf x r) l ≡ Range.containsOf x l
 unfolding cutOf containsAt
 cut-labels x l r f k = go (reaches x r) refl
   where
-    go : (p : Bool) → reaches x r ≡ p → containsAt (cond p (present (partOf x r)) absent) l ≡ Range.containsOf x l
+    go : (p : Bool) → reaches x r ≡ p → containsAt (cond p (present (regionPart x r)) absent) l ≡ Range.containsOf x l
     go true h =
-        same-truth (Range.containsOf (partOf x r) l) (Range.containsOf x l)
-        (contains-by-hierarchy (partOf x r) x l refl refl (λ u. omega arith) (λ u. omega arith))
-        (λ c. let last = k c in contains-by-hierarchy x (partOf x r) l refl refl (λ u. omega arith) (λ u. omega arith) c)
+        same-truth (Range.containsOf (regionPart x r) l) (Range.containsOf x l)
+        (contains-by-hierarchy (regionPart x r) x l refl refl (λ u. omega arith) (λ u. omega arith))
+        (λ c. let last = k c in contains-by-hierarchy x (regionPart x r) l refl refl (λ u. omega arith) (λ u. omega arith) c)
     go false h =
         sym (not-so (Range.containsOf x l) (λ c.
         let last = k c in
         let s = contains-parts x l c in
         let a = dominates-parts (x .high) l (s .below) .hierarchy in
         let b = dominates-parts l (x .low) (s .above) .hierarchy in
-        true≢false (sym (both (le-leb (firstOf r) (x .high .hierarchy) (omega arith)) (le-leb (x .low .hierarchy) (lastOf r) (omega arith))) ∙ h)))
+        true≢false (sym (both (le-leb (firstHierarchy r) (x .high .hierarchy) (omega arith)) (le-leb (x .low .hierarchy) (lastHierarchy r) (omega arith))) ∙ h)))
 
 pub split-labels : (x : Range) (l : Label) → Range.validOf x ≡ true → containsOf (splitOf x) l ≡ Range.containsOf x l
 unfolding splitOf containsOf

@@ -1,6 +1,6 @@
--- Document 01, "Ranges and tuples": ranges. Assumes nothing.
+-- Document 01, "Ranges and tuples": ranges.
 use mathlib.Core.Bool.{Bool, _&&_}
-use Rattle.label.specs.Answer.{Answer, granted, require}
+use Rattle.common.specs.Answer.{Answer, granted, require}
 use Rattle.label.specs.Label
 use Rattle.label.specs.declared.Label.{Label}
 use Rattle.range.specs.declared.Range.{Range}

@@ -1,13 +1,13 @@
--- Document 01, "Ranges and tuples": tuples, by the region's number. Assumes nothing.
+-- Document 01, "Ranges and tuples": tuples, by the region's number.
 use mathlib.Core.Bool.{Bool, cond, not, _&&_, _||_}
 use mathlib.Core.List.{List, []}
 use mathlib.Core.Path.{_≡_}
 use Prim.Native.Nat.{ℕ, _<_, max, min}
 use lib.Dec.{eqb, leb}
 use lib.ListN.{getD, length, replicate}
-use Rattle.label.specs.Index.{every, tabulate}
+use Rattle.common.specs.Index.{every, tabulate}
 use Rattle.label.specs.Label
-use Rattle.label.specs.Region.{firstOf, lastOf, regionOf, regions}
+use Rattle.label.specs.Region.{firstHierarchy, lastHierarchy, regionOf, regions}
 use Rattle.label.specs.declared.Label.{Label}
 use Rattle.range.specs.Range
 use Rattle.range.specs.declared.Range.{Range}
@@ -32,8 +32,8 @@ abbrev noRegion : RegionRange
 noRegion = record { present = 0; range = Range.rangeOf (Label.labelOf 0 []) (Label.labelOf 0 []) }
 
 -- the range of region r
-abbrev pub rangeAt : Tuple → ℕ → RegionRange
-rangeAt t r = getD (t .ranges) r noRegion
+abbrev pub regionRangeAt : Tuple → ℕ → RegionRange
+regionRangeAt t r = getD (t .ranges) r noRegion
 
 -- whether there is a range: its flag is 1. In a valid tuple it is 0 otherwise
 abbrev pub isThere : RegionRange → Bool
@@ -47,18 +47,18 @@ validAt r e =
     (eqb (e .present) 0 && Label.equalOf (e .range .low) Label.zeroLabel && Label.equalOf (e .range .high) Label.zeroLabel)
 
 unfoldable pub validOf : Tuple → Bool
-validOf t = every (λ r. validAt r (rangeAt t r)) regions
+validOf t = every (λ r. validAt r (regionRangeAt t r)) regions
 
 unfoldable pub containsAt : RegionRange → Label → Bool
 containsAt e l = isThere e && Range.containsOf (e .range) l
 
 -- the range of l's region is there and contains l
 unfoldable pub containsOf : Tuple → Label → Bool
-containsOf t l = containsAt (rangeAt t (regionOf (l .hierarchy))) l
+containsOf t l = containsAt (regionRangeAt t (regionOf (l .hierarchy))) l
 
 -- whether there is no range
 unfoldable pub emptyOf : Tuple → Bool
-emptyOf t = every (λ r. not (isThere (rangeAt t r))) regions
+emptyOf t = every (λ r. not (isThere (regionRangeAt t r))) regions
 
 -- the meet of two ranges where both are there and some label is in both
 unfoldable pub meetAt : RegionRange → RegionRange → RegionRange
@@ -67,7 +67,7 @@ meetAt e f =
 
 -- the meet goes region by region
 unfoldable pub meetOf : Tuple → Tuple → Tuple
-meetOf t u = tupleOf (tabulate (λ r. meetAt (rangeAt t r) (rangeAt u r)) regions)
+meetOf t u = tupleOf (tabulate (λ r. meetAt (regionRangeAt t r) (regionRangeAt u r)) regions)
 
 unfoldable pub withinAt : RegionRange → RegionRange → Bool
 withinAt e f =
@@ -76,20 +76,20 @@ withinAt e f =
 
 -- each label of t is in u (that it says so is the law `within-exact`)
 unfoldable pub withinOf : Tuple → Tuple → Bool
-withinOf t u = every (λ r. withinAt (rangeAt t r) (rangeAt u r)) regions
+withinOf t u = every (λ r. withinAt (regionRangeAt t r) (regionRangeAt u r)) regions
 
 -- whether x has hierarchies in region r
 abbrev pub reaches : Range → ℕ → Bool
-reaches x r = leb (firstOf r) (x .high .hierarchy) && leb (x .low .hierarchy) (lastOf r)
+reaches x r = leb (firstHierarchy r) (x .high .hierarchy) && leb (x .low .hierarchy) (lastHierarchy r)
 
 -- the part of x in region r: its hierarchies cut at the region's borders, both ends' categories kept
-abbrev pub partOf : Range → ℕ → Range
-partOf x r =
-    Range.rangeOf (Label.labelOf (max (x .low .hierarchy) (firstOf r)) (x .low .categories))
-    (Label.labelOf (min (x .high .hierarchy) (lastOf r)) (x .high .categories))
+abbrev pub regionPart : Range → ℕ → Range
+regionPart x r =
+    Range.rangeOf (Label.labelOf (max (x .low .hierarchy) (firstHierarchy r)) (x .low .categories))
+    (Label.labelOf (min (x .high .hierarchy) (lastHierarchy r)) (x .high .categories))
 
 unfoldable pub cutOf : Range → ℕ → RegionRange
-cutOf x r = cond (reaches x r) (present (partOf x r)) absent
+cutOf x r = cond (reaches x r) (present (regionPart x r)) absent
 
 -- the tuple of a range
 unfoldable pub splitOf : Range → Tuple
@@ -98,4 +98,4 @@ splitOf x = tupleOf (tabulate (cutOf x) regions)
 -- what every value of the code's type Tuple has (`range::tuple::typed` proves it)
 pub record TypedTuple (t : Tuple) : Type 0 where
   pub length-is : length (t .ranges) ≡ regions
-  pub range : (r : ℕ) → r < regions → Range.TypedRange (rangeAt t r .range)
+  pub range : (r : ℕ) → r < regions → Range.TypedRange (regionRangeAt t r .range)

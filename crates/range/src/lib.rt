@@ -3,14 +3,14 @@
 pub mod tuple;
 pub mod unchecked;
 
+use common::answer::Outcome;
+use common::answer::Test;
+use common::errno::Errno;
 use label::Label;
-use label::answer::Outcome;
-use label::answer::Test;
 use label::components;
-use label::errno::Errno;
 ghost use mathlib.Core.Path.{_≡_};
 ghost use mathlib.Core.Bool.{_&&_};
-ghost use Rattle.label.specs.Answer.{Answered, granted, require, testOf};
+ghost use Rattle.common.specs.Answer.{Answered, granted, require, testOf};
 ghost use Rattle.label.specs.Label as labels;
 ghost use Rattle.range.specs.Range.{TypedRange, commonOf, containsOf, meetAnswerOf, meetOf, validOf, zeroRange};
 

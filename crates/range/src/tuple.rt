@@ -1,20 +1,20 @@
 // Tuples: for each region a range whose ends lie in it, or none. A region's range is at the region's number.
 use crate::Range;
+use common::answer::Outcome;
+use common::answer::Test;
+use common::errno::Errno;
 use label::Label;
-use label::answer::Outcome;
-use label::answer::Test;
 use label::components;
-use label::errno::Errno;
 use label::region;
 use label::region::REGIONS;
 ghost use mathlib.Core.Path.{_≡_};
 ghost use mathlib.Core.Bool.{_&&_};
 ghost use Prim.Native.Nat.{_<_};
-ghost use Rattle.label.specs.Answer.{Answered, granted, require, testOf};
+ghost use Rattle.common.specs.Answer.{Answered, granted, require, testOf};
 ghost use Rattle.label.specs.Label as labels;
 ghost use Rattle.label.specs.Region.{regions};
 ghost use Rattle.range.specs.Range as ranges;
-ghost use Rattle.range.specs.Tuple.{TypedTuple, absent, containsOf, cutOf, emptyOf, emptyTuple, meetAt, meetOf, rangeAt, splitOf, validAt, validOf, withinAt, withinOf};
+ghost use Rattle.range.specs.Tuple.{TypedTuple, absent, containsOf, cutOf, emptyOf, emptyTuple, meetAt, meetOf, regionRangeAt, splitOf, validAt, validOf, withinAt, withinOf};
 
 // The range of one region: `present` is 1. Where there is none it holds zeros, `present` too; no other number is valid.
 #[repr(C)]
@@ -251,7 +251,7 @@ pub fn split(x: Range) -> TupleAnswer
 // Every tuple has what its type says: the range of a region has it,
 fn typed_at(t: Tuple, r: usize)
     requires { ⌜ r < regions ⌝ }
-    ensures { λ _. ⌜ ranges.TypedRange (rangeAt t r .range) ⌝ }
+    ensures { λ _. ⌜ ranges.TypedRange (regionRangeAt t r .range) ⌝ }
 {
     let e = t.ranges[r];
     crate::typed(e.range);

@@ -1,5 +1,5 @@
 -- What a tenant call reads and what it changes: its caller's own slots, what no tenant call changes, and, for a look at another's slot,
--- what is visible of that slot. Nothing above these laws opens `stepOf`. Assumes nothing.
+-- what is visible of that slot. Nothing above these laws opens `stepOf`.
 use mathlib.Core.Bool.{Bool, true, false, not, _&&_, true≢false}
 use mathlib.Core.Logic.{_⊎_, inl, inr}
 use mathlib.Core.Option.{Option, none, some, Option·none-ne-some}
@@ -7,13 +7,13 @@ use mathlib.Core.Path.{_≡_, refl, sym, ap, ap₂, _∙_}
 use Prim.Native.Nat.{ℕ, _+_, _-_, _<_}
 use borrow.Author.Tests.{ltb-true}
 use lib.Dec.{leb, ltb}
-use Rattle.label.specs.Answer.{Answer, granted, refused, require}
-use Rattle.label.specs.Index.{firstFrom, sumFrom}
+use Rattle.common.specs.Answer.{Answer, granted, refused, require}
+use Rattle.common.specs.Index.{firstFrom, sumFrom}
 use Rattle.label.specs.Label
 use Rattle.label.specs.declared.Label.{Label}
-use Rattle.label.proofs.AnswerLaws.{grant-passed, require-same}
-use Rattle.label.proofs.BoolLaws.{first-true, three-true}
-use Rattle.label.proofs.SearchLaws.{first-same, sum-same}
+use Rattle.common.proofs.AnswerLaws.{grant-passed, require-same}
+use Rattle.common.proofs.BoolLaws.{first-true, three-true}
+use Rattle.common.proofs.SearchLaws.{first-same, sum-same}
 use Rattle.range.specs.Tuple
 use Rattle.segments.specs.Calls.{accessOf, answerOf, callOf, callValid, cleared, found, grantOf, lookedAt, numbersValid, pagesFit, permitted, slotFor, slotOr0, slotValid, stepOf, target, visible, writable, written}
 use Rattle.segments.specs.Replies.{Grant, left, shown}

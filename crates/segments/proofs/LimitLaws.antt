@@ -1,4 +1,4 @@
--- What is left of a limit, and what fits into it. Assumes nothing.
+-- What is left of a limit, and what fits into it.
 use mathlib.Core.Bool.{Bool, true, false, cond}
 use mathlib.Core.Option.{Option, none, some}
 use mathlib.Core.Path.{_≡_, refl, ap, _∙_}
@@ -7,9 +7,9 @@ use native.Mathlib.Nat.{add-zero}
 use native.Mathlib.Omega.{arith}
 use borrow.Author.Tests.{le-leb, lt-leb, leb-true}
 use lib.Dec.{leb}
-use Rattle.label.specs.Index.{sumFrom}
-use Rattle.label.proofs.BoolLaws.{same-truth}
-use Rattle.label.proofs.SearchLaws.{sum-next, sum-none}
+use Rattle.common.specs.Index.{sumFrom}
+use Rattle.common.proofs.BoolLaws.{same-truth}
+use Rattle.common.proofs.SearchLaws.{sum-next, sum-none}
 use Rattle.segments.specs.Parts.{fitsIn, keptIn, leftOf}
 
 -- ---- a limit from which the terms of a sum are taken one by one

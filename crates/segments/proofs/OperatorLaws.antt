@@ -1,4 +1,4 @@
--- The operator's calls keep soundness: what is sound before is sound after, and what `make` grants is sound. Assumes nothing.
+-- The operator's calls keep soundness: what is sound before is sound after, and what `make` grants is sound.
 use mathlib.Core.Bool.{Bool, true, false, cond, not, _&&_, true≢false}
 use mathlib.Core.Logic.{⊎-elim}
 use mathlib.Core.Path.{_≡_, refl, sym, ap, _∙_}
@@ -7,14 +7,14 @@ use native.Mathlib.Omega.{arith}
 use borrow.Author.Tests.{le-leb, leb-true, lt-ltb, ltb-true}
 use lib.Dec.{leb, ltb}
 use lib.ListN.{getD-replicate}
-use Rattle.label.specs.Answer.{Answer, granted, refused, require}
-use Rattle.label.specs.Index.{any}
+use Rattle.common.specs.Answer.{Answer, granted, refused, require}
+use Rattle.common.specs.Index.{someBelow}
 use Rattle.label.specs.Region.{regions}
 use Rattle.label.specs.declared.Label.{Label}
-use Rattle.label.proofs.AnswerLaws.{grant-passed}
-use Rattle.label.proofs.BoolLaws.{both, first-true, second-true}
-use Rattle.label.proofs.IndexLaws.{every-all}
-use Rattle.label.proofs.SearchLaws.{any-of, any-then, same-or-not, sum-but, sum-zero}
+use Rattle.common.proofs.AnswerLaws.{grant-passed}
+use Rattle.common.proofs.BoolLaws.{both, first-true, second-true}
+use Rattle.common.proofs.IndexLaws.{every-all}
+use Rattle.common.proofs.SearchLaws.{any-of, any-then, same-or-not, sum-but, sum-zero}
 use Rattle.range.specs.Tuple
 use Rattle.range.specs.declared.tuple.RegionRange.{RegionRange}
 use Rattle.range.specs.declared.tuple.Tuple.{Tuple}
@@ -66,7 +66,7 @@ module _ (s : SegmentTable) (t : TenantId) (x : Tenant) (lengths : Lengths s) (n
           by-tenant (λ (u : TenantId). Tuple.containsOf (clearanceAt s u) (y .label) ≡ true → Tuple.containsOf (clearanceAt next u) (y .label) ≡ true) t u
           (λ f. same (tenantAt next t) x (tenant-written s t x lengths number) (h (y .label) f)) (λ u i. same (tenantAt next u) (tenantAt s u) (tenant-kept s t u x i))
 
-      go : (b : Bool) → cond b (any (clears s p (y .label)) tenants) (zeros y) ≡ true → cond b (any (clears next p (y .label)) tenants) (zeros y) ≡ true
+      go : (b : Bool) → cond b (someBelow (clears s p (y .label)) tenants) (zeros y) ≡ true → cond b (someBelow (clears next p (y .label)) tenants) (zeros y) ≡ true
       go false e = e
       go true e =
           any-then (clears s p (y .label)) tenants e
@@ -192,8 +192,8 @@ set-ceiling-sound s t n l h = left-sound s _ (setCeilingAnswer s t n) h (granted
 zero-tenant-sound : tenantSound zeroTenant ≡ true
 unfolding tenantSound Tuple.validOf Tuple.emptyOf
 zero-tenant-sound =
-    both (every-all (λ r. Tuple.validAt r (Tuple.rangeAt Tuple.emptyTuple r)) regions (λ r l. ap (Tuple.validAt r) (getD-replicate regions r Tuple.absent _ l) ∙ absent-valid r))
-    (every-all (λ r. not (Tuple.isThere (Tuple.rangeAt Tuple.emptyTuple r))) regions (λ r l. ap (λ (e : RegionRange). not (Tuple.isThere e)) (getD-replicate regions r Tuple.absent _ l)))
+    both (every-all (λ r. Tuple.validAt r (Tuple.regionRangeAt Tuple.emptyTuple r)) regions (λ r l. ap (Tuple.validAt r) (getD-replicate regions r Tuple.absent _ l) ∙ absent-valid r))
+    (every-all (λ r. not (Tuple.isThere (Tuple.regionRangeAt Tuple.emptyTuple r))) regions (λ r l. ap (λ (e : RegionRange). not (Tuple.isThere e)) (getD-replicate regions r Tuple.absent _ l)))
 
 no-ceilings : (pool : ℕ) → ceilingsOf (emptyTable pool) ≡ 0
 unfolding ceilingsOf

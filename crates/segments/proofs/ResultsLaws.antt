@@ -1,17 +1,17 @@
--- What the proofs of the calls' code need of their answers. Assumes nothing.
+-- What the proofs of the calls' code need of their answers.
 use mathlib.Core.Bool.{Bool, true, false, cond, _&&_, true≢false}
 use mathlib.Core.Option.{Option, some}
 use mathlib.Core.Path.{_≡_, refl, sym, ap, ap₂, _∙_}
 use Prim.Native.Nat.{ℕ, _<_, _≤_}
 use borrow.Author.Tests.{lt-ltb}
 use lib.Dec.{lit<, ltb}
-use Rattle.label.specs.Answer.{Answer, andThen, granted, isGranted, refused, refusedBy, require}
+use Rattle.common.specs.Answer.{Answer, andThen, granted, isGranted, refused, refusedBy, require}
 use Rattle.label.specs.Label
 use Rattle.label.specs.declared.Label.{Label}
-use Rattle.label.specs.declared.errno.Errno.{Errno}
-use Rattle.label.specs.declared.errno.Errno.the-variants.{Invalid}
-use Rattle.label.proofs.AnswerLaws.{grant-passed, require-then}
-use Rattle.label.proofs.BoolLaws.{both, first-true, not-so}
+use Rattle.common.specs.declared.errno.Errno.{Errno}
+use Rattle.common.specs.declared.errno.Errno.the-variants.{Invalid}
+use Rattle.common.proofs.AnswerLaws.{grant-passed, require-then}
+use Rattle.common.proofs.BoolLaws.{both, first-true, not-so}
 use Rattle.segments.specs.Calls.{Decides, accessOf, answerOf, callOf, callValid, changedSlot, cleared, found, grantOf, numbersValid, pagesFit, permitted, slotFor, slotOr0, slotValid, stepOf, target, written}
 use Rattle.segments.specs.Parts.{Started, namedSlot, startOf, unlabeled}
 use Rattle.segments.specs.Replies.{Answers, Grant, Results, applied, done, isRefusal, labelBeside, leaving, refusedWith, replyOf, shownLabel}
@@ -22,7 +22,7 @@ use Rattle.segments.specs.declared.Action.{Action}
 use Rattle.segments.specs.declared.Action.the-variants.{Open, Size, Post, Look, Close}
 use Rattle.segments.specs.declared.Call.{Call}
 use Rattle.segments.specs.declared.Change.{Change}
-use Rattle.segments.specs.declared.Outcome.{Outcome}
+use Rattle.segments.specs.declared.CallOutcome.{CallOutcome}
 use Rattle.segments.specs.declared.Reply.{Reply}
 use Rattle.segments.specs.declared.Reply.the-variants.{Done, Opened, Shown, Refused}
 use Rattle.segments.specs.declared.Segment.{Segment}
@@ -34,7 +34,7 @@ use Rattle.segments.proofs.SoundLaws.{sound-parts}
 
 -- ---- outcomes that show no label
 
-module _ (o : Outcome) (s next : SegmentTable) (x : Answer Grant) where
+module _ (o : CallOutcome) (s next : SegmentTable) (x : Answer Grant) where
   pub results-refused : (e : Errno) → o ≡ unlabeled s (Refused e) → x ≡ refusedBy e → Results o (leaving s next x)
   results-refused e h k = rw (h, k) (record { table = refl; answer = refl; label = refl })
 
@@ -43,7 +43,7 @@ module _ (o : Outcome) (s next : SegmentTable) (x : Answer Grant) where
   results-granted r g h k a l = rw (h, k) (record { table = refl; answer = a; label = l })
 
 -- a part that answers what the whole does
-pub results-same : {o : Outcome} (s next : SegmentTable) {x y : Answer Grant} → x ≡ y → Results o (leaving s next y) → Results o (leaving s next x)
+pub results-same : {o : CallOutcome} (s next : SegmentTable) {x y : Answer Grant} → x ≡ y → Results o (leaving s next y) → Results o (leaving s next x)
 results-same s next e h = rw e h
 
 -- ---- changes

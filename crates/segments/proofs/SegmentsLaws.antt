@@ -1,4 +1,4 @@
--- What a state holds after a segment or a tenant's record in it is replaced. Assumes nothing.
+-- What a state holds after a segment or a tenant's record in it is replaced.
 use mathlib.Core.List.{List}
 use mathlib.Core.Path.{_≡_, sym, ap, ap₂, _∙_}
 use Prim.Native.Nat.{_<_}

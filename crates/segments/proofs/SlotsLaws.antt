@@ -1,5 +1,5 @@
 -- Whose a slot is, and a tenant's own slots. The laws of `firstSlot`, `slotCount` and `owns` stand here: nothing else opens these three.
--- Assumes nothing.
+--
 use mathlib.Core.Bool.{true, false, _&&_}
 use mathlib.Core.Logic.{⊎-elim}
 use mathlib.Core.Option.{Option, none, some, Option·none-ne-some}
@@ -9,9 +9,9 @@ use native.Mathlib.Nat.{add-zero}
 use native.Mathlib.Omega.{arith}
 use borrow.Author.Tests.{le-leb, leb-true, lt-ltb, ltb-true}
 use lib.Dec.{leb, ltb}
-use Rattle.label.specs.Index.{firstFrom, sumFrom}
-use Rattle.label.proofs.BoolLaws.{both, first-true, not-so, same-truth, second-true, three-true}
-use Rattle.label.proofs.SearchLaws.{first-least, hit, pass, same-or-not, sum-term}
+use Rattle.common.specs.Index.{firstFrom, sumFrom}
+use Rattle.common.proofs.BoolLaws.{both, first-true, not-so, same-truth, second-true, three-true}
+use Rattle.common.proofs.SearchLaws.{first-least, hit, pass, same-or-not, sum-term}
 use Rattle.segments.specs.Segments.{ceilingAt, pagesAt, slot, slots, tenantId, tenants, withTenant}
 use Rattle.segments.specs.Slots.{asSlot, ceilingsOf, emptyAt, firstSlot, lowestEmpty, owns, pagesOf, slotCount}
 use Rattle.segments.specs.declared.SegmentTable.{SegmentTable}

@@ -1,4 +1,4 @@
--- Soundness part by part, and that every call keeps it. Assumes nothing.
+-- Soundness part by part, and that every call keeps it.
 use mathlib.Core.Bool.{Bool, true, false, cond, not, _&&_, _||_, and-false, and-true, true≢false}
 use mathlib.Core.Option.{none, some, Option·some-ne-none}
 use mathlib.Core.Path.{_≡_, refl, sym, ap, _∙_}
@@ -6,16 +6,16 @@ use Prim.Native.Nat.{ℕ, _+_, _-_, _<_, _≤_}
 use native.Mathlib.Omega.{arith}
 use borrow.Author.Tests.{le-leb, leb-true, ltb-true, ne-eqb}
 use lib.Dec.{leb, ltb}
-use Rattle.label.specs.Answer.{granted, require, testOf}
-use Rattle.label.specs.Index.{any}
+use Rattle.common.specs.Answer.{granted, require, testOf}
+use Rattle.common.specs.Index.{someBelow}
 use Rattle.label.specs.Label
 use Rattle.label.specs.declared.Label.{Label}
-use Rattle.label.specs.declared.answer.Test.{Test}
-use Rattle.label.proofs.AnswerLaws.{readBy, test-read}
-use Rattle.label.proofs.BoolLaws.{both, first-true, not-so, same-truth, second-true, three-true}
-use Rattle.label.proofs.IndexLaws.{every-all, every-at}
+use Rattle.common.specs.declared.answer.Test.{Test}
+use Rattle.common.proofs.AnswerLaws.{readBy, test-read}
+use Rattle.common.proofs.BoolLaws.{both, first-true, not-so, same-truth, second-true, three-true}
+use Rattle.common.proofs.IndexLaws.{every-all, every-at}
 use Rattle.label.proofs.LabelLaws.{equal-exact}
-use Rattle.label.proofs.SearchLaws.{any-of, any-same, any-then, none-of, sum-but, sum-same}
+use Rattle.common.proofs.SearchLaws.{any-of, any-same, any-then, none-of, sum-but, sum-same}
 use Rattle.label.specs.Region.{regionOf}
 use Rattle.range.specs.Tuple
 use Rattle.range.specs.declared.tuple.Tuple.{Tuple}
@@ -118,16 +118,16 @@ clears-parts s p l t e =
 
 -- whether slot p may hold x
 abbrev pub held : SegmentTable → Slot → Segment → Bool
-held s p x = cond (leb 1 (x .pages)) (any (clears s p (x .label)) tenants) (zeros x)
+held s p x = cond (leb 1 (x .pages)) (someBelow (clears s p (x .label)) tenants) (zeros x)
 
 pub slot-held : (s : SegmentTable) (p : Slot) → slotSound s p ≡ held s p (segmentAt s p)
 unfolding slotSound filled clearedBy
 slot-held s p = refl
 
 -- some tenant clears a label for a slot exactly where the owner does
-pub owner-clears : (s : SegmentTable) (p : Slot) (l : Label) (t : TenantId) → owns s t p ≡ true → any (clears s p l) tenants ≡ Tuple.containsOf (clearanceAt s t) l
+pub owner-clears : (s : SegmentTable) (p : Slot) (l : Label) (t : TenantId) → owns s t p ≡ true → someBelow (clears s p l) tenants ≡ Tuple.containsOf (clearanceAt s t) l
 owner-clears s p l t o =
-    same-truth (any (clears s p l) tenants) (Tuple.containsOf (clearanceAt s t) l)
+    same-truth (someBelow (clears s p l) tenants) (Tuple.containsOf (clearanceAt s t) l)
     (λ e. any-then (clears s p l) tenants e (λ i h f.
     let c = clears-parts s p l i f in
     ap (λ (u : TenantId). Tuple.containsOf (clearanceAt s u) l) (owner-unique s t (tenantId i) p o (c .0)) ∙ c .1))
@@ -135,20 +135,20 @@ owner-clears s p l t o =
 
 -- so the owner's clearance tells whether a slot is sound, by what it has for the region of the label there
 sound-by-owner : (s : SegmentTable) (p : Slot) (t : TenantId) → owns s t p ≡ true
-    → slotSound s p ≡ segmentSound (segmentAt s p) (ByTenant t) (Tuple.rangeAt (clearanceAt s t) (regionOf (segmentAt s p .label .hierarchy)))
+    → slotSound s p ≡ segmentSound (segmentAt s p) (ByTenant t) (Tuple.regionRangeAt (clearanceAt s t) (regionOf (segmentAt s p .label .hierarchy)))
 unfolding segmentSound Tuple.containsOf
 sound-by-owner s p t o =
     rw (and-true (leb 1 (pagesAt s p)))
     (slot-held s p ∙ ap (λ (b : Bool). cond (leb 1 (pagesAt s p)) b (zeros (segmentAt s p))) (owner-clears s p (segmentAt s p .label) t o))
 
 -- a slot that nobody owns is sound where it holds zeros
-sound-unowned : (s : SegmentTable) (p : Slot) → any (λ t. owns s (tenantId t) p) tenants ≡ false → slotSound s p ≡ zeros (segmentAt s p)
+sound-unowned : (s : SegmentTable) (p : Slot) → someBelow (λ t. owns s (tenantId t) p) tenants ≡ false → slotSound s p ≡ zeros (segmentAt s p)
 unfolding zeros
 sound-unowned s p n = slot-held s p ∙ go (segmentAt s p)
   where
-    none : (l : Label) → any (clears s p l) tenants ≡ false
+    none : (l : Label) → someBelow (clears s p l) tenants ≡ false
     none l =
-        not-so (any (clears s p l) tenants) (λ e. any-then (clears s p l) tenants e (λ i h f.
+        not-so (someBelow (clears s p l) tenants) (λ e. any-then (clears s p l) tenants e (λ i h f.
         true≢false (sym (clears-parts s p l i f .0) ∙ none-of (λ t. owns s (tenantId t) p) tenants i n h)))
 
     go : (x : Segment) → held s p x ≡ zeros x
@@ -162,7 +162,7 @@ sound-unowned s p n = slot-held s p ∙ go (segmentAt s p)
 
 -- what was found of a slot's owner, a tenant or nobody, tells whether the slot is sound
 pub sound-as-owned : (s : SegmentTable) (p : Slot) (o : Owner) (n : ℕ) → Owned s p o
-    → slotSound s p ≡ segmentSound (segmentAt s p) o (Tuple.rangeAt (clearanceAt s (tenantId (ownerOr o n))) (regionOf (segmentAt s p .label .hierarchy)))
+    → slotSound s p ≡ segmentSound (segmentAt s p) o (Tuple.regionRangeAt (clearanceAt s (tenantId (ownerOr o n))) (regionOf (segmentAt s p .label .hierarchy)))
 unfolding segmentSound
 sound-as-owned s p (ByTenant t) n h = sound-by-owner s p t (h .1)
 sound-as-owned s p Nobody n h = rw (and-false (leb 1 (pagesAt s p))) (sound-unowned s p h)
@@ -175,8 +175,8 @@ held-filled : (s : SegmentTable) (p : Slot) (x : Segment) (u : TenantId) → 1 �
 held-filled s p x u h o e = rw (le-leb 1 (x .pages) h) (owner-clears s p (x .label) u o ∙ e)
 
 -- where a filled slot may hold x, some tenant clears it
-held-by : (s : SegmentTable) (p : Slot) (x : Segment) → 1 ≤ x .pages → held s p x ≡ true → any (clears s p (x .label)) tenants ≡ true
-held-by s p x h e = sym (ap (λ (b : Bool). cond b (any (clears s p (x .label)) tenants) (zeros x)) (le-leb 1 (x .pages) h)) ∙ e
+held-by : (s : SegmentTable) (p : Slot) (x : Segment) → 1 ≤ x .pages → held s p x ≡ true → someBelow (clears s p (x .label)) tenants ≡ true
+held-by s p x h e = sym (ap (λ (b : Bool). cond b (someBelow (clears s p (x .label)) tenants) (zeros x)) (le-leb 1 (x .pages) h)) ∙ e
 
 -- which is its owner
 held-cleared : (s : SegmentTable) (p : Slot) (x : Segment) (t : TenantId) → 1 ≤ x .pages → owns s t p ≡ true → held s p x ≡ true → Tuple.containsOf (clearanceAt s t) (x .label) ≡ true

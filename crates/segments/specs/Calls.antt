@@ -1,10 +1,10 @@
--- Document 01, "The board": the tenant calls. Assumes nothing.
+-- Document 01, "The board": the tenant calls.
 use mathlib.Core.Bool.{Bool, true, false, _&&_}
 use mathlib.Core.Option.{Option, none, some}
 use mathlib.Core.Path.{_≡_}
 use Prim.Native.Nat.{ℕ, _+_, _-_}
 use lib.Dec.{leb, ltb}
-use Rattle.label.specs.Answer.{Answer, granted, refused, require}
+use Rattle.common.specs.Answer.{Answer, granted, refused, require}
 use Rattle.label.specs.Label
 use Rattle.label.specs.declared.Label.{Label}
 use Rattle.range.specs.Tuple

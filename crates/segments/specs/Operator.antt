@@ -1,8 +1,8 @@
--- Document 01, "The board": the operator's calls. Assumes nothing.
+-- Document 01, "The board": the operator's calls.
 use mathlib.Core.Bool.{not, _&&_}
 use Prim.Native.Nat.{ℕ, _+_, _-_}
 use lib.Dec.{leb, ltb}
-use Rattle.label.specs.Answer.{Answer, granted, require}
+use Rattle.common.specs.Answer.{Answer, granted, require}
 use Rattle.range.specs.Tuple
 use Rattle.range.specs.declared.tuple.Tuple.{Tuple}
 use Rattle.segments.specs.Replies.{Grant, Step, done, leaving}

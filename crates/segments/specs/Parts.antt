@@ -1,12 +1,12 @@
 -- For the contracts of functions that are not public: what their enums say, and the parts of the rules that they test by themselves. No
--- promise cites this file. Assumes nothing.
+-- promise cites this file.
 use mathlib.Core.Bool.{Bool, true, false, cond, _&&_}
 use mathlib.Core.Option.{Option, none, some}
 use mathlib.Core.Path.{_≡_}
 use Prim.Native.Nat.{ℕ, _+_, _-_, _<_}
 use lib.Dec.{leb}
-use Rattle.label.specs.Answer.{Answer, granted, require}
-use Rattle.label.specs.Index.{any, every}
+use Rattle.common.specs.Answer.{Answer, granted, require}
+use Rattle.common.specs.Index.{someBelow, every}
 use Rattle.label.specs.Label
 use Rattle.label.specs.declared.Label.{Label}
 use Rattle.range.specs.Tuple
@@ -19,7 +19,7 @@ use Rattle.segments.specs.Sound.{slotSound, sound, tenantSound, underCei
 use Rattle.segments.specs.declared.Action.{Action}
 use Rattle.segments.specs.declared.Action.the-variants.{Open, Size, Post, Look, Close}
 use Rattle.segments.specs.declared.Call.{Call}
-use Rattle.segments.specs.declared.Outcome.{Outcome}
+use Rattle.segments.specs.declared.CallOutcome.{CallOutcome}
 use Rattle.segments.specs.declared.Reply.{Reply}
 use Rattle.segments.specs.declared.Segment.{Segment}
 use Rattle.segments.specs.declared.SegmentTable.{SegmentTable}
@@ -48,7 +48,7 @@ remainingOf Exceeded = none
 -- r says whose slot p is: a tenant's, or nobody's
 abbrev pub Owned : SegmentTable → Slot → Owner → Type 0
 Owned s p (Tenant t) = (t .0 < tenants) × (owns s t p ≡ true)
-Owned s p Nobody = any (λ t. owns s (tenantId t) p) tenants ≡ false
+Owned s p Nobody = someBelow (λ t. owns s (tenantId t) p) tenants ≡ false
 
 abbrev pub isOwned : Owner → Bool
 isOwned (Tenant t) = true
@@ -124,5 +124,5 @@ pub record Started (s : SegmentTable) (c : Call) : Type 0 where
 
 -- ---- outcomes that show no label
 
-abbrev pub unlabeled : SegmentTable → Reply → Outcome
+abbrev pub unlabeled : SegmentTable → Reply → CallOutcome
 unlabeled s r = record { table = s; answer = unlabeledAnswer r }

@@ -1,14 +1,14 @@
--- What a call on the state answers, and the state that it leaves. Assumes nothing.
+-- What a call on the state answers, and the state that it leaves.
 use mathlib.Core.Bool.{Bool, true, false, cond}
 use mathlib.Core.Path.{_≡_}
-use Rattle.label.specs.Answer as answers
+use Rattle.common.specs.Answer as answers
 use Rattle.label.specs.Label
 use Rattle.label.specs.declared.Label.{Label}
-use Rattle.label.specs.declared.errno.Errno.{Errno}
+use Rattle.common.specs.declared.errno.Errno.{Errno}
 use Rattle.segments.specs.Segments.{segmentOf, slot, withSegment, zeroSegment}
-use Rattle.segments.specs.declared.Answer.{Answer}
+use Rattle.segments.specs.declared.CallAnswer.{CallAnswer}
 use Rattle.segments.specs.declared.Change.{Change}
-use Rattle.segments.specs.declared.Outcome.{Outcome}
+use Rattle.segments.specs.declared.CallOutcome.{CallOutcome}
 use Rattle.segments.specs.declared.Reply.{Reply}
 use Rattle.segments.specs.declared.Reply.the-variants.{Done, Opened, Shown, Refused}
 use Rattle.segments.specs.declared.Segment.{Segment}
@@ -39,12 +39,12 @@ labelBeside (answers.granted g) = shownLabel g
 labelBeside (answers.refused n detail) = Label.zeroLabel
 
 -- the code's answer is x, with the label that stands beside it
-pub record Answers (a : Answer) (x : answers.Answer Grant) : Type 0 where
+pub record Answers (a : CallAnswer) (x : answers.Answer Grant) : Type 0 where
   pub reply : replyOf (a .reply) (a .label) ≡ x
   pub label : a .label ≡ labelBeside x
 
 -- an answer that shows no label
-abbrev pub unlabeledAnswer : Reply → Answer
+abbrev pub unlabeledAnswer : Reply → CallAnswer
 unlabeledAnswer r = record { reply = r; label = Label.zeroLabel }
 
 -- a state and an answer
@@ -71,11 +71,11 @@ abbrev pub refusedWith : Errno → Change
 refusedWith e = record { slot = slot 0; segment = zeroSegment; answer = unlabeledAnswer (Refused e) }
 
 -- the outcome of a change: the slot gets the segment, and a refusal leaves the state as it was
-abbrev pub applied : SegmentTable → Change → Outcome
+abbrev pub applied : SegmentTable → Change → CallOutcome
 applied s c = record { table = cond (isRefusal (c .answer .reply)) s (withSegment s (c .slot) (c .segment)); answer = c .answer }
 
 -- the code's outcome is x, whole
-pub record Results (o : Outcome) (x : Step) : Type 0 where
+pub record Results (o : CallOutcome) (x : Step) : Type 0 where
   pub table : o .table ≡ x .table
   pub answer : replyOf (o .answer .reply) (o .answer .label) ≡ x .answer
   pub label : o .answer .label ≡ labelBeside (x .answer)

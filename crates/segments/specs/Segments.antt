@@ -1,5 +1,5 @@
 -- Document 01, "The board" (here the state, a segment table): its sizes, and what it holds by tenant and by slot. A slot is document 01's
--- place, a version its edition. Assumes nothing.
+-- place, a version its edition.
 use mathlib.Core.Bool.{Bool, _&&_}
 use mathlib.Core.List.{List, []}
 use mathlib.Core.Path.{_≡_}

@@ -1,9 +1,9 @@
--- Document 01, "The board": whose a slot is, which slots are filled, and a tenant's pages. Assumes nothing.
+-- Document 01, "The board": whose a slot is, which slots are filled, and a tenant's pages.
 use mathlib.Core.Bool.{Bool, not, _&&_}
 use mathlib.Core.Option.{Option, none, some}
 use Prim.Native.Nat.{ℕ, _+_, _*_}
 use lib.Dec.{leb, ltb}
-use Rattle.label.specs.Index.{firstFrom, sumFrom}
+use Rattle.common.specs.Index.{firstFrom, sumFrom}
 use Rattle.segments.specs.Segments.{ceilingAt, pagesAt, slot, tenantId, tenants}
 use Rattle.segments.specs.declared.SegmentTable.{SegmentTable}
 use Rattle.segments.specs.declared.Slot.{Slot}

@@ -1,7 +1,7 @@
--- Document 01, "The board": when a state is sound. Assumes nothing.
+-- Document 01, "The board": when a state is sound.
 use mathlib.Core.Bool.{Bool, cond, not, _&&_}
 use lib.Dec.{eqb, leb, ltb}
-use Rattle.label.specs.Index.{any, every}
+use Rattle.common.specs.Index.{someBelow, every}
 use Rattle.label.specs.Label
 use Rattle.range.specs.Tuple
 use Rattle.segments.specs.Segments.{ceilingAt, clearanceAt, pagesValid, segmentAt, slot, slots, tenantAt, tenantId, tenants}
@@ -30,7 +30,7 @@ zeros x = Label.equalOf (x .label) Label.zeroLabel && eqb (x .pages) 0 && eqb (x
 
 -- a filled slot holds a label in its owner's clearance; an empty one holds zeros
 unfoldable pub slotSound : SegmentTable → Slot → Bool
-slotSound s p = cond (filled s p) (any (λ t. clearedBy s p (tenantId t)) tenants) (zeros (segmentAt s p))
+slotSound s p = cond (filled s p) (someBelow (λ t. clearedBy s p (tenantId t)) tenants) (zeros (segmentAt s p))
 
 -- t's pages are at most its ceiling
 unfoldable pub underCeiling : SegmentTable → TenantId → Bool

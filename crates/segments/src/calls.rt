@@ -1,12 +1,12 @@
 // The tenant calls. `step` makes document 01's checks in its order; a refusal hands the state back as it was.
 use crate::Action;
-use crate::Answer;
 use crate::Call;
+use crate::CallAnswer;
+use crate::CallOutcome;
 use crate::Change;
 use crate::CloseCall;
 use crate::LookCall;
 use crate::OpenCall;
-use crate::Outcome;
 use crate::PostCall;
 use crate::Reply;
 use crate::SLOTS;
@@ -23,16 +23,16 @@ use crate::refuses;
 use crate::slots;
 use crate::slots::Free;
 use crate::state;
+use common::answer;
+use common::errno::Errno;
 use label::Label;
-use label::answer;
 use label::components;
-use label::errno::Errno;
 use range::unchecked;
 ghost use mathlib.Core.Path.{_≡_};
 ghost use mathlib.Core.Bool.{true};
 ghost use Prim.Native.Nat.{_<_};
-ghost use Rattle.label.specs.Answer as answers;
-ghost use Rattle.label.specs.Answer.{outcomeOf};
+ghost use Rattle.common.specs.Answer as answers;
+ghost use Rattle.common.specs.Answer.{outcomeOf};
 ghost use Rattle.label.specs.Label as labels;
 ghost use Rattle.segments.specs.Calls as rules;
 ghost use Rattle.segments.specs.Calls.{Decides, callOf, closeCall, lookCall, numbersValid, openCall, postCall, sizeCall, slotValid, stepOf};
@@ -253,7 +253,7 @@ fn written(segment: Segment, label: Label, action: Action) -> Segment
 }
 
 // What a granted call answers: the slot of an open, what a look found, or that it is done.
-fn granted(slot: Slot, segment: Segment, action: Action) -> Answer
+fn granted(slot: Slot, segment: Segment, action: Action) -> CallAnswer
     ensures { λ r. ⌜ Answers r (answers.granted (rules.grantOf slot segment action)) ⌝ }
 {
     let shown = segment.label;
@@ -261,7 +261,7 @@ fn granted(slot: Slot, segment: Segment, action: Action) -> Answer
         Action::Open(_) => no_label(Reply::Opened(slot)),
         Action::Size(_) => no_label(Reply::Done),
         Action::Post(_) => no_label(Reply::Done),
-        Action::Look(_) => Answer {
+        Action::Look(_) => CallAnswer {
             reply: Reply::Shown(Shown {
                 pages: segment.pages,
                 version: segment.version,
@@ -343,30 +343,30 @@ pub fn decide(table: SegmentTable, call: Call) -> Change
 }
 
 // Makes a change.
-fn apply(table: SegmentTable, change: Change) -> Outcome
+fn apply(table: SegmentTable, change: Change) -> CallOutcome
     requires { ⌜ change .slot .0 < slots ⌝ }
     ensures { λ r. ⌜ r ≡ applied table change ⌝ }
 {
     let answer = change.answer;
     let reply = answer.reply;
     if refuses(reply) {
-        return Outcome { table, answer };
+        return CallOutcome { table, answer };
     }
-    Outcome {
+    CallOutcome {
         table: state::with_segment(table, change.slot, change.segment),
         answer,
     }
 }
 
 // What a call answers, and the state that it leaves.
-pub fn step(table: SegmentTable, call: Call) -> Outcome
+pub fn step(table: SegmentTable, call: Call) -> CallOutcome
     ensures { λ r. ⌜ Results r (stepOf table call) ⌝ }
 {
     apply(table, decide(table, call))
 }
 
 // The same, of an action.
-fn act(table: SegmentTable, tenant: TenantId, label: Label, action: Action) -> Outcome
+fn act(table: SegmentTable, tenant: TenantId, label: Label, action: Action) -> CallOutcome
     ensures { λ r. ⌜ Results r (stepOf table (callOf tenant label action)) ⌝ }
 {
     step(
@@ -380,7 +380,7 @@ fn act(table: SegmentTable, tenant: TenantId, label: Label, action: Action) -> O
 }
 
 // The tenant's lowest empty slot gets the label and the pages; the slot is answered.
-pub fn open(table: SegmentTable, tenant: TenantId, label: Label, pages: u64) -> Outcome
+pub fn open(table: SegmentTable, tenant: TenantId, label: Label, pages: u64) -> CallOutcome
     ensures { λ r. ⌜ Results r (stepOf table (openCall tenant label pages)) ⌝ }
 {
     let action = Action::Open(OpenCall { pages });
@@ -388,7 +388,13 @@ pub fn open(table: SegmentTable, tenant: TenantId, label: Label, pages: u64) -> 
 }
 
 // The slot gets another number of pages.
-pub fn size(table: SegmentTable, tenant: TenantId, label: Label, slot: Slot, pages: u64) -> Outcome
+pub fn size(
+    table: SegmentTable,
+    tenant: TenantId,
+    label: Label,
+    slot: Slot,
+    pages: u64,
+) -> CallOutcome
     ensures { λ r. ⌜ Results r (stepOf table (sizeCall tenant label slot pages)) ⌝ }
 {
     let action = Action::Size(SizeCall { slot, pages });
@@ -402,7 +408,7 @@ pub fn post(
     label: Label,
     slot: Slot,
     version: u64,
-) -> Outcome
+) -> CallOutcome
     ensures { λ r. ⌜ Results r (stepOf table (postCall tenant label slot version)) ⌝ }
 {
     let action = Action::Post(PostCall { slot, version });
@@ -410,7 +416,7 @@ pub fn post(
 }
 
 // What the slot holds is shown: its label, pages and version.
-pub fn look(table: SegmentTable, tenant: TenantId, label: Label, slot: Slot) -> Outcome
+pub fn look(table: SegmentTable, tenant: TenantId, label: Label, slot: Slot) -> CallOutcome
     ensures { λ r. ⌜ Results r (stepOf table (lookCall tenant label slot)) ⌝ }
 {
     let action = Action::Look(LookCall { slot });
@@ -418,7 +424,7 @@ pub fn look(table: SegmentTable, tenant: TenantId, label: Label, slot: Slot) -> 
 }
 
 // The slot is zeros, and its pages are free.
-pub fn close(table: SegmentTable, tenant: TenantId, label: Label, slot: Slot) -> Outcome
+pub fn close(table: SegmentTable, tenant: TenantId, label: Label, slot: Slot) -> CallOutcome
     ensures { λ r. ⌜ Results r (stepOf table (closeCall tenant label slot)) ⌝ }
 {
     let action = Action::Close(CloseCall { slot });

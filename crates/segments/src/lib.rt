@@ -4,8 +4,8 @@ pub mod operator;
 mod slots;
 pub mod state;
 
+use common::errno::Errno;
 use label::Label;
-use label::errno::Errno;
 use range::tuple::Tuple;
 ghost use mathlib.Core.Path.{_≡_};
 ghost use Rattle.segments.specs.Parts as parts;
@@ -105,7 +105,7 @@ pub enum Reply {
 }
 
 // A reply, and the label that a look shows: zeros beside any other.
-pub struct Answer {
+pub struct CallAnswer {
     pub reply: Reply,
     pub label: Label,
 }
@@ -114,13 +114,13 @@ pub struct Answer {
 pub struct Change {
     pub slot: Slot,
     pub segment: Segment,
-    pub answer: Answer,
+    pub answer: CallAnswer,
 }
 
 // The state that a call leaves, and its answer.
-pub struct Outcome {
+pub struct CallOutcome {
     pub table: SegmentTable,
-    pub answer: Answer,
+    pub answer: CallAnswer,
 }
 
 // Whether a reply is a refusal.
@@ -136,20 +136,20 @@ pub fn refuses(reply: Reply) -> bool
 }
 
 // A reply that shows no label.
-pub(crate) fn no_label(reply: Reply) -> Answer
+pub(crate) fn no_label(reply: Reply) -> CallAnswer
     ensures { λ r. ⌜ r ≡ unlabeledAnswer reply ⌝ }
 {
-    Answer {
+    CallAnswer {
         reply,
         label: label::zero(),
     }
 }
 
 // A state and a reply that shows no label.
-pub(crate) fn unlabeled(table: SegmentTable, reply: Reply) -> Outcome
+pub(crate) fn unlabeled(table: SegmentTable, reply: Reply) -> CallOutcome
     ensures { λ r. ⌜ r ≡ parts.unlabeled table reply ⌝ }
 {
-    Outcome {
+    CallOutcome {
         table,
         answer: no_label(reply),
     }

@@ -1,5 +1,5 @@
 // The operator's calls.
-use crate::Outcome;
+use crate::CallOutcome;
 use crate::Reply;
 use crate::SLOTS;
 use crate::SegmentTable;
@@ -9,8 +9,8 @@ use crate::TenantId;
 use crate::slots;
 use crate::state;
 use crate::unlabeled;
-use label::answer::Test;
-use label::errno::Errno;
+use common::answer::Test;
+use common::errno::Errno;
 use range::tuple;
 use range::tuple::Tuple;
 ghost use mathlib.Core.Path.{_≡_};
@@ -40,7 +40,7 @@ fn empty_table(pool: u64) -> SegmentTable
 }
 
 // A state with this pool and no tenants. A refused make hands back a state of zeros.
-pub fn make(pool: u64) -> Outcome
+pub fn make(pool: u64) -> CallOutcome
     ensures { λ r. ⌜ Results r (makeOf pool) ⌝ }
 {
     if state::pages_valid(pool) {
@@ -61,7 +61,7 @@ fn clearance_valid(t: Tuple) -> bool
 }
 
 // Gives a tenant another record, if the pool has room for its ceiling in place of the old one.
-fn set_record(table: SegmentTable, tenant: TenantId, x: Tenant) -> Outcome
+fn set_record(table: SegmentTable, tenant: TenantId, x: Tenant) -> CallOutcome
     requires { ⌜ sound table ≡ true ⌝ }
     requires { ⌜ tenant .0 < tenants ⌝ }
     ensures { λ r. ⌜ Results r (leaving table (withTenant table tenant x) (poolAnswer table tenant (x .ceiling))) ⌝ }
@@ -75,7 +75,7 @@ fn set_record(table: SegmentTable, tenant: TenantId, x: Tenant) -> Outcome
 }
 
 // Admits a tenant, with a ceiling on its pages and a clearance.
-pub fn admit(table: SegmentTable, tenant: TenantId, ceiling: u64, clearance: Tuple) -> Outcome
+pub fn admit(table: SegmentTable, tenant: TenantId, ceiling: u64, clearance: Tuple) -> CallOutcome
     ensures { λ r. ⌜ Results r (admitOf table tenant ceiling clearance) ⌝ }
 {
     if !state::is_sound(table) {
@@ -100,7 +100,7 @@ fn record_of(table: SegmentTable, tenant: TenantId) -> Tenant
 }
 
 // Gives an admitted tenant another ceiling.
-pub fn set_ceiling(table: SegmentTable, tenant: TenantId, ceiling: u64) -> Outcome
+pub fn set_ceiling(table: SegmentTable, tenant: TenantId, ceiling: u64) -> CallOutcome
     ensures { λ r. ⌜ Results r (setCeilingOf table tenant ceiling) ⌝ }
 {
     if !state::is_sound(table) {

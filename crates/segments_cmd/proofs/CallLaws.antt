@@ -1,17 +1,17 @@
--- What a request leaves of a call's outcome, and what an operand line that was read decides. Assumes nothing.
+-- What a request leaves of a call's outcome, and what an operand line that was read decides.
 use mathlib.Core.Bool.{Bool, true, false, true≢false}
 use mathlib.Core.Path.{_≡_, refl, sym, ap, _∙_}
-use Rattle.label.specs.Answer.{Answer, Answered, grantedOf}
-use Rattle.label.specs.declared.answer.Outcome.{Outcome}
-use Rattle.label.specs.declared.answer.Outcome.the-variants.{Granted, Refused}
+use Rattle.common.specs.Answer.{Answer, Answered, grantedOf}
+use Rattle.common.specs.declared.answer.Outcome.{Outcome}
+use Rattle.common.specs.declared.answer.Outcome.the-variants.{Granted, Refused}
 use Rattle.label.specs.declared.Label.{Label}
-use Rattle.label.specs.declared.errno.Errno.{Errno}
+use Rattle.common.specs.declared.errno.Errno.{Errno}
 use Rattle.segments.specs.Replies.{Results, Step, left, replyOf}
-use Rattle.segments.specs.declared.Outcome.{Outcome as CallOutcome}
+use Rattle.segments.specs.declared.CallOutcome.{CallOutcome}
 use Rattle.segments.specs.declared.Reply.{Reply}
 use Rattle.segments.specs.declared.Reply.the-variants.{Done, Opened, Shown, Refused as Refusal}
 use Rattle.segments.specs.declared.SegmentTable.{SegmentTable}
-use Rattle.segments_cmd.specs.Session.{between, invalid, madeIn, onOperand}
+use Rattle.segments_cmd.specs.Session.{between, invalidStep, madeIn, onOperand}
 use Rattle.segments_cmd.specs.declared.session.Session.{Session}
 
 -- a reply that is no refusal leaves the new state
@@ -35,7 +35,7 @@ module _ {A : Type 0} (s : SegmentTable) (call : A → Step) (o : CallOutcome) (
   operand-granted Granted e a h r = rw (← a .outcome) r
   operand-granted (Refused n) e a h r = absurd (true≢false (sym h ∙ e))
 
-  pub operand-refused : (w : Outcome) → b ≡ grantedOf w → Answered w v z x → b ≡ false → Results o (invalid s) → Results o (onOperand s x call)
+  pub operand-refused : (w : Outcome) → b ≡ grantedOf w → Answered w v z x → b ≡ false → Results o (invalidStep s) → Results o (onOperand s x call)
   operand-refused Granted e a h r = absurd (true≢false (sym e ∙ h))
   operand-refused (Refused n) e a h r = rw (← a .outcome) r
 

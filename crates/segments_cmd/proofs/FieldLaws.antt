@@ -1,4 +1,4 @@
--- Numbers, and words before them, that are put where there is room for them. Assumes nothing.
+-- Numbers, and words before them, that are put where there is room for them.
 use mathlib.Core.List.{List}
 use Prim.Native.Nat.{ℕ, _+_, _^_, _≤_, _<_}
 use native.Mathlib.Omega.{arith}

@@ -1,4 +1,4 @@
--- A line that is written to the rest of a buffer. Assumes nothing.
+-- A line that is written to the rest of a buffer.
 use mathlib.Core.Bool.{true}
 use mathlib.Core.List.{List, [], append-assoc, append-nil}
 use mathlib.Core.Path.{_≡_, refl, sym, ap, _∙_}
@@ -15,11 +15,11 @@ use Rattle.octets.proofs.ByteLaws.{put-nil}
 use Rattle.hexline.specs.Line.{labelLineOf}
 use Rattle.hexline.proofs.KindLaws.{label-line-length}
 use Rattle.label.specs.declared.Label.{Label}
-use Rattle.label.specs.Answer.{Answer, granted, refused, valueOr}
-use Rattle.label.specs.Buffer.{WrittenTo, bufferOf, lengthOf, overlay, writtenOf}
-use Rattle.label.specs.declared.answer.Written.{Written}
-use Rattle.label.specs.declared.answer.Written.the-variants.{Length, Refused}
-use Rattle.label.specs.declared.errno.Errno.{Errno}
+use Rattle.common.specs.Answer.{Answer, granted, refused, valueOr}
+use Rattle.common.specs.Buffer.{WrittenTo, bufferOf, lengthOf, overlay, writtenOf}
+use Rattle.common.specs.declared.answer.Written.{Written}
+use Rattle.common.specs.declared.answer.Written.the-variants.{Length, Refused}
+use Rattle.common.specs.declared.errno.Errno.{Errno}
 use Rattle.segments_cmd.specs.Answer.{PutWithin, hexlineBytes, lineText}
 
 -- the line of a label is short

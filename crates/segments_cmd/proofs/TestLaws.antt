@@ -1,4 +1,4 @@
--- What a chain of tests gives, where b is what a test answered and s what it stands for. Assumes nothing.
+-- What a chain of tests gives, where b is what a test answered and s what it stands for.
 use mathlib.Core.Bool.{Bool, true, false, cond}
 use mathlib.Core.Path.{_≡_, sym, _∙_}
 

@@ -1,10 +1,10 @@
--- The answers of calls as text. Assumes nothing.
+-- The answers of calls as text.
 use mathlib.Core.List.{List, [], _++_}
 use Prim.Native.Nat.{ℕ, _≤_}
 use Rattle.octets.specs.Bytes.{Put, ascii}
 use Rattle.console.specs.Format.{decimalOf, errorText}
 use Rattle.hexline.specs.Line.{labelLineOf}
-use Rattle.label.specs.Answer.{valueOr}
+use Rattle.common.specs.Answer.{valueOr}
 use Rattle.label.specs.declared.Label.{Label}
 use Rattle.segments.specs.declared.Reply.{Reply}
 use Rattle.segments.specs.declared.Reply.the-variants.{Done, Opened, Shown, Refused}

@@ -1,11 +1,11 @@
--- A command line as a request. Assumes nothing.
+-- A command line as a request.
 use mathlib.Core.Bool.{Bool, true, false, cond}
 use mathlib.Core.List.{List}
 use Prim.Native.Nat.{ℕ}
 use lib.Dec.{eqb}
 use lib.ListN.{getD}
 use Rattle.octets.specs.Bytes.{ascii, sameBytes}
-use Rattle.console.specs.Command.{commandOf, wordOf}
+use Rattle.console.specs.Command.{commandOf, commandWord}
 use Rattle.console.specs.declared.command.Command.{Command}
 use Rattle.segments.specs.Segments.{slot, tenantId}
 use Rattle.segments.specs.declared.Action.the-variants.{Open, Size, Post, Look, Close}
@@ -51,8 +51,8 @@ abbrev pub ofCommand : List ℕ → Command → Request
 ofCommand word c = cond (c .valid) (byCount word (c .count) (c .numbers)) Invalid
 
 -- what a command line asks for
-unfoldable pub requestOf : List ℕ → Request
-requestOf line = ofCommand (wordOf line) (commandOf line)
+unfoldable pub requestOfLine : List ℕ → Request
+requestOfLine line = ofCommand (commandWord line) (commandOf line)
 
 -- whether a request has an operand line
 abbrev pub takesOperand : Request → Bool

@@ -1,4 +1,4 @@
--- What a request does to the state, and what a line does to a session. Assumes nothing.
+-- What a request does to the state, and what a line does to a session.
 use mathlib.Core.Bool.{cond}
 use mathlib.Core.List.{List}
 use mathlib.Core.Option.{none}
@@ -7,15 +7,15 @@ use lib.ListN.{take}
 use Rattle.console.specs.Command.{skippedOf}
 use Rattle.console.specs.declared.lines.Line.{Line}
 use Rattle.console.specs.declared.lines.Line.the-variants.{More, Whole, Bad}
-use Rattle.hexline.specs.Line.{readLabelOf, readTupleOf}
-use Rattle.label.specs.Answer.{Answer, granted, refused}
+use Rattle.hexline.specs.Line.{readLabelLine, readTupleLine}
+use Rattle.common.specs.Answer.{Answer, granted, refused}
 use Rattle.segments.specs.Calls.{callOf, stepOf}
 use Rattle.segments.specs.Operator.{admitOf, makeOf, setCeilingOf}
 use Rattle.segments.specs.Replies.{Step, leaving}
 use Rattle.segments.specs.declared.Action.{Action}
 use Rattle.segments.specs.declared.SegmentTable.{SegmentTable}
 use Rattle.segments.specs.declared.TenantId.{TenantId}
-use Rattle.segments_cmd.specs.Request.{requestOf, takesOperand}
+use Rattle.segments_cmd.specs.Request.{requestOfLine, takesOperand}
 use Rattle.segments_cmd.specs.declared.request.Request.{Request}
 use Rattle.segments_cmd.specs.declared.request.Request.the-variants.{Invalid, Make, Admit, SetCeiling, Call, Show}
 use Rattle.segments_cmd.specs.declared.session.Session.{Session}
@@ -23,23 +23,23 @@ use Rattle.segments_cmd.specs.declared.session.Session.{Session}
 -- ---- requests
 
 -- no call is made
-abbrev pub invalid : SegmentTable → Step
-invalid s = leaving s s (refused 22 none)
+abbrev pub invalidStep : SegmentTable → Step
+invalidStep s = leaving s s (refused 22 none)
 
 -- a call on what the operand line holds; where that is refused no call is made
 abbrev pub onOperand : {A : Type 0} → SegmentTable → Answer A → (A → Step) → Step
 onOperand s (granted x) call = call x
-onOperand s (refused n detail) call = invalid s
+onOperand s (refused n detail) call = invalidStep s
 
 -- a granted make leaves its new state, a refused one the old one
 abbrev pub madeIn : SegmentTable → Step → Step
 madeIn s x = leaving s (x .table) (x .answer)
 
 abbrev pub admitOn : SegmentTable → TenantId → ℕ → List ℕ → Step
-admitOn s t ceiling line = onOperand s (readTupleOf line) (admitOf s t ceiling)
+admitOn s t ceiling line = onOperand s (readTupleLine line) (admitOf s t ceiling)
 
 abbrev pub callOn : SegmentTable → TenantId → Action → List ℕ → Step
-callOn s t a line = onOperand s (readLabelOf line) (λ l. stepOf s (callOf t l a))
+callOn s t a line = onOperand s (readLabelLine line) (λ l. stepOf s (callOf t l a))
 
 -- the state after a request with its operand line
 abbrev pub tableAfter : SegmentTable → Request → List ℕ → SegmentTable
@@ -64,7 +64,7 @@ afterRequest s r line = cond (takesOperand r) (sessionOf s r) (between (tableAft
 
 -- a line where a command line is due
 abbrev pub afterCommand : SegmentTable → List ℕ → Session
-afterCommand s line = cond (skippedOf line) (between s) (afterRequest s (requestOf line) line)
+afterCommand s line = cond (skippedOf line) (between s) (afterRequest s (requestOfLine line) line)
 
 -- any line: the operand line of the request that waits for one, else a command line
 abbrev pub afterLine : Session → List ℕ → Session

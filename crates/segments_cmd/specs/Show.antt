@@ -1,4 +1,4 @@
--- The state as text, a line at a time. Assumes nothing.
+-- The state as text, a line at a time.
 use mathlib.Core.List.{List, [], _∷_, _++_}
 use Prim.Native.Nat.{ℕ, _+_, _*_}
 use Rattle.octets.specs.Bytes.{ascii}
@@ -15,8 +15,8 @@ categoriesBytes = 21 * (64 * words)
 abbrev pub segmentBytes : ℕ
 segmentBytes = 82
 
-abbrev pub labelBytes : ℕ
-labelBytes = 42 + categoriesBytes
+abbrev pub labelTextSize : ℕ
+labelTextSize = 42 + categoriesBytes
 
 -- the size of the buffer for a line
 abbrev pub lineBytes : ℕ
@@ -28,9 +28,9 @@ listText [] = []
 listText (c ∷ cs) = field (ascii " ") c ++ listText cs
 
 -- `-` where there are none
-unfoldable pub categoriesText : List ℕ → List ℕ
-categoriesText [] = ascii " -"
-categoriesText (c ∷ cs) = listText (c ∷ cs)
+unfoldable pub categoryNumbersText : List ℕ → List ℕ
+categoryNumbersText [] = ascii " -"
+categoryNumbersText (c ∷ cs) = listText (c ∷ cs)
 
 unfoldable pub poolText : ℕ → List ℕ
 poolText pool = field (ascii "pool ") pool ++ ascii "\n"
@@ -42,8 +42,8 @@ tenantText t ceiling pages = field (ascii "tenant ") t ++ field (ascii " ceiling
 unfoldable pub segmentText : ℕ → Segment → List ℕ
 segmentText p x = field (ascii "place ") p ++ field (ascii " pages ") (x .pages) ++ field (ascii " edition ") (x .version)
 
-unfoldable pub labelText : Label → List ℕ
-labelText l = field (ascii " hierarchy ") (l .hierarchy) ++ ascii " categories" ++ categoriesText (membersOf (l .categories))
+unfoldable pub labelNumbersText : Label → List ℕ
+labelNumbersText l = field (ascii " hierarchy ") (l .hierarchy) ++ ascii " categories" ++ categoryNumbersText (membersOf (l .categories))
 
 unfoldable pub slotText : ℕ → Segment → List ℕ
-slotText p x = segmentText p x ++ labelText (x .label) ++ ascii "\n"
+slotText p x = segmentText p x ++ labelNumbersText (x .label) ++ ascii "\n"

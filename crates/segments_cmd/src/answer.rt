@@ -1,9 +1,9 @@
 // The answer of a call as text.
+use common::answer::Written;
 use console::format;
 use label::Label;
-use label::answer::Written;
 use libc::STDOUT_FILENO;
-use segments::Answer;
+use segments::CallAnswer;
 use segments::Reply;
 use segments::Shown;
 use segments::Slot;
@@ -75,7 +75,7 @@ fn put_reply(out: &mut [u8], reply: Reply, label: Label) -> usize
     }
 }
 
-pub(crate) fn print(a: Answer) {
+pub(crate) fn print(a: CallAnswer) {
     let mut out = [0u8; ANSWER_BYTES];
     let reply = a.reply;
     let n = put_reply(&mut out, reply, a.label);

@@ -1,10 +1,10 @@
 // The call that a request makes: its operand line is read, and where it is bad no call is made.
-use label::answer::granted;
-use label::errno::Errno;
+use common::answer::granted;
+use common::errno::Errno;
 use segments::Action;
-use segments::Answer;
 use segments::Call;
-use segments::Outcome;
+use segments::CallAnswer;
+use segments::CallOutcome;
 use segments::Reply;
 use segments::SegmentTable;
 use segments::TenantId;
@@ -12,15 +12,15 @@ use segments::calls;
 use segments::operator;
 ghost use Rattle.segments.specs.Operator.{makeOf};
 ghost use Rattle.segments.specs.Replies.{Results};
-ghost use Rattle.segments_cmd.specs.Session.{admitOn, callOn, invalid, madeIn};
+ghost use Rattle.segments_cmd.specs.Session.{admitOn, callOn, invalidStep, madeIn};
 
 // The outcome of a request that makes no call.
-pub(crate) fn refused(table: SegmentTable) -> Outcome
-    ensures { λ r. ⌜ Results r (invalid table) ⌝ }
+pub(crate) fn refused(table: SegmentTable) -> CallOutcome
+    ensures { λ r. ⌜ Results r (invalidStep table) ⌝ }
 {
-    Outcome {
+    CallOutcome {
         table,
-        answer: Answer {
+        answer: CallAnswer {
             reply: Reply::Refused(Errno::Invalid),
             label: label::zero(),
         },
@@ -28,19 +28,19 @@ pub(crate) fn refused(table: SegmentTable) -> Outcome
 }
 
 // A granted make leaves its new state in the place of the old one. A refused one leaves the old one, and not the zeros that it hands back.
-pub(crate) fn make(table: SegmentTable, pool: u64) -> Outcome
+pub(crate) fn make(table: SegmentTable, pool: u64) -> CallOutcome
     ensures { λ r. ⌜ Results r (madeIn table (makeOf pool)) ⌝ }
 {
     let made = operator::make(pool);
     let answer = made.answer;
     let reply = answer.reply;
     match reply {
-        Reply::Refused(_) => Outcome { table, answer },
+        Reply::Refused(_) => CallOutcome { table, answer },
         _ => made,
     }
 }
 
-pub(crate) fn admit(table: SegmentTable, tenant: TenantId, ceiling: u64, line: &[u8]) -> Outcome
+pub(crate) fn admit(table: SegmentTable, tenant: TenantId, ceiling: u64, line: &[u8]) -> CallOutcome
     ensures { λ r. ⌜ Results r (admitOn table tenant ceiling (now (line .entry))) ⌝ }
 {
     let read = hexline::read_tuple(line);
@@ -56,7 +56,7 @@ pub(crate) fn of_tenant(
     tenant: TenantId,
     action: Action,
     line: &[u8],
-) -> Outcome
+) -> CallOutcome
     ensures { λ r. ⌜ Results r (callOn table tenant action (now (line .entry))) ⌝ }
 {
     let read = hexline::read_label(line);

@@ -9,8 +9,8 @@ use segments::SizeCall;
 use segments::Slot;
 use segments::TenantId;
 ghost use mathlib.Core.Path.{_≡_};
-ghost use Rattle.console.specs.Command.{wordOf};
-ghost use Rattle.segments_cmd.specs.Request.{ofNone, ofOne, ofThree, ofTwo, requestOf, takesOperand};
+ghost use Rattle.console.specs.Command.{commandWord};
+ghost use Rattle.segments_cmd.specs.Request.{ofNone, ofOne, ofThree, ofTwo, requestOfLine, takesOperand};
 
 pub(crate) enum Request {
     // A bad line, an unknown word, or numbers of the wrong count or form.
@@ -26,7 +26,7 @@ pub(crate) enum Request {
 
 // The command of that word with no number.
 fn of_none(line: &[u8]) -> Request
-    ensures { λ r. ⌜ r ≡ ofNone (wordOf (now (line .entry))) ⌝ }
+    ensures { λ r. ⌜ r ≡ ofNone (commandWord (now (line .entry))) ⌝ }
 {
     if command::is_word(line, b"show") {
         return Request::Show;
@@ -36,7 +36,7 @@ fn of_none(line: &[u8]) -> Request
 
 // The command of that word with one number.
 fn of_one(line: &[u8], n: u64) -> Request
-    ensures { λ r. ⌜ r ≡ ofOne (wordOf (now (line .entry))) n ⌝ }
+    ensures { λ r. ⌜ r ≡ ofOne (commandWord (now (line .entry))) n ⌝ }
 {
     if command::is_word(line, b"make") {
         return Request::Make(n);
@@ -46,7 +46,7 @@ fn of_one(line: &[u8], n: u64) -> Request
 
 // The command of that word with a tenant and one number more.
 fn of_two(line: &[u8], tenant: TenantId, n: u64) -> Request
-    ensures { λ r. ⌜ r ≡ ofTwo (wordOf (now (line .entry))) tenant n ⌝ }
+    ensures { λ r. ⌜ r ≡ ofTwo (commandWord (now (line .entry))) tenant n ⌝ }
 {
     if command::is_word(line, b"admit") {
         return Request::Admit(tenant, n);
@@ -68,7 +68,7 @@ fn of_two(line: &[u8], tenant: TenantId, n: u64) -> Request
 
 // The command of that word with a tenant, a slot and one number more.
 fn of_three(line: &[u8], tenant: TenantId, slot: Slot, n: u64) -> Request
-    ensures { λ r. ⌜ r ≡ ofThree (wordOf (now (line .entry))) tenant slot n ⌝ }
+    ensures { λ r. ⌜ r ≡ ofThree (commandWord (now (line .entry))) tenant slot n ⌝ }
 {
     if command::is_word(line, b"size") {
         return Request::Call(tenant, Action::Size(SizeCall { slot, pages: n }));
@@ -80,7 +80,7 @@ fn of_three(line: &[u8], tenant: TenantId, slot: Slot, n: u64) -> Request
 }
 
 pub(crate) fn of_line(line: &[u8]) -> Request
-    ensures { λ r. ⌜ r ≡ requestOf (now (line .entry)) ⌝ }
+    ensures { λ r. ⌜ r ≡ requestOfLine (now (line .entry)) ⌝ }
 {
     let c = command::parse(line);
     if !c.valid {

@@ -6,7 +6,7 @@ use crate::request::Request;
 use crate::show;
 use console::command;
 use console::lines::Line;
-use segments::Outcome;
+use segments::CallOutcome;
 use segments::SegmentTable;
 use segments::operator;
 use segments::state;
@@ -38,7 +38,7 @@ pub(crate) fn start() -> Session
 }
 
 // Prints what a call answers. The state that it leaves takes the old one's place.
-fn reply(o: Outcome) -> Session
+fn reply(o: CallOutcome) -> Session
     ensures { λ r. ⌜ r ≡ between (o .table) ⌝ }
 {
     answer::print(o.answer);

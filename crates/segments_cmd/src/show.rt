@@ -1,10 +1,10 @@
 // The state as text, a line at a time: the pool, the admitted tenants, the filled slots. Every line is shown to fit in the one buffer that they
 // share, so none is cut.
 use crate::answer::put_field;
+use common::answer::Number;
 use label::Label;
-use label::answer::Number;
 use label::words;
-use label::words::Found;
+use label::words::FoundCategory;
 use label::words::WORDS;
 use libc::STDOUT_FILENO;
 use segments::SLOTS;
@@ -19,7 +19,7 @@ ghost use Rattle.octets.specs.Bytes.{Put};
 ghost use Rattle.label.specs.Words.{membersOf};
 ghost use Rattle.segments.specs.Segments.{tenants};
 ghost use Rattle.segments_cmd.specs.Answer.{PutWithin};
-ghost use Rattle.segments_cmd.specs.Show.{categoriesBytes, categoriesText, labelBytes, labelText, lineBytes, listText, poolText, segmentBytes, segmentText, slotText, tenantText};
+ghost use Rattle.segments_cmd.specs.Show.{categoriesBytes, categoryNumbersText, labelTextSize, labelNumbersText, lineBytes, listText, poolText, segmentBytes, segmentText, slotText, tenantText};
 
 // How many categories there can be.
 const CATEGORIES: u64 = (64 * WORDS) as u64;
@@ -35,7 +35,7 @@ fn put_members(out: &mut [u8], at: usize, categories: [u64; WORDS]) -> usize
     let mut end = at;
     let mut from: u64 = 0;
     while from < CATEGORIES {
-        let Found::At(c) = words::next(categories, from) else {
+        let FoundCategory::At(c) = words::next(categories, from) else {
             return end;
         };
         end = put_field(out, end, b" ", c);
@@ -47,7 +47,7 @@ fn put_members(out: &mut [u8], at: usize, categories: [u64; WORDS]) -> usize
 // The same, with `-` where there are none.
 fn put_categories(out: &mut [u8], at: usize, categories: [u64; WORDS]) -> usize
     requires { ⌜ at + categoriesBytes ≤ length (now out) ⌝ }
-    ensures { λ r. ⌜ PutWithin (at + categoriesBytes) (now (out .entry)) at (categoriesText (membersOf categories)) r (now (out .exit)) ⌝ }
+    ensures { λ r. ⌜ PutWithin (at + categoriesBytes) (now (out .entry)) at (categoryNumbersText (membersOf categories)) r (now (out .exit)) ⌝ }
 {
     let end = put_members(out, at, categories);
     if end == at {
@@ -67,8 +67,8 @@ fn put_segment(out: &mut [u8], slot: u64, x: Segment) -> usize
 }
 
 fn put_label(out: &mut [u8], at: usize, label: Label) -> usize
-    requires { ⌜ at + labelBytes ≤ length (now out) ⌝ }
-    ensures { λ r. ⌜ PutWithin (at + labelBytes) (now (out .entry)) at (labelText label) r (now (out .exit)) ⌝ }
+    requires { ⌜ at + labelTextSize ≤ length (now out) ⌝ }
+    ensures { λ r. ⌜ PutWithin (at + labelTextSize) (now (out .entry)) at (labelNumbersText label) r (now (out .exit)) ⌝ }
 {
     let categories = label.categories;
     let hierarchy = put_field(out, at, b" hierarchy ", label.hierarchy);

@@ -1,4 +1,4 @@
--- Labels and ranges that are written by the entries of a good table read back, and a range whose high end is not shown is refused. Assumes nothing.
+-- Labels and ranges that are written by the entries of a good table read back, and a range whose high end is not shown is refused.
 use mathlib.Core.Bool.{Bool, true, false, cond, _&&_}
 use mathlib.Core.List.{List, [], _∷_, _++_, append-assoc}
 use mathlib.Core.Option.{Option}
@@ -6,14 +6,14 @@ use mathlib.Core.Path.{_≡_, refl, sym, ap, _∙_}
 use Prim.Native.Nat.{ℕ}
 use native.Mathlib.Omega.{arith}
 use lib.Seq.{drop-append-seam, take-append-seam}
-use Rattle.label.specs.Answer.{Answer, andThen, granted, require}
+use Rattle.common.specs.Answer.{Answer, andThen, granted, require}
 use Rattle.label.specs.Caller.{callerValid, seesOf}
 use Rattle.label.specs.Label
 use Rattle.label.specs.Words.{membersOf}
 use Rattle.label.specs.declared.Label.{Label}
 use Rattle.label.specs.declared.caller.Caller.{Caller}
-use Rattle.label.proofs.AnswerLaws.{grant-passed, grant-told, grants-same}
-use Rattle.label.proofs.BoolLaws.{first-true, second-true}
+use Rattle.common.proofs.AnswerLaws.{grant-passed, grant-told, grants-same}
+use Rattle.common.proofs.BoolLaws.{first-true, second-true}
 use Rattle.range.specs.Range
 use Rattle.range.specs.declared.Range.{Range}
 use Rattle.range.proofs.RangeLaws.{valid-parts}
@@ -23,7 +23,7 @@ use Rattle.hexline.specs.Entry.{isLetter, isNameByte}
 use Rattle.hexline.specs.declared.entry.Entry.{Entry}
 use Rattle.hexline.specs.declared.entry.Value.the-variants.{Hierarchy, Category, WholeLabel}
 use Rattle.alias.proofs.TableLaws.{Good}
-use Rattle.text.specs.Read.{endsOf, entryNamed, foundEntry, labelBy, labelIn, labelNamed, labelSeen, plain, rangeFrom, readLabelOf, readRangeOf}
+use Rattle.text.specs.Read.{endsOf, entryNamed, foundEntry, labelBy, labelInText, labelNamed, labelSeen, plain, rangeFrom, readLabelText, readRangeText}
 use Rattle.text.specs.Write.{Shown, allNamed, categoriesNamed, categoriesText, colon, comma, definitionNamed, definitionText, hiddenHigh, highMarker, labelText, lowMarker, lowText, nameFor, named, namedIn, shown, textIn, wholeText, writeLabelOf, writeRangeOf}
 use Rattle.text.specs.declared.Form.{Form}
 use Rattle.text.specs.declared.Form.the-variants.{Definition, Alias}
@@ -73,8 +73,8 @@ module _ (es : List Entry) (good : Good es) where
   seen-back s style l t e n =
       ap (λ (a : Answer Label). andThen a (λ (l : Label). require (seesOf s l) 22 (granted l))) (label-back es good (style .variant) (style .form) l t n) ∙ rw e
 
-  pub label-reads : (s : Caller) (style : Style) (l : Label) (text : List ℕ) → Label.Typed l → writeLabelOf es s style l ≡ granted text → readLabelOf es s text ≡ granted l
-  unfolding writeLabelOf readLabelOf
+  pub label-reads : (s : Caller) (style : Style) (l : Label) (text : List ℕ) → Label.Typed l → writeLabelOf es s style l ≡ granted text → readLabelText es s text ≡ granted l
+  unfolding writeLabelOf readLabelText
   label-reads s style l text t e =
       let p = grant-passed (Label.validOf l && callerValid s) 22 text _ (sym e) in
       let q = grant-passed (seesOf s l) 13 text _ (p .1) in
@@ -92,8 +92,8 @@ module _ (es : List Entry) (good : Good es) where
       rw (index-behind blank text (45 ∷ 72 ∷ 32 ∷ rest) w, take-append-seam text (highMarker ++ rest), drop-append-seam text (highMarker ++ rest), e, same-self highMarker)
 
   range-shown : (s : Caller) (low : Label) (text rest : List ℕ) → callerValid s ≡ true → Without blank text → labelSeen es s text ≡ granted low
-      → readRangeOf es s (lowMarker ++ (text ++ (highMarker ++ rest))) ≡ rangeFrom es s low rest
-  unfolding readRangeOf
+      → readRangeText es s (lowMarker ++ (text ++ (highMarker ++ rest))) ≡ rangeFrom es s low rest
+  unfolding readRangeText
   range-shown s low text rest v w e = rw (v, same-self lowMarker) (ends-at s low text rest w e)
 
   -- what a grant of a range's text tells
@@ -118,7 +118,7 @@ module _ (es : List Entry) (good : Good es) where
       }
 
   -- a range with both ends
-  whole-back : (s : Caller) (style : Style) (x : Range) (t : Shown) → Range.TypedRange x → RangeGrant s style x t true → readRangeOf es s (t .text) ≡ granted x
+  whole-back : (s : Caller) (style : Style) (x : Range) (t : Shown) → Range.TypedRange x → RangeGrant s style x t true → readRangeText es s (t .text) ≡ granted x
   unfolding wholeText rangeFrom isNameByte isLetter
   whole-back s style x t ty g =
       let a = allNamed es style (x .low) in
@@ -129,14 +129,14 @@ module _ (es : List Entry) (good : Good es) where
       let low = seen-back s style (x .low) (ty .low) (g .low) na in
       let high = seen-back s style (x .high) (ty .high) (g .high-is) nb in
       let w = text-without blank refl (style .variant) (style .form) (x .low) (λ f. omega arith) (λ f. omega arith) na in
-      ap (λ (t : Shown). readRangeOf es s (t .text)) (p .1)
-      ∙ ap (readRangeOf es s) (regroup lowMarker (labelText es style (x .low)) highMarker (labelText es style (x .high)))
+      ap (λ (t : Shown). readRangeText es s (t .text)) (p .1)
+      ∙ ap (readRangeText es s) (regroup lowMarker (labelText es style (x .low)) highMarker (labelText es style (x .high)))
       ∙ range-shown s (x .low) (labelText es style (x .low)) (labelText es style (x .high)) (g .subject) w low
       ∙ ap (λ (a : Answer Label). andThen a (λ (high : Label). require (Label.dominatesOf high (x .low)) 22 (granted (Range.rangeOf (x .low) high)))) high
       ∙ rw (valid-parts x (g .range) .order)
 
   -- a range whose high end is not shown
-  hidden-refused : (s : Caller) (style : Style) (x : Range) (t : Shown) → Range.TypedRange x → RangeGrant s style x t false → readRangeOf es s (t .text) ≡ plain
+  hidden-refused : (s : Caller) (style : Style) (x : Range) (t : Shown) → Range.TypedRange x → RangeGrant s style x t false → readRangeText es s (t .text) ≡ plain
   unfolding lowText rangeFrom labelSeen labelNamed entryNamed isNameByte isLetter
   hidden-refused s style x t ty g =
       let a = allNamed es style (x .low) in
@@ -144,27 +144,27 @@ module _ (es : List Entry) (good : Good es) where
       let low = seen-back s style (x .low) (ty .low) (g .low) (p .0) in
       let w = text-without blank refl (style .variant) (style .form) (x .low) (λ f. omega arith) (λ f. omega arith) (p .0) in
       let mark : List ℕ = 63 ∷ [] in
-      let none-named : labelIn es (63 ∷ []) ≡ plain =
+      let none-named : labelInText es (63 ∷ []) ≡ plain =
       label-single es good (style .variant) (63 ∷ []) (without-cons colon 63 [] (λ f. omega arith) (λ k l. absurd (omega arith)))
       ∙ ap (λ (o : Option ℕ). andThen (foundEntry es o) (λ (e : Entry). labelBy (e .value) (e .label))) (find-nothing es good (63 ∷ []) 0 (omega arith) refl) in
-      ap (λ (t : Shown). readRangeOf es s (t .text)) (p .1)
-      ∙ ap (readRangeOf es s) (append-assoc lowMarker (labelText es style (x .low)) hiddenHigh)
+      ap (λ (t : Shown). readRangeText es s (t .text)) (p .1)
+      ∙ ap (readRangeText es s) (append-assoc lowMarker (labelText es style (x .low)) hiddenHigh)
       ∙ range-shown s (x .low) (labelText es style (x .low)) (63 ∷ []) (g .subject) w low
       ∙ ap (λ (a : Answer Label). andThen (andThen a (λ (l : Label). require (seesOf s l) 22 (granted l))) (λ (high : Label). require (Label.dominatesOf high (x .low)) 22 (granted (Range.rangeOf (x .low) high)))) none-named
 
   pub range-reads : (s : Caller) (style : Style) (x : Range) (t : Shown) → Range.TypedRange x → writeRangeOf es s style x ≡ granted t → t .status ≡ 0
-      → readRangeOf es s (t .text) ≡ granted x
+      → readRangeText es s (t .text) ≡ granted x
   range-reads s style x t ty e z = go (seesOf s (x .high)) (range-grant s style x t e)
     where
-      go : (high : Bool) → RangeGrant s style x t high → readRangeOf es s (t .text) ≡ granted x
+      go : (high : Bool) → RangeGrant s style x t high → readRangeText es s (t .text) ≡ granted x
       go true g = whole-back s style x t ty g
       go false g = let p = grant-told (allNamed es style (x .low)) 2 t _ (g .text) in let q = ap (λ (t : Shown). t .status) (p .1) in absurd (omega arith)
 
   pub range-refused : (s : Caller) (style : Style) (x : Range) (t : Shown) → Range.TypedRange x → writeRangeOf es s style x ≡ granted t → t .status ≡ 1
-      → readRangeOf es s (t .text) ≡ plain
+      → readRangeText es s (t .text) ≡ plain
   range-refused s style x t ty e z = go (seesOf s (x .high)) (range-grant s style x t e)
     where
-      go : (high : Bool) → RangeGrant s style x t high → readRangeOf es s (t .text) ≡ plain
+      go : (high : Bool) → RangeGrant s style x t high → readRangeText es s (t .text) ≡ plain
       go true g =
           let p = grant-told (allNamed es style (x .low) && allNamed es style (x .high)) 2 t _ (g .text) in
           let q = ap (λ (t : Shown). t .status) (p .1) in absurd (omega arith)

@@ -1,5 +1,5 @@
 -- Names that are written find the entries that they are written of, in a table whose entries are valid and in which no name stands twice.
--- Assumes nothing.
+--
 use mathlib.Core.Bool.{Bool, true, false, cond, _&&_, true≢false}
 use mathlib.Core.List.{List}
 use mathlib.Core.Logic.{⊎-elim}
@@ -10,13 +10,13 @@ use native.Mathlib.Omega.{arith}
 use lib.Dec.{leb}
 use lib.ListN.{getD, length}
 use borrow.Author.Tests.{eqb-true}
-use Rattle.label.specs.Answer.{Answer, andThen, granted}
-use Rattle.label.specs.Index.{firstFrom}
+use Rattle.common.specs.Answer.{Answer, andThen, granted}
+use Rattle.common.specs.Index.{firstFrom}
 use Rattle.label.specs.Label
 use Rattle.label.specs.declared.Label.{Label}
-use Rattle.label.proofs.BoolLaws.{both, either, or-first, or-second, second-true}
+use Rattle.common.proofs.BoolLaws.{both, either, or-first, or-second, second-true}
 use Rattle.label.proofs.LabelLaws.{equal-exact}
-use Rattle.label.proofs.SearchLaws.{first-least, first-none, last-holds}
+use Rattle.common.proofs.SearchLaws.{first-least, first-none, last-holds}
 use Rattle.octets.specs.Bytes.{sameBytes}
 use Rattle.octets.proofs.ByteLaws.{Without, same-is, same-self}
 use Rattle.hexline.specs.Entry as entries
@@ -26,7 +26,7 @@ use Rattle.hexline.specs.declared.entry.Value.{Value}
 use Rattle.hexline.specs.declared.entry.Value.the-variants.{Hierarchy, Category, WholeLabel}
 use Rattle.hexline.proofs.StandingLaws.{abbreviation-letters, name-letters}
 use Rattle.alias.specs.Lines.{entryAt}
-use Rattle.alias.specs.Lookup.{calledOf, findOf, lastOf, sameValue, standsFor}
+use Rattle.alias.specs.Lookup.{calledOf, findOf, lastEntryFor, sameValue, standsFor}
 use Rattle.alias.proofs.TableLaws.{Good, called-once}
 use Rattle.text.specs.Read.{categoryBy, categoryNamed, entryNamed, foundEntry, hierarchyBy, hierarchyNamed, labelBy, labelNamed, noCategories}
 use Rattle.text.specs.Write.{isSome, nameFor, nameOr, named, writtenName}
@@ -101,10 +101,10 @@ module _ (es : List Entry) (good : Good es) where
     found : entryNamed es (nameFor es v value l) ≡ granted (entryAt es number)
 
   last-entry : (value : Value) (l : Label) (v : Variant) → named es value l ≡ true → Last value l v
-  unfolding named nameFor lastOf standsFor entryNamed
-  last-entry value l v e = go (lastOf es value l) refl e
+  unfolding named nameFor lastEntryFor standsFor entryNamed
+  last-entry value l v e = go (lastEntryFor es value l) refl e
     where
-      go : (o : Option ℕ) → lastOf es value l ≡ o → isSome o ≡ true → Last value l v
+      go : (o : Option ℕ) → lastEntryFor es value l ≡ o → isSome o ≡ true → Last value l v
       go none q h = absurd (true≢false (sym h))
       go (some k) q h =
           let r = last-holds (λ j. standsFor value l (entryAt es j)) (length es) k q in

@@ -1,4 +1,4 @@
--- Texts that are made of parts: how they are measured, and put in a buffer part by part. Assumes nothing.
+-- Texts that are made of parts: how they are measured, and put in a buffer part by part.
 use mathlib.Core.Bool.{Bool, true, false, cond, _&&_, and-true}
 use mathlib.Core.List.{List, _++_, append-assoc}
 use mathlib.Core.Option.{none, some}
@@ -7,13 +7,13 @@ use Prim.Native.Nat.{ℕ, _+_}
 use native.Mathlib.Omega.{arith}
 use lib.ListN.{length, length-append}
 use Rattle.label.specs.declared.Label.{Label}
-use Rattle.label.proofs.BoolLaws.{both}
+use Rattle.common.proofs.BoolLaws.{both}
 use Rattle.range.specs.declared.Range.{Range}
 use Rattle.hexline.specs.Entry.{nameSize}
 use Rattle.hexline.specs.declared.entry.Entry.{Entry}
 use Rattle.hexline.specs.declared.entry.Value.the-variants.{WholeLabel}
-use Rattle.alias.specs.Lookup.{lastOf}
-use Rattle.text.specs.Measure.{Counted, highText, maxLabel, maxRange, rangeNamed, rangeText, statusOf}
+use Rattle.alias.specs.Lookup.{lastEntryFor}
+use Rattle.text.specs.Internal.Measure.{MeasuredText, highText, maxLabel, maxRange, rangeNamed, rangeText, statusOf}
 use Rattle.text.specs.Write.{allNamed, definitionNamed, definitionText, labelText, lowText, nameFor, named, namedIn, shown, textIn, wholeText}
 use Rattle.text.specs.declared.Form.the-variants.{Alias}
 use Rattle.text.specs.declared.Style.{Style}
@@ -66,22 +66,22 @@ module _ (es : List Entry) (style : Style) (x : Range) where
 -- ---- the alias form
 
 module _ (es : List Entry) (v : Variant) (l : Label) {r : Measure} where
-  pub alias-counted : {n : ℕ} → Counted (named es WholeLabel l) (nameFor es v WholeLabel l) nameSize r → r ≡ Bytes n → Counted (namedIn es Alias l) (textIn es Alias v l) maxLabel r
+  pub alias-counted : {n : ℕ} → MeasuredText (named es WholeLabel l) (nameFor es v WholeLabel l) nameSize r → r ≡ Bytes n → MeasuredText (namedIn es Alias l) (textIn es Alias v l) maxLabel r
   unfolding namedIn textIn
   alias-counted {n} t e =
       let w = counted t e in
       rw (w .named) (record { measure = rw (w .named) at (t .measure); at-most = λ m f. let k = t .at-most m f in omega arith })
 
-  pub alias-missing : {s : Measure} → Counted (named es WholeLabel l) (nameFor es v WholeLabel l) nameSize s → s ≡ Missing → Counted (definitionNamed es l) (definitionText es v l) maxLabel r
-      → Counted (namedIn es Alias l) (textIn es Alias v l) maxLabel r
+  pub alias-missing : {s : Measure} → MeasuredText (named es WholeLabel l) (nameFor es v WholeLabel l) nameSize s → s ≡ Missing → MeasuredText (definitionNamed es l) (definitionText es v l) maxLabel r
+      → MeasuredText (namedIn es Alias l) (textIn es Alias v l) maxLabel r
   unfolding namedIn textIn
   alias-missing t e d = rw (missed t e) d
 
 -- what is put: the name of the label where there is one, else the definition form
-pub alias-text : (es : List Entry) (v : Variant) (l : Label) {k : ℕ} → lastOf es WholeLabel l ≡ some k → textIn es Alias v l ≡ nameFor es v WholeLabel l
+pub alias-text : (es : List Entry) (v : Variant) (l : Label) {k : ℕ} → lastEntryFor es WholeLabel l ≡ some k → textIn es Alias v l ≡ nameFor es v WholeLabel l
 unfolding textIn named
 alias-text es v l e = rw e
 
-pub definition-instead : (es : List Entry) (v : Variant) (l : Label) → lastOf es WholeLabel l ≡ none → textIn es Alias v l ≡ definitionText es v l
+pub definition-instead : (es : List Entry) (v : Variant) (l : Label) → lastEntryFor es WholeLabel l ≡ none → textIn es Alias v l ≡ definitionText es v l
 unfolding textIn named
 definition-instead es v l e = rw e

@@ -1,4 +1,4 @@
--- Names, and categories one by one, as reading meets them. Assumes nothing.
+-- Names, and categories one by one, as reading meets them.
 use mathlib.Core.List.{List, _∷_}
 use mathlib.Core.Option.{none, some}
 use mathlib.Core.Path.{_≡_, refl, sym, ap, _∙_}
@@ -6,9 +6,9 @@ use Prim.Native.Nat.{ℕ, _+_, _≤_, _<_}
 use native.Mathlib.Omega.{arith}
 use denote.Enum.Declared.{tagOf}
 use lib.ListN.{drop, length, take, drop-of-length-le}
-use Rattle.label.specs.Answer.{Answer, andThen, granted}
-use Rattle.label.proofs.AnswerLaws.{require-then, then-then}
-use Rattle.label.proofs.SearchLaws.{first-least}
+use Rattle.common.specs.Answer.{Answer, andThen, granted}
+use Rattle.common.proofs.AnswerLaws.{require-then, then-then}
+use Rattle.common.proofs.SearchLaws.{first-least}
 use Rattle.octets.specs.Bytes.{indexOf}
 use Rattle.octets.proofs.ByteLaws.{fieldsFrom, fields-next}
 use Rattle.hexline.specs.Line.{standingIn}
@@ -19,7 +19,7 @@ use Rattle.hexline.proofs.entry.Value.{the-type}
 use Rattle.alias.specs.Lines.{entriesBy, lineAt, linesBy}
 use Rattle.alias.specs.Lookup.{findOf}
 use Rattle.alias.proofs.LookupLaws.{calledAt, entries-at, entries-length}
-use Rattle.text.specs.Named.{addedTo, valueNamed, valueNamedOf}
+use Rattle.text.specs.Internal.Named.{addedTo, valueNamed, valueNamedOf}
 use Rattle.text.specs.Read.{categoriesRead, categoryBy, entryNamed, hierarchyBy, plain}
 use Rattle.text.specs.Write.{comma}
 use Rattle.text.specs.declared.read.Named.{Named}

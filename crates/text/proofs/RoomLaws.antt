@@ -1,4 +1,4 @@
--- How a writer ends that has measured its text: it has written it all, or nothing. Assumes nothing.
+-- How a writer ends that has measured its text: it has written it all, or nothing.
 use mathlib.Core.Bool.{Bool, true, false, cond}
 use mathlib.Core.List.{List, _++_}
 use mathlib.Core.Option.{some}
@@ -9,16 +9,16 @@ use native.Mathlib.Omega.{arith}
 use lib.Dec.{leb}
 use lib.ListN.{drop, length}
 use borrow.Author.Tests.{le-leb, leb-true}
-use Rattle.label.specs.Answer.{Answer, granted, isGranted, refused, refusedBy, require}
-use Rattle.label.specs.Buffer.{WrittenTo, bufferOf, lengthOf, overlay, writtenOf}
-use Rattle.label.specs.declared.answer.Written.{Written}
-use Rattle.label.specs.declared.answer.Written.the-variants.{Length, Refused}
-use Rattle.label.specs.declared.errno.Errno.{Errno}
-use Rattle.label.proofs.BufferLaws.{writes-nothing}
+use Rattle.common.specs.Answer.{Answer, granted, isGranted, refused, refusedBy, require}
+use Rattle.common.specs.Buffer.{WrittenTo, bufferOf, lengthOf, overlay, writtenOf}
+use Rattle.common.specs.declared.answer.Written.{Written}
+use Rattle.common.specs.declared.answer.Written.the-variants.{Length, Refused}
+use Rattle.common.specs.declared.errno.Errno.{Errno}
+use Rattle.common.proofs.BufferLaws.{writes-nothing}
 use Rattle.octets.specs.Bytes.{Put, putAt}
 use Rattle.text.specs.Write.{RangeWrittenTo, Shown, shown, statusOr}
 use Rattle.text.specs.declared.RangeWritten.{RangeWritten}
-use Rattle.text.specs.Measure.{Counted, measureOf, roomOf}
+use Rattle.text.specs.Internal.Measure.{MeasuredText, measureOf, roomOf}
 use Rattle.text.specs.declared.name.Measure.{Measure}
 use Rattle.text.proofs.WriteLaws.{room-length}
 
@@ -31,7 +31,7 @@ pub record Fits (isNamed : Bool) (text before : List ℕ) : Type 0 where
   pub named : isNamed ≡ true
   pub room : length text ≤ length before
 
-module _ {isNamed : Bool} {text : List ℕ} {most : ℕ} {m : Measure} (t : Counted isNamed text most m) (w : Written) (before : List ℕ)
+module _ {isNamed : Bool} {text : List ℕ} {most : ℕ} {m : Measure} (t : MeasuredText isNamed text most m) (w : Written) (before : List ℕ)
     (r : writtenOf w ≡ roomOf (measureOf m) (length before)) where
   answered : writtenOf w ≡ lengthOf (require isNamed 2 (granted text)) (length before)
   answered = r ∙ room-length t (length before)

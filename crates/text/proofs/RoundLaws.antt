@@ -1,4 +1,4 @@
--- What is written of a label reads back as that label. Assumes nothing.
+-- What is written of a label reads back as that label.
 use mathlib.Core.Bool.{Bool, true, false, cond, not, _&&_, _||_, true≢false}
 use mathlib.Core.List.{List, [], _∷_, _++_, map, map-append, append-nil, List·Memᴰ, List·Memᴰ·cases-cons, List·Memᴰ·not-nil}
 use mathlib.Core.Logic.{⊎-elim}
@@ -10,13 +10,13 @@ use lib.Dec.{eqb, ltb}
 use lib.ListN.{length, length-append}
 use lib.Seq.{drop-append-add, take-append-seam}
 use borrow.Author.Tests.{eq-eqb, eqb-true, le-ltb, lt-ltb, ltb-true}
-use Rattle.label.specs.Answer.{Answer, andThen, granted, refused, require}
+use Rattle.common.specs.Answer.{Answer, andThen, granted, refused, require}
 use Rattle.label.specs.Label
 use Rattle.label.specs.Label.{upperBoundOf}
 use Rattle.label.specs.Words.{has, includesOf, listedIf, membersBelow, membersOf, singleOf, unionOf, wordAt, words}
 use Rattle.label.specs.declared.Label.{Label}
-use Rattle.label.proofs.AnswerLaws.{grants-same}
-use Rattle.label.proofs.BoolLaws.{both, either, first-true, or-first, or-second, same-truth, second-true}
+use Rattle.common.proofs.AnswerLaws.{grants-same}
+use Rattle.common.proofs.BoolLaws.{both, either, first-true, or-first, or-second, same-truth, second-true}
 use Rattle.label.proofs.LabelLaws.{upper-typed}
 use Rattle.label.proofs.ListingLaws.{has-within, members-exact}
 use Rattle.label.proofs.WordLaws.{has-union, includes-antisym, includes-exact}
@@ -26,7 +26,7 @@ use Rattle.hexline.specs.Entry.{isLetter, isNameByte}
 use Rattle.hexline.specs.declared.entry.Entry.{Entry}
 use Rattle.hexline.specs.declared.entry.Value.the-variants.{Hierarchy, Category, WholeLabel}
 use Rattle.alias.proofs.TableLaws.{Good}
-use Rattle.text.specs.Read.{categoriesRead, categoryNamed, composedOf, labelIn, labelNamed, noCategories}
+use Rattle.text.specs.Read.{categoriesRead, categoryNamed, composedOf, labelInText, labelNamed, noCategories}
 use Rattle.text.specs.Write.{categoriesNamed, categoriesText, colon, comma, definitionNamed, definitionText, nameFor, named, namedIn, textIn}
 use Rattle.text.specs.declared.Form.{Form}
 use Rattle.text.specs.declared.Form.the-variants.{Definition, Alias}
@@ -176,24 +176,24 @@ module _ (es : List Entry) (good : Good es) (v : Variant) where
       ∙ ap (λ (xs : List (List ℕ)). name ∷ xs) (fields-back d cs (second-true (named es (Category c) Label.zeroLabel) rest e))
 
   -- a label of one name, and of a name, `:` and what follows
-  pub label-single : (text : List ℕ) → Without colon text → labelIn es text ≡ labelNamed es text
-  unfolding labelIn
+  pub label-single : (text : List ℕ) → Without colon text → labelInText es text ≡ labelNamed es text
+  unfolding labelInText
   label-single text w = rw (index-without colon text w, le-ltb (length text) (length text) (omega arith))
 
-  label-composed : (name rest : List ℕ) → Without colon name → labelIn es (name ++ colon ∷ rest) ≡ composedOf es name rest
-  unfolding labelIn
+  label-composed : (name rest : List ℕ) → Without colon name → labelInText es (name ++ colon ∷ rest) ≡ composedOf es name rest
+  unfolding labelInText
   label-composed name rest w =
       let n = length-append name (colon ∷ rest) in
       rw (index-behind colon name rest w, lt-ltb (length name) (length (name ++ colon ∷ rest)) (omega arith), take-append-seam name (colon ∷ rest), drop-append-add name (colon ∷ rest) 1)
 
   definition-by : (l : Label) → Label.Typed l → (cs : List ℕ) → membersOf (l .categories) ≡ cs → named es (Hierarchy (l .hierarchy)) Label.zeroLabel ≡ true
       → categoriesNamed es cs ≡ true
-      → labelIn es (nameFor es v (Hierarchy (l .hierarchy)) Label.zeroLabel ++ categoriesText es v colon cs) ≡ granted l
+      → labelInText es (nameFor es v (Hierarchy (l .hierarchy)) Label.zeroLabel ++ categoriesText es v colon cs) ≡ granted l
   unfolding categoriesText isNameByte isLetter composedOf categoriesRead
   definition-by l t [] m h e =
       let name = nameFor es v (Hierarchy (l .hierarchy)) Label.zeroLabel in
       let same : noCategories ≡ l .categories = grants-same noCategories (l .categories) (ap (λ (cs : List ℕ). categoriesRead es noCategories (categoryNames es v cs)) (sym m) ∙ categories-back (l .categories) (t .length-is) (t .word) (ap (categoriesNamed es) m ∙ e)) in
-      ap (labelIn es) (append-nil name) ∙ label-single name (name-without es good colon refl (Hierarchy (l .hierarchy)) Label.zeroLabel v h)
+      ap (labelInText es) (append-nil name) ∙ label-single name (name-without es good colon refl (Hierarchy (l .hierarchy)) Label.zeroLabel v h)
       ∙ single-back es good (l .hierarchy) Label.zeroLabel v h ∙ ap (λ (ws : List ℕ). granted (Label.labelOf (l .hierarchy) ws)) same
   definition-by l t (c ∷ cs) m h e =
       let name = nameFor es v (Hierarchy (l .hierarchy)) Label.zeroLabel in
@@ -205,7 +205,7 @@ module _ (es : List Entry) (good : Good es) (v : Variant) where
       ∙ ap (λ (a : Answer ℕ). andThen a (λ (h : ℕ). andThen (categoriesRead es noCategories (split comma rest)) (λ (ws : List ℕ). granted (Label.labelOf h ws)))) (hierarchy-back es good (l .hierarchy) Label.zeroLabel v h)
       ∙ ap (λ (a : Answer (List ℕ)). andThen a (λ (ws : List ℕ). granted (Label.labelOf (l .hierarchy) ws))) set
 
-  definition-back : (l : Label) → Label.Typed l → definitionNamed es l ≡ true → labelIn es (definitionText es v l) ≡ granted l
+  definition-back : (l : Label) → Label.Typed l → definitionNamed es l ≡ true → labelInText es (definitionText es v l) ≡ granted l
   unfolding definitionNamed definitionText
   definition-back l t e =
       let h = named es (Hierarchy (l .hierarchy)) Label.zeroLabel in
@@ -213,12 +213,12 @@ module _ (es : List Entry) (good : Good es) (v : Variant) where
       definition-by l t (membersOf (l .categories)) refl (first-true h cs e) (second-true h cs e)
 
   -- what is written of a label, in whatever form, says that label
-  pub label-back : (form : Form) (l : Label) → Label.Typed l → namedIn es form l ≡ true → labelIn es (textIn es form v l) ≡ granted l
+  pub label-back : (form : Form) (l : Label) → Label.Typed l → namedIn es form l ≡ true → labelInText es (textIn es form v l) ≡ granted l
   unfolding namedIn textIn isNameByte isLetter
   label-back Definition l t e = definition-back l t e
   label-back Alias l t e = go (named es WholeLabel l) refl e
     where
       go : (p : Bool) → named es WholeLabel l ≡ p → cond p true (definitionNamed es l) ≡ true
-          → labelIn es (cond p (nameFor es v WholeLabel l) (definitionText es v l)) ≡ granted l
+          → labelInText es (cond p (nameFor es v WholeLabel l) (definitionText es v l)) ≡ granted l
       go true h f = label-single (nameFor es v WholeLabel l) (name-without es good colon refl WholeLabel l v h) ∙ alias-back es good l v t h
       go false h f = definition-back l t f

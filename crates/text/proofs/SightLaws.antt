@@ -1,4 +1,4 @@
--- What is read is valid and in sight, and every refusal is the plain 22. Assumes nothing.
+-- What is read is valid and in sight, and every refusal is the plain 22.
 use mathlib.Core.Bool.{Bool, true, false, cond, not}
 use mathlib.Core.List.{List, [], _∷_}
 use mathlib.Core.Option.{Option, none, some}
@@ -7,16 +7,16 @@ use Prim.Native.Nat.{ℕ, _+_, _≤_}
 use native.Mathlib.Omega.{arith}
 use lib.Dec.{ltb}
 use lib.ListN.{drop, length, take}
-use Rattle.label.specs.Answer.{Answer, andThen, granted, refused, require}
+use Rattle.common.specs.Answer.{Answer, andThen, granted, refused, require}
 use Rattle.label.specs.Caller.{callerValid, seesOf}
-use Rattle.label.specs.Index.{firstFrom}
+use Rattle.common.specs.Index.{firstFrom}
 use Rattle.label.specs.Label
 use Rattle.label.specs.Words.{includesOf, singleOf, unionOf}
 use Rattle.label.specs.declared.Label.{Label}
 use Rattle.label.specs.declared.caller.Caller.{Caller}
-use Rattle.label.proofs.AnswerLaws.{grant-passed, grant-told, grants-same}
+use Rattle.common.proofs.AnswerLaws.{grant-passed, grant-told, grants-same}
 use Rattle.label.proofs.LabelLaws.{hierarchy-valid}
-use Rattle.label.proofs.SearchLaws.{first-least}
+use Rattle.common.proofs.SearchLaws.{first-least}
 use Rattle.range.specs.Range
 use Rattle.range.specs.declared.Range.{Range}
 use Rattle.range.proofs.RangeLaws.{parts-valid}
@@ -29,7 +29,7 @@ use Rattle.hexline.proofs.EntryLaws.{hierarchy-small, valid-parts}
 use Rattle.alias.specs.Lines.{entryAt}
 use Rattle.alias.specs.Lookup.{calledOf, findOf}
 use Rattle.alias.proofs.TableLaws.{Good}
-use Rattle.text.specs.Read.{beginsWith, categoriesRead, categoryBy, categoryNamed, composedOf, endsOf, entryNamed, foundEntry, hierarchyBy, hierarchyNamed, labelBy, labelIn, labelNamed, labelSeen, noCategories, rangeFrom, readLabelOf, readRangeOf}
+use Rattle.text.specs.Read.{beginsWith, categoriesRead, categoryBy, categoryNamed, composedOf, endsOf, entryNamed, foundEntry, hierarchyBy, hierarchyNamed, labelBy, labelInText, labelNamed, labelSeen, noCategories, rangeFrom, readLabelText, readRangeText}
 use Rattle.text.specs.Write.{colon, comma, highMarker, lowMarker}
 
 -- ---- the plain refusal
@@ -110,19 +110,19 @@ module _ (es : List Entry) where
       plain-then (hierarchyNamed es name) _ (plain-hierarchy name)
       (λ h. plain-then (categoriesRead es noCategories (split comma names)) _ (plain-categories noCategories (split comma names)) (λ ws. plain-grant (Label.labelOf h ws)))
 
-  plain-label : (text : List ℕ) → Plain (labelIn es text)
-  unfolding labelIn
+  plain-label : (text : List ℕ) → Plain (labelInText es text)
+  unfolding labelInText
   plain-label text =
       let i = indexOf colon text in
       plain-cond (ltb i (length text)) _ _ (plain-composed (take i text) (drop (i + 1) text)) (plain-named text)
 
   plain-seen : (s : Caller) (text : List ℕ) → Plain (labelSeen es s text)
   unfolding labelSeen
-  plain-seen s text = plain-then (labelIn es text) _ (plain-label text) (λ l. plain-require (seesOf s l) _ (plain-grant l))
+  plain-seen s text = plain-then (labelInText es text) _ (plain-label text) (λ l. plain-require (seesOf s l) _ (plain-grant l))
 
   -- every refusal of a label is the plain 22
-  pub label-plain : (s : Caller) (text : List ℕ) → Plain (readLabelOf es s text)
-  unfolding readLabelOf
+  pub label-plain : (s : Caller) (text : List ℕ) → Plain (readLabelText es s text)
+  unfolding readLabelText
   label-plain s text = plain-require (callerValid s) _ (plain-seen s text)
 
   plain-from : (s : Caller) (low : Label) (text : List ℕ) → Plain (rangeFrom es s low text)
@@ -138,8 +138,8 @@ module _ (es : List Entry) where
       (λ low. plain-require (beginsWith highMarker (drop n text)) _ (plain-from s low (drop (length highMarker) (drop n text))))
 
   -- every refusal of a range is the plain 22
-  pub range-plain : (s : Caller) (text : List ℕ) → Plain (readRangeOf es s text)
-  unfolding readRangeOf
+  pub range-plain : (s : Caller) (text : List ℕ) → Plain (readRangeText es s text)
+  unfolding readRangeText
   range-plain s text = plain-require (callerValid s) _ (plain-require (beginsWith lowMarker text) _ (plain-ends s (drop (length lowMarker) text)))
 
 -- ---- what is granted
@@ -204,8 +204,8 @@ module _ (es : List Entry) (good : Good es) where
       by (Category c) m g e q = let z : _≡_ {A = ℕ} 0 1 = cc in absurd (omega arith)
       by WholeLabel m g e q = let z : _≡_ {A = ℕ} 0 1 = cc in absurd (omega arith)
 
-  label-valid : (text : List ℕ) (l : Label) → labelIn es text ≡ granted l → Label.validOf l ≡ true
-  unfolding labelIn
+  label-valid : (text : List ℕ) (l : Label) → labelInText es text ≡ granted l → Label.validOf l ≡ true
+  unfolding labelInText
   label-valid text l h = go (ltb (indexOf colon text) (length text)) h
     where
       go : (t : Bool) → cond t (composedOf es (take (indexOf colon text) text) (drop (indexOf colon text + 1) text)) (labelNamed es text) ≡ granted l → Label.validOf l ≡ true
@@ -215,12 +215,12 @@ module _ (es : List Entry) (good : Good es) where
   seen-sight : (s : Caller) (text : List ℕ) (l : Label) → labelSeen es s text ≡ granted l → InSight s l
   unfolding labelSeen
   seen-sight s text l h =
-      let x = followed (labelIn es text) (λ (l : Label). require (seesOf s l) 22 (granted l)) l h in
+      let x = followed (labelInText es text) (λ (l : Label). require (seesOf s l) 22 (granted l)) l h in
       let t = grant-told (seesOf s (x .first)) 22 l (x .first) (sym (x .then-is)) in
       record { valid = ap Label.validOf (t .1) ∙ label-valid text (x .first) (x .first-is); seen = ap (seesOf s) (t .1) ∙ t .0 }
 
-  pub label-sight : (s : Caller) (text : List ℕ) (l : Label) → readLabelOf es s text ≡ granted l → InSight s l
-  unfolding readLabelOf
+  pub label-sight : (s : Caller) (text : List ℕ) (l : Label) → readLabelText es s text ≡ granted l → InSight s l
+  unfolding readLabelText
   label-sight s text l h = seen-sight s text l (sym (grant-passed (callerValid s) 22 l (labelSeen es s text) (sym h) .1))
 
   from-sight : (s : Caller) (low : Label) (text : List ℕ) (x : Range) → InSight s low → rangeFrom es s low text ≡ granted x → RangeInSight s x
@@ -244,8 +244,8 @@ module _ (es : List Entry) (good : Good es) where
       let y = followed (labelSeen es s (take n text)) (λ (low : Label). require (beginsWith highMarker (drop n text)) 22 (rangeFrom es s low rest)) x h in
       from-sight s (y .first) rest x (seen-sight s (take n text) (y .first) (y .first-is)) (sym (grant-passed (beginsWith highMarker (drop n text)) 22 x (rangeFrom es s (y .first) rest) (sym (y .then-is)) .1))
 
-  pub range-sight : (s : Caller) (text : List ℕ) (x : Range) → readRangeOf es s text ≡ granted x → RangeInSight s x
-  unfolding readRangeOf
+  pub range-sight : (s : Caller) (text : List ℕ) (x : Range) → readRangeText es s text ≡ granted x → RangeInSight s x
+  unfolding readRangeText
   range-sight s text x h =
       let ends = drop (length lowMarker) text in
       let a = grant-passed (callerValid s) 22 x (require (beginsWith lowMarker text) 22 (endsOf es s ends)) (sym h) .1 in

@@ -1,25 +1,25 @@
--- What follows a table that was tested, and a label that may be shown. Assumes nothing.
+-- What follows a table that was tested, and a label that may be shown.
 use mathlib.Core.Bool.{Bool, _&&_}
 use mathlib.Core.List.{List}
 use mathlib.Core.Path.{_≡_, sym, ap, _∙_}
 use Prim.Native.Nat.{ℕ, _+_}
 use lib.ListN.{take}
-use Rattle.label.specs.Answer.{Answer, Answered, andThen, require}
+use Rattle.common.specs.Answer.{Answer, Answered, andThen, require}
 use Rattle.label.specs.Caller.{callerValid, seesOf}
 use Rattle.label.specs.declared.Label.{Label}
 use Rattle.label.specs.declared.caller.Caller.{Caller}
-use Rattle.label.specs.declared.answer.Outcome.{Outcome}
-use Rattle.label.specs.declared.answer.Outcome.the-variants.{Granted}
-use Rattle.label.proofs.AnswerLaws.{grant-next, granted-is, require-then}
+use Rattle.common.specs.declared.answer.Outcome.{Outcome}
+use Rattle.common.specs.declared.answer.Outcome.the-variants.{Granted}
+use Rattle.common.proofs.AnswerLaws.{grant-next, granted-is, require-then}
 use Rattle.hexline.specs.declared.entry.Entry.{Entry}
 use Rattle.alias.specs.Lines.{entriesBy, entriesOf, linesOf, noLines}
-use Rattle.alias.specs.Table.{checkOf}
+use Rattle.alias.specs.Table.{checkTable}
 use Rattle.alias.specs.declared.LineStarts.{LineStarts}
 use Rattle.alias.proofs.TableLaws.{checked-lines}
 use Rattle.text.specs.Subject.{allowedOf, withTable}
 
 -- a table that is granted: the entries by its starts are its own
-pub table-next : {A : Type 0} (more : Bool) (bytes : List ℕ) {starts : List ℕ} {o : Outcome} {x : LineStarts} → Answered o x noLines (checkOf more bytes) → o ≡ Granted
+pub table-next : {A : Type 0} (more : Bool) (bytes : List ℕ) {starts : List ℕ} {o : Outcome} {x : LineStarts} → Answered o x noLines (checkTable more bytes) → o ≡ Granted
     → starts ≡ take (x .count + 1) (x .starts) → (answer : List Entry → Answer A) → withTable more bytes answer ≡ answer (entriesBy bytes starts)
 table-next more bytes {starts} {o} {x} h e s answer =
     grant-next h (λ (y : LineStarts). answer (entriesOf (linesOf bytes))) e

@@ -1,5 +1,5 @@
 -- What the writing of labels and ranges needs of its definitions: the names of entries where they stand, the measures of texts, the names of
--- categories one after another, and how a writer that measures first ends. Assumes nothing.
+-- categories one after another, and how a writer that measures first ends.
 use mathlib.Core.Bool.{Bool, true, false, cond, _&&_, and-assoc, and-true}
 use mathlib.Core.List.{List, [], _∷_, _++_, append-assoc, append-nil}
 use mathlib.Core.Option.{none, some}
@@ -8,13 +8,13 @@ use Prim.Native.Nat.{ℕ, suc, _+_, _*_, _≤_}
 use native.Mathlib.Omega.{arith}
 use lib.Dec.{leb}
 use lib.ListN.{length, length-append}
-use Rattle.label.specs.Answer.{granted, require}
-use Rattle.label.specs.Buffer.{lengthOf}
+use Rattle.common.specs.Answer.{granted, require}
+use Rattle.common.specs.Buffer.{lengthOf}
 use Rattle.label.specs.Label.{zeroLabel}
-use Rattle.label.specs.Words.{membersBelow, membersOf, nextOf, words}
+use Rattle.label.specs.Words.{membersBelow, membersOf, nextCategoryFrom, words}
 use Rattle.label.specs.declared.Label.{Label}
 use Rattle.label.proofs.ListingLaws.{all-listed, last-listed, members-front, next-listed, next-within}
-use Rattle.label.proofs.SearchLaws.{last-holds}
+use Rattle.common.proofs.SearchLaws.{last-holds}
 use Rattle.octets.specs.Bytes.{Put}
 use Rattle.octets.proofs.ByteLaws.{nothing-put, put-same-length, then-put}
 use Rattle.frame.specs.Frame.{bodyOf}
@@ -26,9 +26,9 @@ use Rattle.hexline.specs.declared.entry.Value.{Value}
 use Rattle.hexline.specs.declared.entry.Value.the-variants.{Category}
 use Rattle.hexline.proofs.StandingLaws.{abbreviation-stands, name-stands, span-length}
 use Rattle.alias.specs.Lines.{entriesBy, entryAt, lineAt, linesBy}
-use Rattle.alias.specs.Lookup.{lastOf, standsFor}
+use Rattle.alias.specs.Lookup.{lastEntryFor, standsFor}
 use Rattle.alias.proofs.LookupLaws.{entries-at, entries-length}
-use Rattle.text.specs.Measure.{Counted, maxCategories, measureOf, roomOf, writtenIn}
+use Rattle.text.specs.Internal.Measure.{MeasuredText, maxCategories, measureOf, roomOf, writtenIn}
 use Rattle.text.specs.Write.{categoriesNamed, categoriesText, colon, comma, nameFor, named, writtenName}
 use Rattle.text.specs.declared.Variant.{Variant}
 use Rattle.text.specs.declared.Variant.the-variants.{Names, Abbreviations}
@@ -66,13 +66,13 @@ pub record Whole (isNamed : Bool) (text : List ℕ) (most n : ℕ) : Type 0 wher
   pub at-most : n ≤ most
 
 module _ {isNamed : Bool} {text : List ℕ} {most : ℕ} where
-  pub counts : {n : ℕ} → Whole isNamed text most n → Counted isNamed text most (Bytes n)
+  pub counts : {n : ℕ} → Whole isNamed text most n → MeasuredText isNamed text most (Bytes n)
   counts {n} w = record { measure = rw (w .named, w .count); at-most = λ m e. let q : n ≡ m = cc in let l = w .at-most in omega arith }
 
-  pub misses : isNamed ≡ false → Counted isNamed text most Missing
+  pub misses : isNamed ≡ false → MeasuredText isNamed text most Missing
   misses e = record { measure = rw e; at-most = λ m f. let z : _≡_ {A = ℕ} 0 1 = cc in absurd (omega arith) }
 
-  module _ {r : Measure} (t : Counted isNamed text most r) where
+  module _ {r : Measure} (t : MeasuredText isNamed text most r) where
     pub counted : {n : ℕ} → r ≡ Bytes n → Whole isNamed text most n
     counted {n} e = pick isNamed refl (ap measureOf (sym e) ∙ t .measure)
       where
@@ -99,9 +99,9 @@ module _ {isNamed : Bool} {text : List ℕ} {most : ℕ} where
 -- ---- the name for a value, by the line that the last entry for it stands in
 
 module _ (bytes starts : List ℕ) (v : Variant) (value : Value) (l : Label) where
-  module _ {k : ℕ} {line : List ℕ} (e : lastOf (entriesBy bytes starts) value l ≡ some k) (f : line ≡ lineAt (linesBy bytes starts) k) where
+  module _ {k : ℕ} {line : List ℕ} (e : lastEntryFor (entriesBy bytes starts) value l ≡ some k) (f : line ≡ lineAt (linesBy bytes starts) k) where
     pub name-found : nameFor (entriesBy bytes starts) v value l ≡ spanBytes (bodyOf line) (writtenIn v line)
-    unfolding nameFor lastOf
+    unfolding nameFor lastEntryFor
     name-found =
         let n = entries-length bytes starts in
         let u = last-holds (λ j. standsFor value l (entryAt (entriesBy bytes starts) j)) (length (entriesBy bytes starts)) k e .0 in
@@ -111,12 +111,12 @@ module _ (bytes starts : List ℕ) (v : Variant) (value : Value) (l : Label) whe
     name-length = rw name-found (span-length (bodyOf line) (writtenIn v line))
 
     pub name-counted : {s : Span} → s ≡ writtenIn v line
-        → Counted (named (entriesBy bytes starts) value l) (nameFor (entriesBy bytes starts) v value l) nameSize (Bytes (s .length))
+        → MeasuredText (named (entriesBy bytes starts) value l) (nameFor (entriesBy bytes starts) v value l) nameSize (Bytes (s .length))
     unfolding named
     name-counted {s} g = rw g (counts (record { named = rw e; count = sym name-length; at-most = written-small v line }))
 
-  module _ (e : lastOf (entriesBy bytes starts) value l ≡ none) where
-    pub name-missing : Counted (named (entriesBy bytes starts) value l) (nameFor (entriesBy bytes starts) v value l) nameSize Missing
+  module _ (e : lastEntryFor (entriesBy bytes starts) value l ≡ none) where
+    pub name-missing : MeasuredText (named (entriesBy bytes starts) value l) (nameFor (entriesBy bytes starts) v value l) nameSize Missing
     unfolding named
     name-missing = misses (rw e)
 
@@ -171,13 +171,13 @@ module _ (es : List Entry) (v : Variant) (ws : List ℕ) where
   unfolding categoriesNamed membersBelow
   named-none = refl
 
-  text-next : (c k : ℕ) → nextOf ws c ≡ some k
+  text-next : (c k : ℕ) → nextCategoryFrom ws c ≡ some k
       → textBelow es v ws (k + 1) ≡ textBelow es v ws c ++ (markAfter colon (membersBelow ws c) ∷ nameFor es v (Category k) zeroLabel)
   unfolding categoriesText
   text-next c k e =
       rw (next-listed ws c k e, text-append es v colon (membersBelow ws c) (k ∷ []), append-nil (nameFor es v (Category k) zeroLabel))
 
-  named-next : (c k : ℕ) → nextOf ws c ≡ some k
+  named-next : (c k : ℕ) → nextCategoryFrom ws c ≡ some k
       → categoriesNamed es (membersBelow ws (k + 1)) ≡ (categoriesNamed es (membersBelow ws c) && named es (Category k) zeroLabel)
   unfolding categoriesNamed
   named-next c k e =
@@ -212,7 +212,7 @@ module _ {es : List Entry} {v : Variant} {ws : List ℕ} where
   }
 
   module _ {total c : ℕ} (h : Measured es v ws total c) where
-    module _ {k : ℕ} (e : nextOf ws c ≡ some k) where
+    module _ {k : ℕ} (e : nextCategoryFrom ws c ≡ some k) where
       pub measured-next : {n : ℕ} → Whole (named es (Category k) zeroLabel) (nameFor es v (Category k) zeroLabel) nameSize n → Measured es v ws (total + (1 + n)) (k + 1)
       measured-next {n} w =
           let s = h .size in
@@ -233,11 +233,11 @@ module _ {es : List Entry} {v : Variant} {ws : List ℕ} where
             small = omega arith;
           }
 
-      pub measured-missing : {most : ℕ} → named es (Category k) zeroLabel ≡ false → Counted (categoriesNamed es (membersOf ws)) (textOf es v ws) most Missing
+      pub measured-missing : {most : ℕ} → named es (Category k) zeroLabel ≡ false → MeasuredText (categoriesNamed es (membersOf ws)) (textOf es v ws) most Missing
       measured-missing f =
           let u = next-within ws c k e .1 in misses (named-within es v ws (k + 1) (omega arith) (rw (named-next es v ws c k e, h .named, f)))
 
-    pub measured-past : nextOf ws c ≡ none → Measured es v ws total (words * 64)
+    pub measured-past : nextCategoryFrom ws c ≡ none → Measured es v ws total (words * 64)
     measured-past e =
         let s = h .size in
         let u = h .within in
@@ -245,7 +245,7 @@ module _ {es : List Entry} {v : Variant} {ws : List ℕ} where
         let f = last-listed ws c (words * 64) e u in
         record { size = s; within = omega arith; named = rw f (h .named); count = rw f (h .count); small = omega arith }
 
-    pub measured-all : words * 64 ≤ c → Counted (categoriesNamed es (membersOf ws)) (textOf es v ws) maxCategories (Bytes total)
+    pub measured-all : words * 64 ≤ c → MeasuredText (categoriesNamed es (membersOf ws)) (textOf es v ws) maxCategories (Bytes total)
     measured-all l =
         let s = h .size in
         let u = h .within in
@@ -267,7 +267,7 @@ module _ {es : List Entry} {v : Variant} {ws out : List ℕ} {at : ℕ} where
 
   module _ {past mark c : ℕ} {after : List ℕ} (h : PutBelow es v ws out at past mark c after) where
     module _ (room : at + length (textOf es v ws) ≤ length out) where
-      module _ {k : ℕ} (e : nextOf ws c ≡ some k) where
+      module _ {k : ℕ} (e : nextCategoryFrom ws c ≡ some k) where
         next-size : past + suc (length (nameFor es v (Category k) zeroLabel)) ≤ length out
         next-size =
             let s = h .size in
@@ -295,7 +295,7 @@ module _ {es : List Entry} {v : Variant} {ws out : List ℕ} {at : ℕ} where
               put = rw (text-next es v ws c k e, ← h .next-mark) (then-put (omega arith) (h .put) p);
             }
 
-    pub put-past : nextOf ws c ≡ none → PutBelow es v ws out at past mark (words * 64) after
+    pub put-past : nextCategoryFrom ws c ≡ none → PutBelow es v ws out at past mark (words * 64) after
     put-past e =
         let s = h .size in
         let f = last-listed ws c (words * 64) e (h .within) in

@@ -1,5 +1,4 @@
 pub mod Subject
 pub mod Write
 pub mod Read
-pub mod Measure
-pub mod Named
+pub mod Internal

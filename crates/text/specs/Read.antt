@@ -1,12 +1,12 @@
 -- Document 01, "Names and text": labels and ranges read from text. Malformed text, an unknown name and a label out of sight are the same plain 22.
--- Assumes nothing.
+--
 use mathlib.Core.Bool.{Bool, cond, not}
 use mathlib.Core.List.{List, [], _∷_}
 use mathlib.Core.Option.{Option, none, some}
 use Prim.Native.Nat.{ℕ, _+_}
 use lib.Dec.{ltb}
 use lib.ListN.{drop, length, replicate, take}
-use Rattle.label.specs.Answer.{Answer, andThen, granted, refused, require}
+use Rattle.common.specs.Answer.{Answer, andThen, granted, refused, require}
 use Rattle.label.specs.Caller.{callerValid, seesOf}
 use Rattle.label.specs.Label
 use Rattle.label.specs.Words.{includesOf, singleOf, unionOf, words}
@@ -80,18 +80,18 @@ composedOf es name names =
     (λ (h : ℕ). andThen (categoriesRead es noCategories (split comma names)) (λ (ws : List ℕ). granted (Label.labelOf h ws)))
 
 -- the label that a text says: one name, or where it has a `:` what stands on its two sides
-unfoldable pub labelIn : List Entry → List ℕ → Answer Label
-labelIn es text =
+unfoldable pub labelInText : List Entry → List ℕ → Answer Label
+labelInText es text =
     cond (ltb (indexOf colon text) (length text)) (composedOf es (take (indexOf colon text) text) (drop (indexOf colon text + 1) text))
     (labelNamed es text)
 
 -- the label that a text says, where the subject may see it
 unfoldable pub labelSeen : List Entry → Caller → List ℕ → Answer Label
-labelSeen es c text = andThen (labelIn es text) (λ (l : Label). require (seesOf c l) 22 (granted l))
+labelSeen es c text = andThen (labelInText es text) (λ (l : Label). require (seesOf c l) 22 (granted l))
 
 -- reading a label: a bad subject first
-unfoldable pub readLabelOf : List Entry → Caller → List ℕ → Answer Label
-readLabelOf es c text = require (callerValid c) 22 (labelSeen es c text)
+unfoldable pub readLabelText : List Entry → Caller → List ℕ → Answer Label
+readLabelText es c text = require (callerValid c) 22 (labelSeen es c text)
 
 -- ---- ranges
 
@@ -114,5 +114,5 @@ endsOf es c text =
     (λ (low : Label). behind highMarker (drop (indexOf blank text) text) (λ (high : List ℕ). rangeFrom es c low high))
 
 -- reading a range
-unfoldable pub readRangeOf : List Entry → Caller → List ℕ → Answer Range
-readRangeOf es c text = require (callerValid c) 22 (behind lowMarker text (λ (ends : List ℕ). endsOf es c ends))
+unfoldable pub readRangeText : List Entry → Caller → List ℕ → Answer Range
+readRangeText es c text = require (callerValid c) 22 (behind lowMarker text (λ (ends : List ℕ). endsOf es c ends))

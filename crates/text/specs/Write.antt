@@ -1,4 +1,4 @@
--- Document 01, "Names and text": labels and ranges as text. Assumes nothing.
+-- Document 01, "Names and text": labels and ranges as text.
 use mathlib.Core.Bool.{Bool, true, false, cond, _&&_}
 use mathlib.Core.List.{List, [], _∷_, _++_}
 use mathlib.Core.Option.{Option, none, some}
@@ -6,8 +6,8 @@ use mathlib.Core.Path.{_≡_}
 use Prim.Native.Nat.{ℕ}
 use lib.Dec.{leb}
 use lib.ListN.{length}
-use Rattle.label.specs.Answer.{Answer, andThen, granted, isGranted, refused, require}
-use Rattle.label.specs.Buffer.{WrittenTo, lengthOf}
+use Rattle.common.specs.Answer.{Answer, andThen, granted, isGranted, refused, require}
+use Rattle.common.specs.Buffer.{WrittenTo, lengthOf}
 use Rattle.label.specs.Caller.{callerValid, seesOf}
 use Rattle.label.specs.Label
 use Rattle.label.specs.Words.{membersOf}
@@ -21,7 +21,7 @@ use Rattle.hexline.specs.declared.entry.Entry.{Entry}
 use Rattle.hexline.specs.declared.entry.Value.{Value}
 use Rattle.hexline.specs.declared.entry.Value.the-variants.{Hierarchy, Category, WholeLabel}
 use Rattle.alias.specs.Lines.{entryAt}
-use Rattle.alias.specs.Lookup.{lastOf}
+use Rattle.alias.specs.Lookup.{lastEntryFor}
 use Rattle.text.specs.declared.Form.{Form}
 use Rattle.text.specs.declared.Form.the-variants.{Definition, Alias}
 use Rattle.text.specs.declared.RangeWritten.{RangeWritten}
@@ -61,7 +61,7 @@ nameOr v es (some k) = writtenName v (entryAt es k)
 
 -- the name for a value: that of the last entry for it, and nothing where there is none
 unfoldable pub nameFor : List Entry → Variant → Value → Label → List ℕ
-nameFor es v value l = nameOr v es (lastOf es value l)
+nameFor es v value l = nameOr v es (lastEntryFor es value l)
 
 abbrev pub isSome : Option ℕ → Bool
 isSome none = false
@@ -69,7 +69,7 @@ isSome (some k) = true
 
 -- whether a value has a name
 unfoldable pub named : List Entry → Value → Label → Bool
-named es value l = isSome (lastOf es value l)
+named es value l = isSome (lastEntryFor es value l)
 
 -- ---- definition form: hierarchy name, and if there are categories `:` and their names joined by `,`
 

@@ -4,7 +4,7 @@ mod name;
 pub mod read;
 pub mod write;
 
-use label::answer::Written;
+use common::answer::Written;
 
 // Whether hierarchy and categories are named, or a whole label where it has a name.
 pub enum Form {

@@ -1,6 +1,6 @@
 // Names of entries: how long they are, and put in a buffer.
 use crate::Variant;
-use alias::Found;
+use alias::FoundEntry;
 use alias::lookup;
 use hexline::entry::Span;
 use hexline::entry::Value;
@@ -13,7 +13,7 @@ ghost use Rattle.frame.specs.Frame.{bodyOf};
 ghost use Rattle.hexline.specs.Entry.{nameSize, spanBytes};
 ghost use Rattle.octets.specs.Bytes.{Put};
 ghost use Rattle.alias.specs.Lines.{entriesBy};
-ghost use Rattle.text.specs.Measure.{Counted, writtenIn};
+ghost use Rattle.text.specs.Internal.Measure.{MeasuredText, writtenIn};
 ghost use Rattle.text.specs.Write.{nameFor, named};
 
 // How many bytes a text has, or that a name is missing.
@@ -57,15 +57,15 @@ pub(crate) fn measure_name(
     value: Value,
     l: Label,
 ) -> Measure
-    ensures { λ r. ⌜ Counted (named (entriesBy (now (table .entry)) (now (starts .entry))) value l) (nameFor (entriesBy (now (table .entry)) (now (starts .entry))) v value l) nameSize r ⌝ }
+    ensures { λ r. ⌜ MeasuredText (named (entriesBy (now (table .entry)) (now (starts .entry))) value l) (nameFor (entriesBy (now (table .entry)) (now (starts .entry))) v value l) nameSize r ⌝ }
 {
     let found = lookup::last(table, starts, value, l);
     match found {
-        Found::At(k) => {
+        FoundEntry::At(k) => {
             let s = written_in(lookup::line(table, starts, k), v);
             Measure::Bytes(s.length)
         }
-        Found::Nothing => Measure::Missing,
+        FoundEntry::Nothing => Measure::Missing,
     }
 }
 
@@ -84,10 +84,10 @@ pub(crate) fn put_name(
 {
     let found = lookup::last(table, starts, value, l);
     match found {
-        Found::At(k) => {
+        FoundEntry::At(k) => {
             let line = lookup::line(table, starts, k);
             put_span(out, at, line, written_in(line, v))
         }
-        Found::Nothing => at,
+        FoundEntry::Nothing => at,
     }
 }

@@ -1,28 +1,28 @@
 // Labels and ranges read from text. Whatever is wrong with a text is the same plain 22.
-use alias::Found;
+use alias::FoundEntry;
 use alias::lookup;
+use common::answer::Outcome;
+use common::errno::Errno;
 use hexline::entry::Value;
 use hexline::parts;
 use label::Label;
 use label::LabelAnswer;
-use label::answer::Outcome;
 use label::caller;
 use label::caller::Caller;
 use label::components;
-use label::errno::Errno;
 use label::words;
 use label::words::WORDS;
 use octets::BLANK;
 use range::Range;
 use range::RangeAnswer;
 ghost use mathlib.Core.Path.{_≡_};
-ghost use Rattle.label.specs.Answer.{Answered};
+ghost use Rattle.common.specs.Answer.{Answered};
 ghost use Rattle.label.specs.Label.{zeroLabel};
 ghost use Rattle.range.specs.Range.{zeroRange};
 ghost use Rattle.octets.specs.Bytes.{split};
 ghost use Rattle.alias.specs.Lines.{entriesBy};
-ghost use Rattle.text.specs.Named.{addedTo, valueNamed, valueNamedOf};
-ghost use Rattle.text.specs.Read.{beginsWith, categoriesRead, composedOf, endsOf, labelIn, labelNamed, labelSeen, noCategories, plain, rangeFrom, readLabelOf, readRangeOf};
+ghost use Rattle.text.specs.Internal.Named.{addedTo, valueNamed, valueNamedOf};
+ghost use Rattle.text.specs.Read.{beginsWith, categoriesRead, composedOf, endsOf, labelInText, labelNamed, labelSeen, noCategories, plain, rangeFrom, readLabelText, readRangeText};
 ghost use Rattle.text.specs.Subject.{withTable};
 ghost use Rattle.text.specs.Write.{comma};
 
@@ -72,8 +72,8 @@ fn value_named(table: &[u8], starts: &[usize], text: &[u8]) -> Named
 {
     let found = lookup::find(table, starts, text);
     match found {
-        Found::At(k) => Named::As(parts::value(lookup::line(table, starts, k))),
-        Found::Nothing => Named::Nothing,
+        FoundEntry::At(k) => Named::As(parts::value(lookup::line(table, starts, k))),
+        FoundEntry::Nothing => Named::Nothing,
     }
 }
 
@@ -82,7 +82,7 @@ fn label_named(table: &[u8], starts: &[usize], text: &[u8]) -> LabelAnswer
     ensures { λ r. ⌜ Answered (r .outcome) (r .label) zeroLabel (labelNamed (entriesBy (now (table .entry)) (now (starts .entry))) (now (text .entry))) ⌝ }
 {
     let found = lookup::find(table, starts, text);
-    let Found::At(k) = found else {
+    let FoundEntry::At(k) = found else {
         return no_label();
     };
     let line = lookup::line(table, starts, k);
@@ -183,7 +183,7 @@ fn composed(table: &[u8], starts: &[usize], name: &[u8], names: &[u8]) -> LabelA
 
 // The label that a text says.
 fn label_in(table: &[u8], starts: &[usize], text: &[u8]) -> LabelAnswer
-    ensures { λ r. ⌜ Answered (r .outcome) (r .label) zeroLabel (labelIn (entriesBy (now (table .entry)) (now (starts .entry))) (now (text .entry))) ⌝ }
+    ensures { λ r. ⌜ Answered (r .outcome) (r .label) zeroLabel (labelInText (entriesBy (now (table .entry)) (now (starts .entry))) (now (text .entry))) ⌝ }
 {
     let i = octets::index_of(b':', text);
     if i < text.len() {
@@ -214,7 +214,7 @@ fn label_seen(table: &[u8], starts: &[usize], caller: Caller, text: &[u8]) -> La
 
 // Reads a label by a table that was tested.
 fn read_checked(table: &[u8], starts: &[usize], caller: Caller, text: &[u8]) -> LabelAnswer
-    ensures { λ r. ⌜ Answered (r .outcome) (r .label) zeroLabel (readLabelOf (entriesBy (now (table .entry)) (now (starts .entry))) caller (now (text .entry))) ⌝ }
+    ensures { λ r. ⌜ Answered (r .outcome) (r .label) zeroLabel (readLabelText (entriesBy (now (table .entry)) (now (starts .entry))) caller (now (text .entry))) ⌝ }
 {
     if label::valid(caller.label) {
         return label_seen(table, starts, caller, text);
@@ -224,7 +224,7 @@ fn read_checked(table: &[u8], starts: &[usize], caller: Caller, text: &[u8]) -> 
 
 // Reads a label from a text.
 pub fn read_label(table: &[u8], more: bool, caller: Caller, text: &[u8]) -> LabelAnswer
-    ensures { λ r. ⌜ Answered (r .outcome) (r .label) zeroLabel (withTable more (now (table .entry)) (λ es. readLabelOf es caller (now (text .entry)))) ⌝ }
+    ensures { λ r. ⌜ Answered (r .outcome) (r .label) zeroLabel (withTable more (now (table .entry)) (λ es. readLabelText es caller (now (text .entry)))) ⌝ }
 {
     let t = alias::check(table, more);
     let outcome = t.outcome;
@@ -303,7 +303,7 @@ fn ends(table: &[u8], starts: &[usize], caller: Caller, text: &[u8]) -> RangeAns
 
 // Reads a range by a table that was tested.
 fn read_range_checked(table: &[u8], starts: &[usize], caller: Caller, text: &[u8]) -> RangeAnswer
-    ensures { λ r. ⌜ Answered (r .outcome) (r .range) zeroRange (readRangeOf (entriesBy (now (table .entry)) (now (starts .entry))) caller (now (text .entry))) ⌝ }
+    ensures { λ r. ⌜ Answered (r .outcome) (r .range) zeroRange (readRangeText (entriesBy (now (table .entry)) (now (starts .entry))) caller (now (text .entry))) ⌝ }
 {
     if label::valid(caller.label) & begins_with(b"-L ", text) {
         return ends(table, starts, caller, octets::rest(text, 3));
@@ -313,7 +313,7 @@ fn read_range_checked(table: &[u8], starts: &[usize], caller: Caller, text: &[u8
 
 // Reads a range from a text.
 pub fn read_range(table: &[u8], more: bool, caller: Caller, text: &[u8]) -> RangeAnswer
-    ensures { λ r. ⌜ Answered (r .outcome) (r .range) zeroRange (withTable more (now (table .entry)) (λ es. readRangeOf es caller (now (text .entry)))) ⌝ }
+    ensures { λ r. ⌜ Answered (r .outcome) (r .range) zeroRange (withTable more (now (table .entry)) (λ es. readRangeText es caller (now (text .entry)))) ⌝ }
 {
     let t = alias::check(table, more);
     let outcome = t.outcome;

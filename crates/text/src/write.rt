@@ -7,15 +7,15 @@ use crate::name::Measure;
 use crate::name::measure_name;
 use crate::name::put_name;
 use alias::lookup;
+use common::answer::Outcome;
+use common::answer::Written;
+use common::errno::Errno;
 use hexline::entry::Value;
 use label::Label;
-use label::answer::Outcome;
-use label::answer::Written;
 use label::caller;
 use label::caller::Caller;
-use label::errno::Errno;
 use label::words;
-use label::words::Found;
+use label::words::FoundCategory;
 use label::words::WORDS;
 use range::Range;
 ghost use mathlib.Core.Path.{_≡_};
@@ -23,14 +23,14 @@ ghost use mathlib.Core.List.{_∷_, _++_};
 ghost use mathlib.Core.Bool.{cond};
 ghost use Prim.Native.Nat.{_+_, _*_, _<_, _≤_};
 ghost use lib.ListN.{length};
-ghost use Rattle.label.specs.Answer.{Answered, granted, isGranted, require};
-ghost use Rattle.label.specs.Buffer.{WrittenTo, writtenOf};
+ghost use Rattle.common.specs.Answer.{Answered, granted, isGranted, require};
+ghost use Rattle.common.specs.Buffer.{WrittenTo, writtenOf};
 ghost use Rattle.label.specs.Label.{zeroLabel};
 ghost use Rattle.label.specs.Words.{membersOf};
 ghost use Rattle.hexline.specs.declared.entry.Value.the-variants.{Category};
 ghost use Rattle.octets.specs.Bytes.{Put};
 ghost use Rattle.alias.specs.Lines.{entriesBy};
-ghost use Rattle.text.specs.Measure.{Counted, maxCategories, maxLabel, maxRange, measureOf, rangeNamed, rangeText, roomOf, statusOf};
+ghost use Rattle.text.specs.Internal.Measure.{MeasuredText, maxCategories, maxLabel, maxRange, measureOf, rangeNamed, rangeText, roomOf, statusOf};
 ghost use Rattle.text.specs.Subject.{allowedOf, withTable};
 ghost use Rattle.text.specs.Write.{RangeWrittenTo, allNamed, categoriesNamed, categoriesText, colon, definitionNamed, definitionText, labelText, nameFor, writeLabelOf, writeRangeOf};
 
@@ -44,14 +44,14 @@ fn measure_categories(
     v: Variant,
     categories: [u64; WORDS],
 ) -> Measure
-    ensures { λ r. ⌜ Counted (categoriesNamed (entriesBy (now (table .entry)) (now (starts .entry))) (membersOf categories)) (categoriesText (entriesBy (now (table .entry)) (now (starts .entry))) v colon (membersOf categories)) maxCategories r ⌝ }
+    ensures { λ r. ⌜ MeasuredText (categoriesNamed (entriesBy (now (table .entry)) (now (starts .entry))) (membersOf categories)) (categoriesText (entriesBy (now (table .entry)) (now (starts .entry))) v colon (membersOf categories)) maxCategories r ⌝ }
 {
     let mut total = 0;
     let mut c: u64 = 0;
     while c < CATEGORIES {
         let next = words::next(categories, c);
         match next {
-            Found::At(k) => {
+            FoundCategory::At(k) => {
                 let m = measure_name(table, starts, v, Value::Category(k), label::zero());
                 match m {
                     Measure::Bytes(n) => {
@@ -63,7 +63,7 @@ fn measure_categories(
                     }
                 }
             }
-            Found::Nothing => {
+            FoundCategory::Nothing => {
                 c = CATEGORIES;
             }
         }
@@ -114,12 +114,12 @@ fn put_categories(
     while c < CATEGORIES {
         let next = words::next(categories, c);
         match next {
-            Found::At(k) => {
+            FoundCategory::At(k) => {
                 past = put_category(table, starts, v, mark, k, out, past);
                 mark = b',';
                 c = k + 1;
             }
-            Found::Nothing => {
+            FoundCategory::Nothing => {
                 c = CATEGORIES;
             }
         }
@@ -129,7 +129,7 @@ fn put_categories(
 
 // How long the definition form of a label is.
 fn measure_definition(table: &[u8], starts: &[usize], v: Variant, l: Label) -> Measure
-    ensures { λ r. ⌜ Counted (definitionNamed (entriesBy (now (table .entry)) (now (starts .entry))) l) (definitionText (entriesBy (now (table .entry)) (now (starts .entry))) v l) maxLabel r ⌝ }
+    ensures { λ r. ⌜ MeasuredText (definitionNamed (entriesBy (now (table .entry)) (now (starts .entry))) l) (definitionText (entriesBy (now (table .entry)) (now (starts .entry))) v l) maxLabel r ⌝ }
 {
     let hierarchy = measure_name(
         table,
@@ -175,7 +175,7 @@ fn put_definition(
 
 // How long the text of a label is.
 fn measure_label(table: &[u8], starts: &[usize], style: Style, l: Label) -> Measure
-    ensures { λ r. ⌜ Counted (allNamed (entriesBy (now (table .entry)) (now (starts .entry))) style l) (labelText (entriesBy (now (table .entry)) (now (starts .entry))) style l) maxLabel r ⌝ }
+    ensures { λ r. ⌜ MeasuredText (allNamed (entriesBy (now (table .entry)) (now (starts .entry))) style l) (labelText (entriesBy (now (table .entry)) (now (starts .entry))) style l) maxLabel r ⌝ }
 {
     let form = style.form;
     let v = style.variant;
@@ -210,8 +210,16 @@ fn put_label(
         Form::Alias => {
             let alias = lookup::last(table, starts, Value::WholeLabel, l);
             match alias {
-                alias::Found::At(_) => put_name(table, starts, v, Value::WholeLabel, l, out, at),
-                alias::Found::Nothing => put_definition(table, starts, v, l, out, at),
+                alias::FoundEntry::At(_) => put_name(
+                    table,
+                    starts,
+                    v,
+                    Value::WholeLabel,
+                    l,
+                    out,
+                    at,
+                ),
+                alias::FoundEntry::Nothing => put_definition(table, starts, v, l, out, at),
             }
         }
     }
@@ -305,7 +313,7 @@ pub fn write_label(
 
 // How long the text of a range is, with both ends or with the low end only.
 fn measure_range(table: &[u8], starts: &[usize], style: Style, x: Range, whole: bool) -> Measure
-    ensures { λ r. ⌜ Counted (rangeNamed (entriesBy (now (table .entry)) (now (starts .entry))) style x whole) (rangeText (entriesBy (now (table .entry)) (now (starts .entry))) style x whole) maxRange r ⌝ }
+    ensures { λ r. ⌜ MeasuredText (rangeNamed (entriesBy (now (table .entry)) (now (starts .entry))) style x whole) (rangeText (entriesBy (now (table .entry)) (now (starts .entry))) style x whole) maxRange r ⌝ }
 {
     let low = measure_label(table, starts, style, x.low);
     let Measure::Bytes(m) = low else {

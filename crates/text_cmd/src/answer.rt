@@ -1,9 +1,9 @@
 // Answers, as they are printed.
+use common::answer::Outcome;
+use common::answer::Written;
+use common::errno::Errno;
 use console::format;
 use label::LabelAnswer;
-use label::answer::Outcome;
-use label::answer::Written;
-use label::errno::Errno;
 use libc::STDOUT_FILENO;
 use range::RangeAnswer;
 

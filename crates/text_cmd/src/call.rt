@@ -2,8 +2,8 @@
 use crate::answer;
 use crate::kept::Kept;
 use crate::kept::MAX_CAPACITY;
-use label::answer::Outcome;
-use label::answer::granted;
+use common::answer::Outcome;
+use common::answer::granted;
 use label::caller::Caller;
 use text::Form;
 use text::Style;

@@ -1,8 +1,8 @@
 use mathlib.Core.List.{List}
 use mathlib.Core.Path.{refl, ap}
 use Prim.Native.Nat.{ℕ, _+_}
-use Rattle.label.proofs.AnswerLaws.{answers-refusal}
-use Rattle.label.proofs.IndexLaws.{tabulate-one}
+use Rattle.common.proofs.AnswerLaws.{answers-refusal}
+use Rattle.common.proofs.IndexLaws.{tabulate-one}
 use Rattle.alias.specs.Lines.{maxLines, noLines}
 use Rattle.alias.specs.declared.LineStarts.{LineStarts}
 use Rattle.alias.proofs.bad.Statement.{statement}

@@ -1,13 +1,13 @@
 use borrow.Author.Needs.{needs}
 use mathlib.Core.Path.{_≡_, refl, sym, ap, _∙_}
-use Rattle.label.proofs.AnswerLaws.{answers-grant}
+use Rattle.common.proofs.AnswerLaws.{answers-grant}
 use Rattle.alias.specs.Lines.{entriesBy, noLines}
-use Rattle.alias.specs.Lookup.{foundOf}
+use Rattle.alias.specs.Lookup.{foundEntryOf}
 use Rattle.alias.specs.Table.{firstRepeat}
-use Rattle.alias.specs.Walk.{linesFrom}
-use Rattle.alias.specs.declared.Found.{Found}
+use Rattle.alias.specs.Internal.Walk.{linesFrom}
+use Rattle.alias.specs.declared.FoundEntry.{FoundEntry}
 use Rattle.alias.specs.declared.LineStarts.{LineStarts}
-use Rattle.alias.proofs.WalkLaws.{check-granted, check-repeat, check-stopped, startsTo, walk-keys}
+use Rattle.alias.proofs.WalkLaws.{check-granted, check-repeat, check-stopped, startsTo, walk-hashes}
 use Rattle.alias.proofs.check.Statement.{statement}
 use Rattle.alias.proofs.check.Tie as tie
 
@@ -19,16 +19,16 @@ first-requires : tie.Need-first-requires
 first-requires c κs =
     let b = c .before .before in
     let w = b .before .before .before in
-    rw (b .starts-to .ensures) (walk-keys (w .walk .ensures .0) (w .walk .ensures .1))
+    rw (b .starts-to .ensures) (walk-hashes (w .walk .ensures .0) (w .walk .ensures .1))
 
 -- the first repeat among them
-told : (f : tie.After-first) {r : Found} → f .first .result ≡ r
+told : (f : tie.After-first) {r : FoundEntry} → f .first .result ≡ r
     → let w = f .before .before .before .before .before .before in
-    foundOf r ≡ firstRepeat (entriesBy (w .before .before .before .before .before .args .table .now) (startsTo (lines w)))
+    foundEntryOf r ≡ firstRepeat (entriesBy (w .before .before .before .before .before .args .table .now) (startsTo (lines w)))
 told f e =
     let b = f .before .before .before in
     let w = b .before .before .before in
-    sym (ap foundOf e) ∙ f .first .ensures ∙ ap (λ xs. firstRepeat (entriesBy (w .before .before .before .before .before .args .table .now) xs)) (b .starts-to .ensures)
+    sym (ap foundEntryOf e) ∙ f .first .ensures ∙ ap (λ xs. firstRepeat (entriesBy (w .before .before .before .before .before .args .table .now) xs)) (b .starts-to .ensures)
 
 returns : tie.Need-returns
 returns c =

@@ -4,7 +4,7 @@ use mathlib.Core.Path.{ap, _∙_}
 use Prim.Native.Nat.{ℕ, _+_}
 use native.Mathlib.Omega.{arith}
 use lib.ListN.{take}
-use Rattle.label.specs.Index.{tabulate}
+use Rattle.common.specs.Index.{tabulate}
 use Rattle.frame.proofs.FrameLaws.{body-length}
 use Rattle.frame.proofs.FrameLoops.{block-is, blockByte}
 use Rattle.frame.proofs.copy_block.Statement.{statement}

@@ -4,7 +4,7 @@ use mathlib.Core.Path.{_≡_, refl, ap, _∙_}
 use Prim.Native.Nat.{ℕ, _≤_, _+_, _-_}
 use native.Mathlib.Omega.{arith}
 use lib.ListN.{length, take}
-use Rattle.label.specs.Index.{tabulate}
+use Rattle.common.specs.Index.{tabulate}
 use Rattle.frame.specs.Frame.{bodyFrom}
 use Rattle.frame.proofs.FrameLoops.{body-more}
 use Rattle.frame.proofs.copy_blocks.Statement.{statement}

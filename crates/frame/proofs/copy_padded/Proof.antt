@@ -3,7 +3,7 @@ use mathlib.Core.Path.{_≡_, refl, _∙_, sym}
 use Prim.Native.Nat.{_+_, _-_, _<_}
 use native.Mathlib.Omega.{arith}
 use lib.ListN.{getD, length}
-use Rattle.label.proofs.IndexLaws.{Filled, fill-all, fill-next, fill-none}
+use Rattle.common.proofs.IndexLaws.{Filled, fill-all, fill-next, fill-none}
 use Rattle.frame.specs.Frame.{bodyFrom, bodyOf}
 use Rattle.frame.proofs.copy_padded.Statement.{statement}
 use Rattle.frame.proofs.copy_padded.Tie as tie

@@ -3,7 +3,7 @@ use mathlib.Core.Path.{refl, sym, _∙_}
 use Prim.Native.Nat.{_+_, _-_}
 use native.Mathlib.Omega.{arith}
 use lib.ListN.{getD, length}
-use Rattle.label.proofs.IndexLaws.{Filled, fill-all, fill-next}
+use Rattle.common.proofs.IndexLaws.{Filled, fill-all, fill-next}
 use Rattle.frame.specs.Frame.{bodyFrom, bodyOf}
 use Rattle.frame.proofs.FrameLaws.{body-length}
 use Rattle.frame.proofs.FrameLoops.{body-at}

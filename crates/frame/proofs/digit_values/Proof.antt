@@ -3,13 +3,13 @@ use mathlib.Core.Path.{refl}
 use Prim.Native.Nat.{_+_, _-_}
 use native.Mathlib.Omega.{arith}
 use lib.ListN.{getD, length}
-use Rattle.label.proofs.IndexLaws.{Filled, fill-all, fill-next, fill-none}
-use Rattle.frame.specs.Frame.{valueOf}
+use Rattle.common.proofs.IndexLaws.{Filled, fill-all, fill-next, fill-none}
+use Rattle.frame.specs.Frame.{digitValue}
 use Rattle.frame.proofs.digit_values.Statement.{statement}
 use Rattle.frame.proofs.digit_values.Tie as tie
 
 abbrev Inv-loop : tie.InvT-loop
-Inv-loop line from values₀ k₀ values k = Filled (λ j. valueOf (getD line (from + j) 0)) (length values₀) values k
+Inv-loop line from values₀ k₀ values k = Filled (λ j. digitValue (getD line (from + j) 0)) (length values₀) values k
 
 abbrev μ-loop : tie.MeasureT-loop
 μ-loop line from values₀ k₀ values k = length values₀ - k

@@ -3,7 +3,7 @@ use mathlib.Core.Bool.{_&&_}
 use mathlib.Core.Path.{_≡_, refl, sym, ap, ap₂, _∙_}
 use Prim.Native.Nat.{_≤_, _+_, _-_}
 use native.Mathlib.Omega.{arith}
-use Rattle.label.specs.Index.{every}
+use Rattle.common.specs.Index.{every}
 use Rattle.frame.proofs.FrameLoops.{digitAt, every-more}
 use Rattle.frame.proofs.digits_from.Statement.{statement}
 use Rattle.frame.proofs.digits_from.Tie as tie

@@ -4,7 +4,7 @@ use mathlib.Core.Path.{_≡_, refl, ap₂, _∙_}
 use Prim.Native.Nat.{ℕ, _≤_, _+_, _*_, _-_, _%_}
 use native.Mathlib.Omega.{arith}
 use lib.ListN.{getD, length, take, length-set}
-use Rattle.label.specs.Index.{tabulate}
+use Rattle.common.specs.Index.{tabulate}
 use Rattle.frame.proofs.FrameLoops.{blockByte, low-digit-of, store-next, store-none}
 use Rattle.frame.proofs.put_block.Statement.{statement}
 use Rattle.frame.proofs.put_block.Tie as tie

@@ -5,7 +5,7 @@ use Prim.Native.Nat.{ℕ, _≤_, _+_, _*_, _-_, _/_, _%_}
 use native.Mathlib.Omega.{arith}
 use lib.ListN.{getD, length, set, take}
 use lib.Seq.{take-all}
-use Rattle.label.specs.Buffer.{overlay}
+use Rattle.common.specs.Buffer.{overlay}
 use Rattle.frame.specs.Frame.{digitOf, digitsOf, sumOf}
 use Rattle.frame.proofs.FrameLoops.{digits-fit, digits-next, sum-done, sum-next}
 use Rattle.frame.proofs.spell.Statement.{statement}

@@ -3,7 +3,7 @@ use mathlib.Core.Path.{_≡_, refl, sym, ap, ap₂, _∙_}
 use Prim.Native.Nat.{ℕ, _≤_, _+_, _-_, _*_, _/_, _%_, _^_}
 use native.Mathlib.Omega.{arith}
 use lib.ListN.{getD, length, take}
-use Rattle.frame.specs.Frame.{bytesOf, isDigit, sumOf, valueOf}
+use Rattle.frame.specs.Frame.{bytesOf, isDigit, sumOf, digitValue}
 use Rattle.frame.proofs.FrameLaws.{bytes-at, bytes-length}
 use Rattle.frame.proofs.FrameLoops.{spelled-at, sum-done, sum-next, wrapped}
 use Rattle.frame.proofs.sum.Statement.{statement}
@@ -33,7 +33,7 @@ loop-again c =
     let i = h .loop .i in
     let n = bytes-length line in
     let e = p .pair .ensures in
-    let byte = c .before .pair-value .ensures ∙ ap₂ (λ (x y : ℕ). valueOf x * 16 + valueOf y) (e .0) (e .1) ∙ sym (bytes-at line i (omega arith)) in (
+    let byte = c .before .pair-value .ensures ∙ ap₂ (λ (x y : ℕ). digitValue x * 16 + digitValue y) (e .0) (e .1) ∙ sym (bytes-at line i (omega arith)) in (
       search needs,
       ap (λ (x : ℕ). x % 256) (c .wrapping-add-u16 .ensures ∙ ap (λ (b : ℕ). (h .loop .s + b) % 2 ^ 16) byte) ∙ wrapped (h .loop .s + getD (bytesOf line) i 0)
           ∙ sum-next (bytesOf line) i (h .loop .s) (omega arith) (h .loop .inv .1),

@@ -5,9 +5,9 @@ use Prim.Native.Nat.{ℕ, _+_, _*_, _-_, _/_, _%_}
 use native.Mathlib.Omega.{arith}
 use lib.ListN.{length, set, length-set}
 use borrow.Author.Tests.{le-leb, lt-leb}
-use Rattle.label.specs.declared.errno.Errno.the-variants.{Invalid}
-use Rattle.label.proofs.AnswerLaws.{passed, stopped}
-use Rattle.label.proofs.BufferLaws.{overlay-length, too-short, writes, writes-nothing}
+use Rattle.common.specs.declared.errno.Errno.the-variants.{Invalid}
+use Rattle.common.proofs.AnswerLaws.{passed, stopped}
+use Rattle.common.proofs.BufferLaws.{overlay-length, too-short, writes, writes-nothing}
 use Rattle.frame.specs.Frame.{digitOf, digitsOf, frameOf, maxBody}
 use Rattle.frame.proofs.FrameLaws.{digits-length, frame-length}
 use Rattle.frame.proofs.FrameLoops.{check-of, frame-more}

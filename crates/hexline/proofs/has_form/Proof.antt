@@ -1,10 +1,10 @@
 use borrow.Author.Needs.{needs}
-use Rattle.hexline.specs.Line.{formOf}
+use Rattle.hexline.specs.Line.{bodyForm}
 use Rattle.hexline.proofs.has_form.Statement.{statement}
 use Rattle.hexline.proofs.has_form.Tie as tie
 
 returns : tie.Need-returns
-unfolding formOf
+unfolding bodyForm
 returns c = rw (c .before .body-length .ensures, c .byte .ensures)
 
 pub has-form-spec : {M : Type 1} → statement M

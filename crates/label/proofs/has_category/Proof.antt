@@ -1,6 +1,6 @@
 use borrow.Author.Needs.{needs}
 use mathlib.Core.Path.{sym, ap, _∙_}
-use Rattle.label.specs.Answer.{granted}
+use Rattle.common.specs.Answer.{granted}
 use Rattle.label.specs.Words.{includesOf}
 use Rattle.label.proofs.LabelLaws.{category-told}
 use Rattle.label.proofs.has_category.Statement.{statement}

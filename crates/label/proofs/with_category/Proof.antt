@@ -4,7 +4,7 @@ use mathlib.Core.Path.{ap, _∙_}
 use Prim.Native.Nat.{ℕ}
 use Rattle.label.specs.Label.{labelOf, withCategoryOf}
 use Rattle.label.specs.Words.{unionOf}
-use Rattle.label.proofs.AnswerLaws.{answers-invalid, answers-passed}
+use Rattle.common.proofs.AnswerLaws.{answers-invalid, answers-passed}
 use Rattle.label.proofs.with_category.Statement.{statement}
 use Rattle.label.proofs.with_category.Tie as tie
 

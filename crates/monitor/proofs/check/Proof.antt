@@ -1,8 +1,8 @@
 use borrow.Author.Needs.{needs}
 use mathlib.Core.Path.{sym, ap, _∙_}
-use Rattle.label.specs.Answer.{testOf}
-use Rattle.label.specs.Errno.{detailOf, numberOf}
-use Rattle.label.proofs.AnswerLaws.{grant-told, refusal-stopped, stopped}
+use Rattle.common.specs.Answer.{testOf}
+use Rattle.common.specs.Errno.{detailOf, errnoNumber}
+use Rattle.common.proofs.AnswerLaws.{grant-told, refusal-stopped, stopped}
 use Rattle.monitor.specs.Monitor.{underTuple}
 use Rattle.monitor.proofs.ValidLaws.{implies-first, tested, tuple-refused}
 use Rattle.monitor.proofs.NeedsLaws.{decide-needed}
@@ -22,7 +22,7 @@ returns-2 c =
     let k = c .before .before in
     let r = k .before .args .r in
     let e = c .enum-told .given .0 .0 in
-    let h = refusal-stopped (tested (r .credentials .label) (r .object)) 22 (numberOf e) (detailOf e) (underTuple (r .credentials .label) (r .object)) (ap testOf (sym (c .enum-told .given .1)) ∙ k .contained .ensures) in
+    let h = refusal-stopped (tested (r .credentials .label) (r .object)) 22 (errnoNumber e) (detailOf e) (underTuple (r .credentials .label) (r .object)) (ap testOf (sym (c .enum-told .given .1)) ∙ k .contained .ensures) in
     sym (decide-needed r ∙ stopped _ 22 _ (tuple-refused r h))
 
 pub check-spec : {M : Type 1} → statement M

@@ -1,7 +1,7 @@
 use borrow.Author.Needs.{needs}
 use mathlib.Core.Path.{sym, ap, _∙_}
-use Rattle.label.proofs.AnswerLaws.{passed, stopped}
-use Rattle.label.proofs.BoolLaws.{told-false, told-true}
+use Rattle.common.proofs.AnswerLaws.{passed, stopped}
+use Rattle.common.proofs.BoolLaws.{told-false, told-true}
 use Rattle.monitor.specs.Needs.{answerBy}
 use Rattle.monitor.specs.declared.Privileges.{Privileges}
 use Rattle.monitor.proofs.NeedsLaws.{decide-needed}

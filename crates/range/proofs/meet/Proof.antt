@@ -2,8 +2,8 @@ use borrow.Author.Needs.{needs}
 use mathlib.Core.Bool.{true, _&&_}
 use mathlib.Core.Path.{_≡_, sym, ap₂, _∙_}
 use Rattle.range.specs.Range.{validOf, zeroRange}
-use Rattle.label.specs.declared.errno.Errno.the-variants.{Domain}
-use Rattle.label.proofs.AnswerLaws.{answers-grant, answers-invalid, answers-refusal, passed, stopped}
+use Rattle.common.specs.declared.errno.Errno.the-variants.{Domain}
+use Rattle.common.proofs.AnswerLaws.{answers-grant, answers-invalid, answers-refusal, passed, stopped}
 use Rattle.range.proofs.meet.Statement.{statement}
 use Rattle.range.proofs.meet.Tie as tie
 

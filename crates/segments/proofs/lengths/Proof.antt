@@ -1,5 +1,5 @@
 use borrow.Author.Needs.{needs}
-use Rattle.label.proofs.IndexLaws.{length-mapped}
+use Rattle.common.proofs.IndexLaws.{length-mapped}
 use Rattle.segments.proofs.lengths.Statement.{statement}
 use Rattle.segments.proofs.lengths.Tie as tie
 

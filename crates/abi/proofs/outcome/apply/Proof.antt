@@ -4,12 +4,12 @@ use mathlib.Core.Path.{_≡_, sym, ap, _∙_}
 use Prim.Native.Nat.{_<_}
 use borrow.Author.Tests.{leb-false}
 use lib.Dec.{leb}
-use Rattle.label.proofs.BoolLaws.{neither}
+use Rattle.common.proofs.BoolLaws.{neither}
 use Rattle.segments.specs.Replies.{applied, isRefusal}
 use Rattle.segments.specs.Segments.{slots}
 use Rattle.segments.specs.declared.Change.{Change}
 use Rattle.abi.specs.Outcome.{appliedTo, handedBack}
-use Rattle.abi.specs.declared.outcome.Outcome.{Outcome}
+use Rattle.abi.specs.declared.outcome.COutcome.{COutcome}
 use Rattle.abi.proofs.OutcomeLaws.{applied-back}
 use Rattle.abi.proofs.outcome.apply.Statement.{statement}
 use Rattle.abi.proofs.outcome.apply.Tie as tie
@@ -20,7 +20,7 @@ tested : (c : tie.After-struct-known) → let x = c .before .before .before .arg
 tested c = ap (λ (b : Bool). b || leb slots (c .before .before .before .args .change .slot .0)) (sym (c .before .refuses .ensures))
 
 -- what is handed back is also what the change gives
-whole : (k : tie.Start) {r : Outcome} → let a = k .args in r ≡ appliedTo (a .state) (a .change)
+whole : (k : tie.Start) {r : COutcome} → let a = k .args in r ≡ appliedTo (a .state) (a .change)
     → (r ≡ appliedTo (a .state) (a .change)) × (a .change .slot .0 < slots → r ≡ handedBack (applied (a .state) (a .change)))
 whole k e = let a = k .args in (e, λ h. e ∙ applied-back (a .state) (a .change) h)
 

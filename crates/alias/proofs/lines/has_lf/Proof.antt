@@ -6,7 +6,7 @@ use native.Mathlib.Omega.{arith}
 use lib.Dec.{eqb}
 use lib.ListN.{drop, getD, length}
 use borrow.Author.Tests.{eqb-false}
-use Rattle.label.proofs.BoolLaws.{neither}
+use Rattle.common.proofs.BoolLaws.{neither}
 use Rattle.octets.specs.Bytes.{indexOf, lf}
 use Rattle.octets.proofs.ByteLaws.{index-end, index-pass}
 use Rattle.alias.proofs.lines.has_lf.Statement.{statement}

@@ -6,10 +6,10 @@ use native.Mathlib.Omega.{arith}
 use lib.Dec.{leb}
 use lib.ListN.{drop, length, take}
 use borrow.Author.Tests.{not-false}
-use Rattle.label.proofs.BoolLaws.{neither}
+use Rattle.common.proofs.BoolLaws.{neither}
 use Rattle.alias.specs.Lines.{entriesOf, linesOf, maxLines}
-use Rattle.alias.specs.Walk.{faultyOf}
-use Rattle.alias.proofs.KeyLaws.{Keeping, keep-end, keep-next, keep-start}
+use Rattle.alias.specs.Internal.Walk.{faultyOf}
+use Rattle.alias.proofs.HashLaws.{Keeping, keep-end, keep-next, keep-start}
 use Rattle.alias.proofs.LinesLaws.{LineHere, line-here}
 use Rattle.alias.proofs.LookupLaws.{entry-of}
 use Rattle.alias.proofs.TableLaws.{faulty-few}
@@ -32,12 +32,12 @@ here c =
     line-here (c .before .before .before .before .args .table .now) (l .count) (l .at) (l .inv .0 .begins) (c .line-end .result) (c .before .loop-test .taken) (c .line-end .ensures)
 
 -- whether it is bad by itself
-told : (c : tie.After-line-keys Inv-loop μ-loop) (b : Bool)
+told : (c : tie.After-line-hashes Inv-loop μ-loop) (b : Bool)
     → let h = c .before .before .before .before in
     let table = h .before .before .args .table .now in
-    (leb maxLines (h .loop .count) || not (c .line-keys .result .accepted)) ≡ b → faultyOf (h .loop .count) (take (c .before .before .line-end .result - h .loop .at) (drop (h .loop .at) table)) ≡ b
+    (leb maxLines (h .loop .count) || not (c .line-hashes .result .accepted)) ≡ b → faultyOf (h .loop .count) (take (c .before .before .line-end .result - h .loop .at) (drop (h .loop .at) table)) ≡ b
 unfolding faultyOf
-told c b e = rw (c .line-keys .ensures .0) at e
+told c b e = rw (c .line-hashes .ensures .0) at e
 
 loop-holds : tie.Need-loop-holds Inv-loop μ-loop
 loop-holds c =
@@ -46,14 +46,14 @@ loop-holds c =
     let p = s .pre in
     (rw (p .0) (walk-start (a .table .now)), keep-start (entriesOf (linesOf (a .table .now))) (a .names .now) (a .others .now) (p .1) (p .2))
 
-sub-line-keys : tie.Need-sub-line-keys Inv-loop μ-loop
-sub-line-keys c = let h = here c in omega arith
+sub-line-hashes : tie.Need-sub-line-hashes Inv-loop μ-loop
+sub-line-hashes c = let h = here c in omega arith
 
-part-line-keys-start : tie.Need-part-line-keys-start Inv-loop μ-loop
-part-line-keys-start c = let h = here c in omega arith
+part-line-hashes-start : tie.Need-part-line-hashes-start Inv-loop μ-loop
+part-line-hashes-start c = let h = here c in omega arith
 
-part-line-keys-end : tie.Need-part-line-keys-end Inv-loop μ-loop
-part-line-keys-end c = let h = here c in omega arith
+part-line-hashes-end : tie.Need-part-line-hashes-end Inv-loop μ-loop
+part-line-hashes-end c = let h = here c in omega arith
 
 returns : tie.Need-returns Inv-loop μ-loop
 returns c =
@@ -96,9 +96,9 @@ loop-again c =
     let l = k .before .before in
     let h = l .before .before in
     let table = h .before .before .args .table .now in
-    let accepted = not-false (k .line-keys .result .accepted) (neither (leb maxLines (h .loop .count)) (not (k .line-keys .result .accepted)) (e .if1 .left) .1) in (
+    let accepted = not-false (k .line-hashes .result .accepted) (neither (leb maxLines (h .loop .count)) (not (k .line-hashes .result .accepted)) (e .if1 .left) .1) in (
       walk-next (h .loop .inv .0) (here l) (told k false (e .if1 .left)),
-      keep-next (h .loop .inv .1) (few e) (rw (entry-of (linesOf table) (h .loop .count) (here l .below), here l .line) (k .line-keys .ensures .1 accepted)),
+      keep-next (h .loop .inv .1) (few e) (rw (entry-of (linesOf table) (h .loop .count) (here l .below), here l .line) (k .line-hashes .ensures .1 accepted)),
     )
 
 returns-2 : tie.Need-returns-2 Inv-loop μ-loop
@@ -108,5 +108,5 @@ returns-2 c =
 
 pub walk-spec : {M : Type 1} → statement M
 walk-spec =
-    tie.close (tie.spec Inv-loop μ-loop loop-holds (search needs) sub-line-keys part-line-keys-start part-line-keys-end (search needs) returns mul-names
+    tie.close (tie.spec Inv-loop μ-loop loop-holds (search needs) sub-line-hashes part-line-hashes-start part-line-hashes-end (search needs) returns mul-names
     element-write-names mul-others element-write-others add-count mul-starts element-write-starts loop-less loop-again returns-2)

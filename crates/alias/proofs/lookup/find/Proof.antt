@@ -4,8 +4,8 @@ use mathlib.Core.Option.{some}
 use mathlib.Core.Path.{_≡_, sym, _∙_}
 use Prim.Native.Nat.{_+_, _-_}
 use native.Mathlib.Omega.{arith}
-use Rattle.label.specs.Index.{firstFrom}
-use Rattle.label.proofs.SearchLaws.{search-end}
+use Rattle.common.specs.Index.{firstFrom}
+use Rattle.common.proofs.SearchLaws.{search-end}
 use Rattle.alias.specs.Lines.{entriesBy}
 use Rattle.alias.specs.Lookup.{calledOf, findOf}
 use Rattle.alias.proofs.LookupLaws.{calledAt, entry-step, search-start}

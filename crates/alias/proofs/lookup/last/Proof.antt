@@ -5,21 +5,21 @@ use mathlib.Core.Path.{_≡_, sym, ap, _∙_}
 use Prim.Native.Nat.{suc, _+_, _-_, _≤_}
 use native.Mathlib.Nat.{sub-zero}
 use native.Mathlib.Omega.{arith}
-use Rattle.label.specs.Index.{lastBelow}
+use Rattle.common.specs.Index.{lastBelow}
 use Rattle.alias.specs.Lines.{entriesBy}
-use Rattle.alias.specs.Lookup.{lastOf, standsFor}
+use Rattle.alias.specs.Lookup.{lastEntryFor, standsFor}
 use Rattle.alias.proofs.LookupLaws.{entries-length, entry-test, last-step, standsAt}
 use Rattle.alias.proofs.lookup.last.Statement.{statement}
 use Rattle.alias.proofs.lookup.last.Tie as tie
 
 abbrev Inv-loop : tie.InvT-loop
-Inv-loop table starts v l n i₀ i = (i ≤ n) × (lastOf (entriesBy table starts) v l ≡ lastBelow (standsAt (entriesBy table starts) v l) (n - i))
+Inv-loop table starts v l n i₀ i = (i ≤ n) × (lastEntryFor (entriesBy table starts) v l ≡ lastBelow (standsAt (entriesBy table starts) v l) (n - i))
 
 abbrev μ-loop : tie.MeasureT-loop
 μ-loop table starts v l n i₀ i = n - i
 
 loop-holds : tie.Need-loop-holds Inv-loop μ-loop
-unfolding lastOf
+unfolding lastEntryFor
 loop-holds c =
     let a = c .before .before .before .args in
     (omega arith, rw (entries-length (a .table .now) (a .starts .now), ← c .count .ensures, sub-zero))
@@ -30,7 +30,7 @@ told : (c : tie.After-stands-for Inv-loop μ-loop) (b : Bool) → c .stands-for 
     let a = h .before .before .before .before .args in
     let es = entriesBy (a .table .now) (a .starts .now) in
     let k = h .before .count .result - 1 - h .loop .i in
-    lastOf es (a .v) (a .l) ≡ cond b (some k) (lastBelow (standsAt es (a .v) (a .l)) k)
+    lastEntryFor es (a .v) (a .l) ≡ cond b (some k) (lastBelow (standsAt es (a .v) (a .l)) k)
 told c b e =
     let h = c .before .before .before in
     let a = h .before .before .before .before .args in

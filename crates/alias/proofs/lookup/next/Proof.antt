@@ -4,16 +4,16 @@ use mathlib.Core.Option.{some}
 use mathlib.Core.Path.{_≡_, sym, _∙_}
 use Prim.Native.Nat.{_+_, _-_}
 use native.Mathlib.Omega.{arith}
-use Rattle.label.specs.Index.{firstFrom}
-use Rattle.label.proofs.SearchLaws.{search-end}
+use Rattle.common.specs.Index.{firstFrom}
+use Rattle.common.proofs.SearchLaws.{search-end}
 use Rattle.alias.specs.Lines.{entriesBy}
-use Rattle.alias.specs.Lookup.{nextOf, standsFor}
+use Rattle.alias.specs.Lookup.{nextEntryFor, standsFor}
 use Rattle.alias.proofs.LookupLaws.{entries-length, entry-step, standsAt}
 use Rattle.alias.proofs.lookup.next.Statement.{statement}
 use Rattle.alias.proofs.lookup.next.Tie as tie
 
 abbrev Inv-loop : tie.InvT-loop
-Inv-loop table starts v l from n k₀ k = nextOf (entriesBy table starts) v l from ≡ firstFrom (standsAt (entriesBy table starts) v l) k (n - k)
+Inv-loop table starts v l from n k₀ k = nextEntryFor (entriesBy table starts) v l from ≡ firstFrom (standsAt (entriesBy table starts) v l) k (n - k)
 
 abbrev μ-loop : tie.MeasureT-loop
 μ-loop table starts v l from n k₀ k = n - k
@@ -23,14 +23,14 @@ told : (c : tie.After-stands-for Inv-loop μ-loop) (b : Bool) → c .stands-for 
     → let h = c .before .before .before in
     let a = h .before .before .before .before .args in
     let es = entriesBy (a .table .now) (a .starts .now) in
-    nextOf es (a .v) (a .l) (a .from) ≡ cond b (some (h .loop .k)) (firstFrom (standsAt es (a .v) (a .l)) (h .loop .k + 1) (h .before .count .result - (h .loop .k + 1)))
+    nextEntryFor es (a .v) (a .l) (a .from) ≡ cond b (some (h .loop .k)) (firstFrom (standsAt es (a .v) (a .l)) (h .loop .k + 1) (h .before .count .result - (h .loop .k + 1)))
 told c b e =
     let h = c .before .before .before in
     let a = h .before .before .before .before .args in
     h .loop .inv ∙ entry-step (a .table .now) (a .starts .now) (standsFor (a .v) (a .l)) (h .loop .k) _ b (omega arith) (omega arith) (c .before .line .ensures) (c .stands-for .ensures) e
 
 loop-holds : tie.Need-loop-holds Inv-loop μ-loop
-unfolding nextOf
+unfolding nextEntryFor
 loop-holds c =
     let a = c .before .before .before .args in
     rw (entries-length (a .table .now) (a .starts .now), ← c .count .ensures)

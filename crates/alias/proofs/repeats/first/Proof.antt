@@ -5,12 +5,12 @@ use Prim.Native.Nat.{_-_}
 use native.Mathlib.Omega.{arith}
 use lib.ListN.{length}
 use borrow.Author.Tests.{not-true}
-use Rattle.label.specs.Index.{firstFrom}
-use Rattle.label.proofs.BoolLaws.{neither}
-use Rattle.label.proofs.SearchLaws.{search-end, search-hit, search-pass}
+use Rattle.common.specs.Index.{firstFrom}
+use Rattle.common.proofs.BoolLaws.{neither}
+use Rattle.common.proofs.SearchLaws.{search-end, search-hit, search-pass}
 use Rattle.alias.specs.Lines.{entriesBy}
 use Rattle.alias.specs.Table.{firstRepeat, repeatsAt}
-use Rattle.alias.proofs.KeyLaws.{none-met}
+use Rattle.alias.proofs.HashLaws.{none-collide}
 use Rattle.alias.proofs.LookupLaws.{entries-length, search-start}
 use Rattle.alias.proofs.repeats.first.Statement.{statement}
 use Rattle.alias.proofs.repeats.first.Tie as tie
@@ -27,9 +27,9 @@ returns c =
     let n = m .before in
     let s = n .before .before .before in
     let a = s .args in
-    let d = neither (a .unclear) (m .some-met .result) (not-true (a .unclear || m .some-met .result) (c .if1 .taken)) in
-    none-met (entriesBy (a .table .now) (a .starts .now)) (length (a .starts .now) - 1) (entries-length (a .table .now) (a .starts .now)) (s .pre) (d .0)
-    (rw (n .count .ensures) at (m .some-met .ensures (d .1)))
+    let d = neither (a .unclear) (m .some-collide .result) (not-true (a .unclear || m .some-collide .result) (c .if1 .taken)) in
+    none-collide (entriesBy (a .table .now) (a .starts .now)) (length (a .starts .now) - 1) (entries-length (a .table .now) (a .starts .now)) (s .pre) (d .0)
+    (rw (n .count .ensures) at (m .some-collide .ensures (d .1)))
 
 loop-holds : tie.Need-loop-holds Inv-loop μ-loop
 unfolding firstRepeat
@@ -39,7 +39,7 @@ loop-holds c =
     search-start (a .table .now) (a .starts .now) _ (n .count .ensures)
 
 repeats-requires : tie.Need-repeats-requires Inv-loop μ-loop
-repeats-requires c κs = (search needs, c .before .before .before .before .before .before .before .pre .keys)
+repeats-requires c κs = (search needs, c .before .before .before .before .before .before .before .pre .hashes)
 
 returns-2 : tie.Need-returns-2 Inv-loop μ-loop
 returns-2 c =

@@ -3,8 +3,8 @@ use mathlib.Core.Bool.{not}
 use mathlib.Core.Path.{_≡_, refl, sym, ap, _∙_}
 use Prim.Native.Nat.{_-_}
 use native.Mathlib.Omega.{arith}
-use Rattle.label.proofs.IndexLaws.{Tested, test-all, test-next, test-none}
-use Rattle.label.proofs.SearchLaws.{any-of}
+use Rattle.common.proofs.IndexLaws.{Tested, test-all, test-next, test-none}
+use Rattle.common.proofs.SearchLaws.{any-of}
 use Rattle.hexline.specs.Line.{standingIn}
 use Rattle.alias.specs.Lines.{entriesBy, entryAt}
 use Rattle.alias.specs.Table.{sharesOf}

@@ -3,13 +3,13 @@ use mathlib.Core.Path.{_≡_, sym, _∙_}
 use Prim.Native.Nat.{_-_, _^_, _≤_, _<_}
 use native.Mathlib.Omega.{arith}
 use lib.ListN.{drop, length}
-use Rattle.console.specs.Command.{numberOf}
+use Rattle.console.specs.Command.{fieldNumber}
 use Rattle.console.proofs.NumberLaws.{numberFrom, number-end, number-high, number-large, number-low, number-none, number-pass, number-start}
 use Rattle.console.proofs.command.read_number.Statement.{statement}
 use Rattle.console.proofs.command.read_number.Tie as tie
 
 abbrev Inv-loop : tie.InvT-loop
-Inv-loop text value₀ i₀ value i = (i ≤ length text) × (value < 2 ^ 64) × (numberOf text ≡ numberFrom value (drop i text))
+Inv-loop text value₀ i₀ value i = (i ≤ length text) × (value < 2 ^ 64) × (fieldNumber text ≡ numberFrom value (drop i text))
 
 abbrev μ-loop : tie.MeasureT-loop
 μ-loop text value₀ i₀ value i = length text - i

@@ -3,7 +3,7 @@ use mathlib.Core.List.{List}
 use mathlib.Core.Path.{_≡_}
 use Prim.Native.Nat.{ℕ, _+_}
 use native.Mathlib.Omega.{arith}
-use Rattle.label.specs.Errno.{carriedOf}
+use Rattle.common.specs.Errno.{carriedOf}
 use Rattle.octets.proofs.ByteLaws.{Tested, appended, left-out, room-for}
 use Rattle.console.specs.Format.{errorText, refusalText}
 use Rattle.console.proofs.FormatLaws.{refusal-length}

@@ -3,7 +3,7 @@ use mathlib.Core.Path.{_≡_}
 use Prim.Native.Nat.{suc}
 use native.Mathlib.Omega.{arith}
 use lib.ListN.{length}
-use Rattle.label.specs.Errno.{carriedOf}
+use Rattle.common.specs.Errno.{carriedOf}
 use Rattle.octets.proofs.ByteLaws.{appended-put, nothing-put, then-put}
 use Rattle.console.specs.Format.{carriedText, decimalOf}
 use Rattle.console.proofs.format.put_carried.Statement.{statement}

@@ -2,7 +2,7 @@ use borrow.Author.Needs.{needs}
 use mathlib.Core.Path.{_≡_}
 use Prim.Native.Nat.{_+_}
 use native.Mathlib.Omega.{arith}
-use Rattle.label.specs.Errno.{carriedOf}
+use Rattle.common.specs.Errno.{carriedOf}
 use Rattle.octets.proofs.ByteLaws.{appended-put, then-appended, then-put}
 use Rattle.console.specs.Format.{errorWord, refusalText}
 use Rattle.console.proofs.FormatLaws.{refusal-length}

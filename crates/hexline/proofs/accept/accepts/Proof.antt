@@ -1,6 +1,6 @@
 use borrow.Author.Needs.{needs}
 use Prim.Native.Nat.{_<_}
-use Rattle.label.proofs.BoolLaws.{told-false, told-true}
+use Rattle.common.proofs.BoolLaws.{told-false, told-true}
 use Rattle.hexline.specs.Body.{byteAt}
 use Rattle.hexline.proofs.AcceptLaws.{body-judged}
 use Rattle.hexline.proofs.accept.accepts.Statement.{statement}

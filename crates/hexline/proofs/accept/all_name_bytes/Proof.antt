@@ -4,7 +4,7 @@ use mathlib.Core.Path.{_≡_, refl, sym, ap, ap₂, _∙_}
 use Prim.Native.Nat.{_≤_, _-_}
 use native.Mathlib.Omega.{arith}
 use lib.ListN.{length}
-use Rattle.label.specs.Index.{every}
+use Rattle.common.specs.Index.{every}
 use Rattle.hexline.specs.Body.{byteAt}
 use Rattle.hexline.specs.Entry.{isNameByte}
 use Rattle.hexline.proofs.AcceptLaws.{every-more}

@@ -1,9 +1,9 @@
 use borrow.Author.Needs.{needs}
 use mathlib.Core.Path.{_∙_}
 use native.Mathlib.Omega.{arith}
-use Rattle.label.specs.Answer.{isGranted}
-use Rattle.label.proofs.BoolLaws.{not-so, told-false, told-true}
-use Rattle.hexline.specs.Line.{readEntryOf}
+use Rattle.common.specs.Answer.{isGranted}
+use Rattle.common.proofs.BoolLaws.{not-so, told-false, told-true}
+use Rattle.hexline.specs.Line.{readEntryLine}
 use Rattle.hexline.proofs.AcceptLaws.{accepted-as, accepted-short, judged-not}
 use Rattle.hexline.proofs.accept.judge_entry.Statement.{statement}
 use Rattle.hexline.proofs.accept.judge_entry.Tie as tie
@@ -13,7 +13,7 @@ returns c =
     let t = c .before in
     let n = t .before in
     let line = n .before .before .args .line .now in
-    c .refused .ensures ∙ judged-not line (not-so (isGranted (readEntryOf line)) (λ e. absurd (omega (arith, accepted-short line e, n .body-length .ensures, t .if1 .taken))))
+    c .refused .ensures ∙ judged-not line (not-so (isGranted (readEntryLine line)) (λ e. absurd (omega (arith, accepted-short line e, n .body-length .ensures, t .if1 .taken))))
 
 returns-2 : tie.Need-returns-2
 returns-2 c =

@@ -4,12 +4,12 @@ use mathlib.Core.Path.{_≡_, ap, _∙_}
 use mathlib.Core.List.{List}
 use Prim.Native.Nat.{ℕ}
 use lib.ListN.{replicate, take}
-use Rattle.label.specs.Buffer.{overlay}
+use Rattle.common.specs.Buffer.{overlay}
 use Rattle.frame.specs.Frame.{bodyOf}
 use Rattle.hexline.specs.Body.{lineWords}
 use Rattle.hexline.specs.Entry.{validOf}
 use Rattle.hexline.specs.Line.{entryForm, entryIn}
-use Rattle.label.proofs.BoolLaws.{told-false, told-true}
+use Rattle.common.proofs.BoolLaws.{told-false, told-true}
 use Rattle.hexline.proofs.AcceptLaws.{accepted-as, front-decoded, judged-as, judged-not}
 use Rattle.hexline.proofs.accept.judge_framed.Statement.{statement}
 use Rattle.hexline.proofs.accept.judge_framed.Tie as tie

@@ -5,7 +5,7 @@ use Prim.Native.Nat.{ℕ, _+_, _-_}
 use native.Mathlib.Omega.{arith}
 use Rattle.label.specs.Label.{labelOf}
 use Rattle.label.specs.Words.{words as setWords}
-use Rattle.label.proofs.IndexLaws.{Filled, fill-all, fill-next, fill-none}
+use Rattle.common.proofs.IndexLaws.{Filled, fill-all, fill-next, fill-none}
 use Rattle.frame.specs.Frame.{bodyOf}
 use Rattle.frame.proofs.FrameLaws.{body-small}
 use Rattle.hexline.specs.Body.{byteAt, labelAt, wordFrom}

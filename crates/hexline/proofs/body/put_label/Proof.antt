@@ -2,16 +2,16 @@ use borrow.Author.Needs.{needs}
 use Prim.Native.Nat.{_≤_, _+_, _*_, _-_}
 use native.Mathlib.Omega.{arith}
 use lib.ListN.{length-set}
-use Rattle.label.specs.Index.{tabulate}
+use Rattle.common.specs.Index.{tabulate}
 use Rattle.label.proofs.LabelLaws.{valid-hierarchy}
-use Rattle.hexline.specs.Body.{Appended, categoryByte}
+use Rattle.hexline.specs.Body.{BodyAppended, categoryByte}
 use Rattle.hexline.proofs.BodyLoops.{label-put, put-none, word-more}
 use Rattle.hexline.proofs.body.put_label.Statement.{statement}
 use Rattle.hexline.proofs.body.put_label.Tie as tie
 
 abbrev Inv-loop : tie.InvT-loop
 Inv-loop out₀ at words categories j₀ out j =
-    (j ≤ words) × Appended out₀ (at + 1) (tabulate (categoryByte categories) (8 * j)) (at + 1 + 8 * j) out
+    (j ≤ words) × BodyAppended out₀ (at + 1) (tabulate (categoryByte categories) (8 * j)) (at + 1 + 8 * j) out
 
 abbrev μ-loop : tie.MeasureT-loop
 μ-loop out₀ at words categories j₀ out j = words - j

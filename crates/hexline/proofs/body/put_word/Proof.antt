@@ -2,15 +2,15 @@ use borrow.Author.Needs.{needs}
 use mathlib.Core.Path.{_≡_, ap}
 use Prim.Native.Nat.{ℕ, _≤_, _+_, _-_, _/_, _%_, _^_}
 use native.Mathlib.Omega.{arith}
-use Rattle.label.specs.Index.{tabulate}
-use Rattle.hexline.specs.Body.{Appended}
+use Rattle.common.specs.Index.{tabulate}
+use Rattle.hexline.specs.Body.{BodyAppended}
 use Rattle.hexline.proofs.BodyLoops.{put-next, put-none}
 use Rattle.hexline.proofs.NumberLaws.{pow-byte}
 use Rattle.hexline.proofs.body.put_word.Statement.{statement}
 use Rattle.hexline.proofs.body.put_word.Tie as tie
 
 abbrev Inv-loop : tie.InvT-loop
-Inv-loop out₀ at w k₀ out k = (k ≤ 8) × Appended out₀ at (tabulate (λ j. w / 256 ^ j % 256) k) (at + k) out
+Inv-loop out₀ at w k₀ out k = (k ≤ 8) × BodyAppended out₀ at (tabulate (λ j. w / 256 ^ j % 256) k) (at + k) out
 
 abbrev μ-loop : tie.MeasureT-loop
 μ-loop out₀ at w k₀ out k = 8 - k

@@ -2,8 +2,8 @@ use borrow.Author.Needs.{needs}
 use Prim.Native.Nat.{_-_}
 use native.Mathlib.Omega.{arith}
 use lib.ListN.{length}
-use Rattle.label.proofs.BoolLaws.{told-false, told-true}
-use Rattle.label.proofs.IndexLaws.{Tested, test-all, test-next, test-none, test-stop}
+use Rattle.common.proofs.BoolLaws.{told-false, told-true}
+use Rattle.common.proofs.IndexLaws.{Tested, test-all, test-next, test-none, test-stop}
 use Rattle.hexline.specs.Entry.{nameByteAt}
 use Rattle.hexline.proofs.entry.all_name_bytes.Statement.{statement}
 use Rattle.hexline.proofs.entry.all_name_bytes.Tie as tie

@@ -3,7 +3,7 @@ use mathlib.Core.Path.{refl}
 use Prim.Native.Nat.{_-_}
 use native.Mathlib.Omega.{arith}
 use lib.ListN.{length}
-use Rattle.label.proofs.IndexLaws.{Filled, fill-all, fill-next, fill-none}
+use Rattle.common.proofs.IndexLaws.{Filled, fill-all, fill-next, fill-none}
 use Rattle.frame.specs.Frame.{bodyOf}
 use Rattle.hexline.specs.Entry.{textByte, textFrom}
 use Rattle.hexline.proofs.entry.copy_text.Statement.{statement}

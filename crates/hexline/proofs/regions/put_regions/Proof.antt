@@ -3,7 +3,7 @@ use mathlib.Core.Path.{_≡_}
 use Prim.Native.Nat.{_≤_, _-_}
 use native.Mathlib.Omega.{arith}
 use Rattle.label.specs.Region.{regions}
-use Rattle.hexline.specs.Body.{Appended}
+use Rattle.hexline.specs.Body.{BodyAppended}
 use Rattle.hexline.specs.Regions.{regionsBytes}
 use Rattle.hexline.proofs.BodyLoops.{appended-both, appended-none}
 use Rattle.hexline.proofs.RegionsLaws.{present-valid, regions-next, regions-room}
@@ -11,7 +11,7 @@ use Rattle.hexline.proofs.regions.put_regions.Statement.{statement}
 use Rattle.hexline.proofs.regions.put_regions.Tie as tie
 
 abbrev Inv-loop : tie.InvT-loop
-Inv-loop out₀ at words t next₀ r₀ out next r = (r ≤ regions) × Appended out₀ at (regionsBytes words t r) next out
+Inv-loop out₀ at words t next₀ r₀ out next r = (r ≤ regions) × BodyAppended out₀ at (regionsBytes words t r) next out
 
 abbrev μ-loop : tie.MeasureT-loop
 μ-loop out₀ at words t next₀ r₀ out next r = regions - r

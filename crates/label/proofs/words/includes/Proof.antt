@@ -3,7 +3,7 @@ use mathlib.Core.Path.{_∙_}
 use Prim.Native.Nat.{_-_}
 use borrow.Author.Tests.{eq-eqb, ne-eqb}
 use Rattle.label.specs.Words.{includesAt, words}
-use Rattle.label.proofs.IndexLaws.{Tested, test-all, test-next, test-none, test-stop}
+use Rattle.common.proofs.IndexLaws.{Tested, test-all, test-next, test-none, test-stop}
 use Rattle.label.proofs.WordLaws.{includes-is}
 use Rattle.label.proofs.words.includes.Statement.{statement}
 use Rattle.label.proofs.words.includes.Tie as tie

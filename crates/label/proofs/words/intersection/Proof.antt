@@ -3,7 +3,7 @@ use mathlib.Core.Path.{refl, _∙_}
 use Prim.Native.Nat.{_-_}
 use lib.Bits.{bitAnd}
 use Rattle.label.specs.Words.{combinedAt, intersectionOf, words}
-use Rattle.label.proofs.IndexLaws.{Filled, fill-all, fill-next, fill-none}
+use Rattle.common.proofs.IndexLaws.{Filled, fill-all, fill-next, fill-none}
 use Rattle.label.proofs.WordLaws.{combine-is}
 use Rattle.label.proofs.words.intersection.Statement.{statement}
 use Rattle.label.proofs.words.intersection.Tie as tie

@@ -7,13 +7,13 @@ use lib.Count.{trailing-le}
 use lib.ListN.{length}
 use mir.Syntax.{w64}
 use mir.Val.{Fits}
-use Rattle.label.specs.Words.{nextOf, wordAt, words}
+use Rattle.label.specs.Words.{nextCategoryFrom, wordAt, words}
 use Rattle.label.proofs.ListingLaws.{next-end, next-hit, next-pass, shifted}
 use Rattle.label.proofs.words.next.Statement.{statement}
 use Rattle.label.proofs.words.next.Tie as tie
 
 abbrev Inv-loop : tie.InvT-loop
-Inv-loop from a c₀ c = nextOf a from ≡ nextOf a c
+Inv-loop from a c₀ c = nextCategoryFrom a from ≡ nextCategoryFrom a c
 
 abbrev μ-loop : tie.MeasureT-loop
 μ-loop from a c₀ c = words * 64 - c

@@ -3,7 +3,7 @@ use mathlib.Core.Path.{refl, _∙_}
 use Prim.Native.Nat.{_-_}
 use lib.Bits.{bitOr}
 use Rattle.label.specs.Words.{combinedAt, unionOf, words}
-use Rattle.label.proofs.IndexLaws.{Filled, fill-all, fill-next, fill-none}
+use Rattle.common.proofs.IndexLaws.{Filled, fill-all, fill-next, fill-none}
 use Rattle.label.proofs.WordLaws.{combine-is}
 use Rattle.label.proofs.words.union.Statement.{statement}
 use Rattle.label.proofs.words.union.Tie as tie

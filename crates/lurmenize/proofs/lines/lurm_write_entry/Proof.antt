@@ -1,6 +1,6 @@
 use borrow.Author.Needs.{needs}
 use mathlib.Core.Path.{refl}
-use Rattle.label.specs.Buffer.{bufferOf, lengthOf}
+use Rattle.common.specs.Buffer.{bufferOf, lengthOf}
 use Rattle.abi.proofs.AnswerLaws.{write-answered}
 use Rattle.lurmenize.proofs.lines.lurm_write_entry.Statement.{statement}
 use Rattle.lurmenize.proofs.lines.lurm_write_entry.Tie as tie

@@ -1,6 +1,6 @@
 use borrow.Author.Needs.{needs}
 use mathlib.Core.Path.{refl}
-use Rattle.label.specs.Buffer.{bufferOf, lengthOf}
+use Rattle.common.specs.Buffer.{bufferOf, lengthOf}
 use Rattle.abi.proofs.AnswerLaws.{write-answered}
 use Rattle.lurmenize.proofs.names.lurm_write_label_text.Statement.{statement}
 use Rattle.lurmenize.proofs.names.lurm_write_label_text.Tie as tie

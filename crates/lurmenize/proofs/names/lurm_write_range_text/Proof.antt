@@ -1,6 +1,6 @@
 use borrow.Author.Needs.{needs}
 use mathlib.Core.Path.{refl}
-use Rattle.label.specs.Buffer.{bufferOf, lengthOf}
+use Rattle.common.specs.Buffer.{bufferOf, lengthOf}
 use Rattle.abi.proofs.AnswerLaws.{range-write-answered}
 use Rattle.lurmenize.proofs.names.lurm_write_range_text.Statement.{statement}
 use Rattle.lurmenize.proofs.names.lurm_write_range_text.Tie as tie

@@ -2,7 +2,7 @@ use borrow.Author.Needs.{needs}
 use mathlib.Core.Path.{refl, ap}
 use Prim.Native.Nat.{_-_}
 use Rattle.label.specs.Region.{regions}
-use Rattle.label.proofs.IndexLaws.{Filled, fill-all, fill-next, fill-none}
+use Rattle.common.proofs.IndexLaws.{Filled, fill-all, fill-next, fill-none}
 use Rattle.range.specs.Tuple.{cutOf, splitOf, tupleOf}
 use Rattle.range.proofs.tuple.cut_regions.Statement.{statement}
 use Rattle.range.proofs.tuple.cut_regions.Tie as tie

@@ -1,7 +1,7 @@
 use borrow.Author.Needs.{needs}
 use mathlib.Core.Bool.{_&&_}
 use mathlib.Core.Path.{ap₂}
-use Rattle.label.proofs.AnswerLaws.{answers-invalid, answers-passed}
+use Rattle.common.proofs.AnswerLaws.{answers-invalid, answers-passed}
 use Rattle.range.proofs.tuple.meet.Statement.{statement}
 use Rattle.range.proofs.tuple.meet.Tie as tie
 

@@ -2,13 +2,13 @@ use borrow.Author.Needs.{needs}
 use mathlib.Core.Path.{refl, ap}
 use Prim.Native.Nat.{_-_}
 use Rattle.label.specs.Region.{regions}
-use Rattle.label.proofs.IndexLaws.{Filled, fill-all, fill-next, fill-none}
-use Rattle.range.specs.Tuple.{meetAt, meetOf, rangeAt, tupleOf}
+use Rattle.common.proofs.IndexLaws.{Filled, fill-all, fill-next, fill-none}
+use Rattle.range.specs.Tuple.{meetAt, meetOf, regionRangeAt, tupleOf}
 use Rattle.range.proofs.tuple.meet_regions.Statement.{statement}
 use Rattle.range.proofs.tuple.meet_regions.Tie as tie
 
 abbrev Inv-loop : tie.InvT-loop
-Inv-loop t u ranges₀ r₀ ranges r = Filled (λ k. meetAt (rangeAt t k) (rangeAt u k)) regions ranges r
+Inv-loop t u ranges₀ r₀ ranges r = Filled (λ k. meetAt (regionRangeAt t k) (regionRangeAt u k)) regions ranges r
 
 abbrev μ-loop : tie.MeasureT-loop
 μ-loop t u ranges₀ r₀ ranges r = regions - r

@@ -4,13 +4,13 @@ use mathlib.Core.Path.{ap}
 use Prim.Native.Nat.{_-_}
 use borrow.Author.Tests.{eq-eqb, ne-eqb}
 use Rattle.label.specs.Region.{regions}
-use Rattle.label.proofs.IndexLaws.{Tested, test-all, test-next, test-none, test-stop}
-use Rattle.range.specs.Tuple.{emptyOf, isThere, rangeAt}
+use Rattle.common.proofs.IndexLaws.{Tested, test-all, test-next, test-none, test-stop}
+use Rattle.range.specs.Tuple.{emptyOf, isThere, regionRangeAt}
 use Rattle.range.proofs.tuple.none_present.Statement.{statement}
 use Rattle.range.proofs.tuple.none_present.Tie as tie
 
 abbrev Inv-loop : tie.InvT-loop
-Inv-loop t r₀ r = Tested (λ k. not (isThere (rangeAt t k))) regions r
+Inv-loop t r₀ r = Tested (λ k. not (isThere (regionRangeAt t k))) regions r
 
 abbrev μ-loop : tie.MeasureT-loop
 μ-loop t r₀ r = regions - r

@@ -1,5 +1,5 @@
 use borrow.Author.Needs.{needs}
-use Rattle.label.proofs.AnswerLaws.{answers-invalid, answers-passed}
+use Rattle.common.proofs.AnswerLaws.{answers-invalid, answers-passed}
 use Rattle.range.proofs.tuple.split.Statement.{statement}
 use Rattle.range.proofs.tuple.split.Tie as tie
 

@@ -1,14 +1,14 @@
 use borrow.Author.Needs.{needs}
 use Prim.Native.Nat.{_-_}
 use Rattle.label.specs.Region.{regions}
-use Rattle.label.proofs.BoolLaws.{told-false, told-true}
-use Rattle.label.proofs.IndexLaws.{Tested, test-all, test-next, test-none, test-stop}
-use Rattle.range.specs.Tuple.{rangeAt, validAt, validOf}
+use Rattle.common.proofs.BoolLaws.{told-false, told-true}
+use Rattle.common.proofs.IndexLaws.{Tested, test-all, test-next, test-none, test-stop}
+use Rattle.range.specs.Tuple.{regionRangeAt, validAt, validOf}
 use Rattle.range.proofs.tuple.valid.Statement.{statement}
 use Rattle.range.proofs.tuple.valid.Tie as tie
 
 abbrev Inv-loop : tie.InvT-loop
-Inv-loop t r₀ r = Tested (λ k. validAt k (rangeAt t k)) regions r
+Inv-loop t r₀ r = Tested (λ k. validAt k (regionRangeAt t k)) regions r
 
 abbrev μ-loop : tie.MeasureT-loop
 μ-loop t r₀ r = regions - r

@@ -1,14 +1,14 @@
 use borrow.Author.Needs.{needs}
 use Prim.Native.Nat.{_-_}
 use Rattle.label.specs.Region.{regions}
-use Rattle.label.proofs.BoolLaws.{told-false, told-true}
-use Rattle.label.proofs.IndexLaws.{Tested, test-all, test-next, test-none, test-stop}
-use Rattle.range.specs.Tuple.{rangeAt, withinAt, withinOf}
+use Rattle.common.proofs.BoolLaws.{told-false, told-true}
+use Rattle.common.proofs.IndexLaws.{Tested, test-all, test-next, test-none, test-stop}
+use Rattle.range.specs.Tuple.{regionRangeAt, withinAt, withinOf}
 use Rattle.range.proofs.tuple.within_regions.Statement.{statement}
 use Rattle.range.proofs.tuple.within_regions.Tie as tie
 
 abbrev Inv-loop : tie.InvT-loop
-Inv-loop t u r₀ r = Tested (λ k. withinAt (rangeAt t k) (rangeAt u k)) regions r
+Inv-loop t u r₀ r = Tested (λ k. withinAt (regionRangeAt t k) (regionRangeAt u k)) regions r
 
 abbrev μ-loop : tie.MeasureT-loop
 μ-loop t u r₀ r = regions - r

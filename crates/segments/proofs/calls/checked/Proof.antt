@@ -1,7 +1,7 @@
 use borrow.Author.Needs.{needs}
 use mathlib.Core.Path.{sym, ap, _∙_}
-use Rattle.label.specs.Answer.{outcomeOf}
-use Rattle.label.specs.declared.answer.Outcome.{Outcome}
+use Rattle.common.specs.Answer.{outcomeOf}
+use Rattle.common.specs.declared.answer.Outcome.{Outcome}
 use Rattle.segments.specs.Replies.{done}
 use Rattle.segments.proofs.ResultsLaws.{decides-stopped, start-passed}
 use Rattle.segments.proofs.calls.checked.Statement.{statement}

@@ -3,8 +3,8 @@ use mathlib.Core.Bool.{Bool, true, _&&_}
 use mathlib.Core.Path.{_≡_, sym, ap, _∙_}
 use borrow.Author.Tests.{ltb-true}
 use lib.Dec.{ltb}
-use Rattle.label.specs.declared.errno.Errno.the-variants.{Invalid}
-use Rattle.label.proofs.BoolLaws.{first-true, second-true, told-false, told-true}
+use Rattle.common.specs.declared.errno.Errno.the-variants.{Invalid}
+use Rattle.common.proofs.BoolLaws.{first-true, second-true, told-false, told-true}
 use Prim.Native.Nat.{_<_}
 use Rattle.segments.specs.Calls.{slotValid}
 use Rattle.segments.specs.Parts.{namedSlot}

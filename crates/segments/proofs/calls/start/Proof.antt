@@ -1,7 +1,7 @@
 use borrow.Author.Needs.{needs}
 use mathlib.Core.Bool.{true}
 use mathlib.Core.Path.{_≡_}
-use Rattle.label.proofs.BoolLaws.{told-false, told-true}
+use Rattle.common.proofs.BoolLaws.{told-false, told-true}
 use Rattle.segments.specs.Calls.{callValid}
 use Rattle.segments.specs.Parts.{startOf}
 use Rattle.segments.proofs.calls.start.Statement.{statement}

@@ -1,8 +1,8 @@
 use borrow.Author.Needs.{needs}
 use mathlib.Core.Bool.{true}
 use mathlib.Core.Path.{_≡_, ap, _∙_}
-use Rattle.label.specs.declared.errno.Errno.the-variants.{Access, NoMem, NoSpace}
-use Rattle.label.proofs.BoolLaws.{told-false, told-true}
+use Rattle.common.specs.declared.errno.Errno.the-variants.{Access, NoMem, NoSpace}
+use Rattle.common.proofs.BoolLaws.{told-false, told-true}
 use Rattle.segments.specs.Calls.{accessOf, found, permitted, slotFor, slotOr0}
 use Rattle.segments.proofs.ResultsLaws.{decides-granted, access-refused}
 use Rattle.segments.proofs.calls.started.Statement.{statement}

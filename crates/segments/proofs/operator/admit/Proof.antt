@@ -4,8 +4,8 @@ use mathlib.Core.Path.{_≡_, sym, ap, _∙_}
 use Prim.Native.Nat.{_<_}
 use borrow.Author.Tests.{ltb-true, not-false}
 use lib.Dec.{leb, ltb}
-use Rattle.label.specs.declared.errno.Errno.the-variants.{Busy, Invalid}
-use Rattle.label.proofs.BoolLaws.{three-true, told-false, told-true}
+use Rattle.common.specs.declared.errno.Errno.the-variants.{Busy, Invalid}
+use Rattle.common.proofs.BoolLaws.{three-true, told-false, told-true}
 use Rattle.range.specs.Tuple
 use Rattle.segments.specs.Operator.{admitAnswer, admitOf}
 use Rattle.segments.specs.Segments.{tenants}

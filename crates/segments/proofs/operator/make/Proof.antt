@@ -1,7 +1,7 @@
 use borrow.Author.Needs.{needs}
 use mathlib.Core.Path.{refl, sym, ap, _∙_}
-use Rattle.label.specs.declared.errno.Errno.the-variants.{Invalid}
-use Rattle.label.proofs.AnswerLaws.{passed, stopped}
+use Rattle.common.specs.declared.errno.Errno.the-variants.{Invalid}
+use Rattle.common.proofs.AnswerLaws.{passed, stopped}
 use Rattle.segments.specs.Parts.{unlabeled}
 use Rattle.segments.specs.Operator.{makeAnswer, makeOf}
 use Rattle.segments.specs.Replies.{done}

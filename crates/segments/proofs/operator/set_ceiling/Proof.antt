@@ -4,8 +4,8 @@ use mathlib.Core.Path.{_≡_, ap}
 use Prim.Native.Nat.{_<_}
 use native.Mathlib.Omega.{arith}
 use lib.Dec.{leb}
-use Rattle.label.specs.declared.errno.Errno.the-variants.{Busy, Invalid}
-use Rattle.label.proofs.BoolLaws.{first-true, told-false, told-true}
+use Rattle.common.specs.declared.errno.Errno.the-variants.{Busy, Invalid}
+use Rattle.common.proofs.BoolLaws.{first-true, told-false, told-true}
 use Rattle.segments.specs.Operator.{setCeilingAnswer, setCeilingOf}
 use Rattle.segments.specs.Segments.{tenantOf, tenants, withTenant}
 use Rattle.segments.specs.Slots.{pagesOf}

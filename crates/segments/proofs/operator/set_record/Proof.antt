@@ -3,9 +3,9 @@ use mathlib.Core.Option.{Option}
 use mathlib.Core.Path.{_≡_, refl, ap, _∙_}
 use Prim.Native.Nat.{ℕ, _+_, _-_}
 use lib.Dec.{leb}
-use Rattle.label.specs.declared.errno.Errno.the-variants.{NoMem}
-use Rattle.label.proofs.AnswerLaws.{passed, stopped}
-use Rattle.label.proofs.BoolLaws.{told-false, told-true}
+use Rattle.common.specs.declared.errno.Errno.the-variants.{NoMem}
+use Rattle.common.proofs.AnswerLaws.{passed, stopped}
+use Rattle.common.proofs.BoolLaws.{told-false, told-true}
 use Rattle.segments.specs.Parts.{fitsIn, unlabeled}
 use Rattle.segments.specs.Replies.{done}
 use Rattle.segments.specs.Segments.{ceilingAt}

@@ -4,7 +4,7 @@ use Prim.Native.Nat.{_+_, _-_}
 use native.Mathlib.Omega.{arith}
 use borrow.Author.Tests.{le-leb, leb-true}
 use lib.Dec.{leb}
-use Rattle.label.proofs.BoolLaws.{same-truth}
+use Rattle.common.proofs.BoolLaws.{same-truth}
 use Rattle.segments.proofs.slots.fits.Statement.{statement}
 use Rattle.segments.proofs.slots.fits.Tie as tie
 

@@ -2,7 +2,7 @@ use borrow.Author.Needs.{needs}
 use mathlib.Core.Bool.{not}
 use mathlib.Core.Path.{sym, ap, _∙_}
 use Prim.Native.Nat.{_-_}
-use Rattle.label.proofs.IndexLaws.{Tested, test-all, test-next, test-none}
+use Rattle.common.proofs.IndexLaws.{Tested, test-all, test-next, test-none}
 use Rattle.segments.specs.Segments.{tenantId, tenants}
 use Rattle.segments.specs.Slots.{owns}
 use Rattle.segments.proofs.slots.owner_of.Statement.{statement}

@@ -2,7 +2,7 @@ use borrow.Author.Needs.{needs}
 use mathlib.Core.Path.{_≡_, sym, ap, _∙_}
 use Prim.Native.Nat.{_+_, _-_, _≤_}
 use native.Mathlib.Omega.{arith}
-use Rattle.label.specs.Index.{sumFrom}
+use Rattle.common.specs.Index.{sumFrom}
 use Rattle.segments.specs.Parts.{leftOf}
 use Rattle.segments.specs.Segments.{pagesAt, slot, slots}
 use Rattle.segments.specs.Slots.{pagesOf}

@@ -3,8 +3,8 @@ use mathlib.Core.Bool.{true}
 use mathlib.Core.Path.{_≡_, sym, ap, _∙_}
 use Prim.Native.Nat.{_≤_, _<_}
 use native.Mathlib.Omega.{arith}
-use Rattle.label.specs.Answer.{granted}
-use Rattle.label.proofs.BoolLaws.{told-false, told-true}
+use Rattle.common.specs.Answer.{granted}
+use Rattle.common.proofs.BoolLaws.{told-false, told-true}
 use Rattle.segments.specs.Parts.{remainingOf}
 use Rattle.segments.specs.Segments.{ceilingAt, tenants}
 use Rattle.segments.specs.Slots.{pagesOf}

@@ -5,10 +5,10 @@ use mathlib.Core.Path.{_≡_, refl, sym, ap, _∙_}
 use Prim.Native.Nat.{ℕ, _-_, _<_}
 use native.Mathlib.Omega.{arith}
 use Rattle.label.specs.Region.{regions}
-use Rattle.label.proofs.BoolLaws.{told-false, told-true}
-use Rattle.label.proofs.IndexLaws.{Tested, test-all, test-next, test-none, test-stop}
+use Rattle.common.proofs.BoolLaws.{told-false, told-true}
+use Rattle.common.proofs.IndexLaws.{Tested, test-all, test-next, test-none, test-stop}
 use Rattle.label.proofs.RegionLaws.{region-within}
-use Rattle.range.specs.Tuple.{rangeAt}
+use Rattle.range.specs.Tuple.{regionRangeAt}
 use Rattle.segments.specs.Parts.{segmentSound}
 use Rattle.segments.specs.Segments.{clearanceAt, segmentAt, slot, slots, tenantId, tenants}
 use Rattle.segments.specs.Sound.{slotSound}

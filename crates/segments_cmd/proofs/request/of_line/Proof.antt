@@ -2,8 +2,8 @@ use borrow.Author.Needs.{needs}
 use mathlib.Core.Path.{_≡_}
 use borrow.Author.Tests.{ne-eqb, not-false, not-true}
 use denote.Ref.{now}
-use Rattle.console.specs.Command.{wordOf}
-use Rattle.segments_cmd.specs.Request.{byCount, requestOf}
+use Rattle.console.specs.Command.{commandWord}
+use Rattle.segments_cmd.specs.Request.{byCount, requestOfLine}
 use Rattle.segments_cmd.proofs.request.of_line.Statement.{statement}
 use Rattle.segments_cmd.proofs.request.of_line.Tie as tie
 
@@ -11,14 +11,14 @@ use Rattle.segments_cmd.proofs.request.of_line.Tie as tie
 asked : (c : tie.After-numbers)
     → let p = c .before .before .before in
     let line = now (c .before .before .before .before .before .args .line) in
-    requestOf line ≡ byCount (wordOf line) (p .parse .result .count) (p .parse .result .numbers)
-unfolding requestOf
+    requestOfLine line ≡ byCount (commandWord line) (p .parse .result .count) (p .parse .result .numbers)
+unfolding requestOfLine
 asked c =
     let p = c .before .before .before in
     rw (← p .parse .ensures, not-false (p .parse .result .valid) (c .before .if1 .left))
 
 returns : tie.Need-returns
-unfolding requestOf
+unfolding requestOfLine
 returns c = let p = c .before .before in rw (← p .parse .ensures, not-true (p .parse .result .valid) (c .if1 .taken))
 
 returns-2 : tie.Need-returns-2

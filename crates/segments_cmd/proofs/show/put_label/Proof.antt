@@ -1,7 +1,7 @@
 use borrow.Author.Needs.{needs}
 use native.Mathlib.Omega.{arith}
 use Rattle.octets.proofs.ByteLaws.{appended-put, then-put}
-use Rattle.segments_cmd.specs.Show.{labelText}
+use Rattle.segments_cmd.specs.Show.{labelNumbersText}
 use Rattle.segments_cmd.proofs.show.put_label.Statement.{statement}
 use Rattle.segments_cmd.proofs.show.put_label.Tie as tie
 
@@ -12,7 +12,7 @@ put-categories-requires c κs =
     let e = q .past in omega arith
 
 returns : tie.Need-returns
-unfolding labelText
+unfolding labelNumbersText
 returns c =
     let k = c .before .before in
     let a = k .before .before .before .before in

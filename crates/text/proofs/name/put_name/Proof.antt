@@ -5,7 +5,7 @@ use native.Mathlib.Omega.{arith}
 use Rattle.hexline.specs.declared.entry.Span.{Span}
 use Rattle.octets.proofs.ByteLaws.{nothing-put}
 use Rattle.alias.specs.Lines.{entriesBy}
-use Rattle.alias.specs.Lookup.{foundOf, lastOf}
+use Rattle.alias.specs.Lookup.{foundEntryOf, lastEntryFor}
 use Rattle.text.proofs.WriteLaws.{name-found, name-length, name-none}
 use Rattle.text.proofs.name.put_name.Statement.{statement}
 use Rattle.text.proofs.name.put_name.Tie as tie
@@ -13,8 +13,8 @@ use Rattle.text.proofs.name.put_name.Tie as tie
 -- where an entry is found
 found : (f : tie.After-found)
     → let a = f .before .before .before .before .before .before .args in
-    lastOf (entriesBy (a .table .now) (a .starts .now)) (a .value) (a .l) ≡ some (f .found .given .0 .0)
-found f = sym (f .before .before .last .ensures) ∙ ap foundOf (f .found .given .1)
+    lastEntryFor (entriesBy (a .table .now) (a .starts .now)) (a .value) (a .l) ≡ some (f .found .given .0 .0)
+found f = sym (f .before .before .last .ensures) ∙ ap foundEntryOf (f .found .given .1)
 
 put-span-requires : tie.Need-put-span-requires
 put-span-requires c κs =
@@ -36,7 +36,7 @@ returns-2 : tie.Need-returns-2
 returns-2 c =
     let k = c .before .before in
     let a = k .before .before .before .before .args in
-    rw (name-none (a .table .now) (a .starts .now) (a .v) (a .value) (a .l) (sym (k .last .ensures) ∙ ap foundOf (c .enum-told .given .1)))
+    rw (name-none (a .table .now) (a .starts .now) (a .v) (a .value) (a .l) (sym (k .last .ensures) ∙ ap foundEntryOf (c .enum-told .given .1)))
     (nothing-put (a .out .now) (a .at))
 
 pub put-name-spec : {M : Type 1} → statement M

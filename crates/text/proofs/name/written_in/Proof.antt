@@ -1,7 +1,7 @@
 use borrow.Author.Needs.{needs}
 use mathlib.Core.Path.{_≡_}
 use borrow.Author.Tests.{le-leb, lt-leb}
-use Rattle.text.specs.Measure.{writtenIn}
+use Rattle.text.specs.Internal.Measure.{writtenIn}
 use Rattle.text.proofs.WriteLaws.{written-small}
 use Rattle.text.proofs.name.written_in.Statement.{statement}
 use Rattle.text.proofs.name.written_in.Tie as tie

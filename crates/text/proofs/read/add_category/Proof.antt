@@ -2,10 +2,10 @@ use borrow.Author.Needs.{needs}
 use mathlib.Core.Logic.{⊎-elim}
 use mathlib.Core.Path.{_≡_, refl}
 use native.Mathlib.Omega.{arith}
-use Rattle.label.specs.Answer.{andThen}
-use Rattle.label.proofs.AnswerLaws.{answers-grant}
+use Rattle.common.specs.Answer.{andThen}
+use Rattle.common.proofs.AnswerLaws.{answers-grant}
 use Rattle.alias.specs.Lines.{entriesBy}
-use Rattle.text.specs.Named.{addedTo, valueNamedOf}
+use Rattle.text.specs.Internal.Named.{addedTo, valueNamedOf}
 use Rattle.text.specs.Read.{categoryBy, categoryNamed, noCategories}
 use Rattle.text.specs.declared.read.Named.{Named}
 use Rattle.text.proofs.ReadLaws.{no-category, value-then}

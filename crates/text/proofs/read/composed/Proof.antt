@@ -2,11 +2,11 @@ use borrow.Author.Needs.{needs}
 use mathlib.Core.Logic.{⊎-elim}
 use mathlib.Core.Path.{_≡_, refl}
 use native.Mathlib.Omega.{arith}
-use Rattle.label.specs.Answer.{andThen}
+use Rattle.common.specs.Answer.{andThen}
 use Rattle.label.specs.Label.{zeroLabel}
-use Rattle.label.proofs.AnswerLaws.{answers-grant, grant-next, refusal-next}
+use Rattle.common.proofs.AnswerLaws.{answers-grant, grant-next, refusal-next}
 use Rattle.alias.specs.Lines.{entriesBy}
-use Rattle.text.specs.Named.{valueNamedOf}
+use Rattle.text.specs.Internal.Named.{valueNamedOf}
 use Rattle.text.specs.Read.{composedOf, hierarchyBy, hierarchyNamed}
 use Rattle.text.specs.declared.read.Named.{Named}
 use Rattle.text.proofs.ReadLaws.{no-hierarchy, value-then}

@@ -1,6 +1,6 @@
 use borrow.Author.Needs.{needs}
 use mathlib.Core.Path.{sym, _∙_}
-use Rattle.label.proofs.AnswerLaws.{answers-same, grant-next, passed, refusal-next, stopped}
+use Rattle.common.proofs.AnswerLaws.{answers-same, grant-next, passed, refusal-next, stopped}
 use Rattle.text.specs.Read.{endsOf}
 use Rattle.text.proofs.read.ends.Statement.{statement}
 use Rattle.text.proofs.read.ends.Tie as tie

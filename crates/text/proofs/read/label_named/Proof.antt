@@ -1,11 +1,11 @@
 use borrow.Author.Needs.{needs}
 use mathlib.Core.Path.{_≡_, refl, sym, ap, _∙_}
 use Rattle.label.specs.Label.{zeroLabel}
-use Rattle.label.proofs.AnswerLaws.{answers-grant, answers-same}
+use Rattle.common.proofs.AnswerLaws.{answers-grant, answers-same}
 use Rattle.hexline.specs.Line.{standingIn}
 use Rattle.hexline.specs.declared.entry.Value.{Value}
 use Rattle.alias.specs.Lines.{entriesBy}
-use Rattle.alias.specs.Lookup.{foundOf}
+use Rattle.alias.specs.Lookup.{foundEntryOf}
 use Rattle.text.specs.Read.{labelBy, labelNamed}
 use Rattle.text.proofs.ReadLaws.{named-line, named-none}
 use Rattle.text.proofs.read.label_named.Statement.{statement}
@@ -22,7 +22,7 @@ told t e =
     let k = l .before .before in
     let f = k .before .before in
     let a = f .before .before .before .before .args in
-    named-line (a .table .now) (a .starts .now) (a .text .now) _ (sym (f .find .ensures) ∙ ap foundOf (k .found .given .1)) (l .line .ensures)
+    named-line (a .table .now) (a .starts .now) (a .text .now) _ (sym (f .find .ensures) ∙ ap foundEntryOf (k .found .given .1)) (l .line .ensures)
     ∙ ap (λ (v : Value). labelBy v (standingIn (l .line .result .now) .label)) (sym (t .value .ensures) ∙ e)
 
 returns : tie.Need-returns
@@ -30,7 +30,7 @@ unfolding labelNamed
 returns c =
     let f = c .before .before .before in
     let a = f .before .before .before .before .args in
-    answers-same (c .no-label .ensures) (named-none (a .table .now) (a .starts .now) (a .text .now) _ (sym (f .find .ensures) ∙ ap foundOf (c .before .enum-told .given .1)))
+    answers-same (c .no-label .ensures) (named-none (a .table .now) (a .starts .now) (a .text .now) _ (sym (f .find .ensures) ∙ ap foundEntryOf (c .before .enum-told .given .1)))
 
 returns-2 : tie.Need-returns-2
 returns-2 c =

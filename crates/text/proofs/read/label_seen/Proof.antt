@@ -1,7 +1,7 @@
 use borrow.Author.Needs.{needs}
 use mathlib.Core.Path.{refl, sym, _∙_}
 use Rattle.label.specs.Label.{zeroLabel}
-use Rattle.label.proofs.AnswerLaws.{answers-grant, answers-same, grant-next, passed, refusal-beside, refusal-next, stopped}
+use Rattle.common.proofs.AnswerLaws.{answers-grant, answers-same, grant-next, passed, refusal-beside, refusal-next, stopped}
 use Rattle.text.specs.Read.{labelSeen}
 use Rattle.text.proofs.read.label_seen.Statement.{statement}
 use Rattle.text.proofs.read.label_seen.Tie as tie

@@ -1,6 +1,6 @@
 use borrow.Author.Needs.{needs}
 use mathlib.Core.Path.{refl, sym, _∙_}
-use Rattle.label.proofs.AnswerLaws.{answers-grant, answers-same, grant-next, passed, refusal-next, stopped}
+use Rattle.common.proofs.AnswerLaws.{answers-grant, answers-same, grant-next, passed, refusal-next, stopped}
 use Rattle.range.specs.Range.{zeroRange}
 use Rattle.text.specs.Read.{rangeFrom}
 use Rattle.text.proofs.read.range_from.Statement.{statement}

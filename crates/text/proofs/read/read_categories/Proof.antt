@@ -3,11 +3,11 @@ use mathlib.Core.Path.{_≡_, refl, ap, _∙_}
 use Prim.Native.Nat.{_+_, _-_, _≤_}
 use native.Mathlib.Omega.{arith}
 use lib.ListN.{length, length-drop}
-use Rattle.label.specs.Answer.{andThen}
-use Rattle.label.proofs.AnswerLaws.{answers-grant, answers-same, grant-next, refusal-beside, refusal-next}
+use Rattle.common.specs.Answer.{andThen}
+use Rattle.common.proofs.AnswerLaws.{answers-grant, answers-same, grant-next, refusal-beside, refusal-next}
 use Rattle.octets.specs.Bytes.{split}
 use Rattle.alias.specs.Lines.{entriesBy}
-use Rattle.text.specs.Named.{addedTo}
+use Rattle.text.specs.Internal.Named.{addedTo}
 use Rattle.text.specs.Read.{categoriesRead, noCategories}
 use Rattle.text.specs.Write.{comma}
 use Rattle.text.proofs.ReadLaws.{readFrom, read-end, read-next}

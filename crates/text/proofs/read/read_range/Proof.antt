@@ -1,6 +1,6 @@
 use borrow.Author.Needs.{needs}
-use Rattle.label.proofs.AnswerLaws.{answers-same, refusal-next}
-use Rattle.text.specs.Read.{readRangeOf}
+use Rattle.common.proofs.AnswerLaws.{answers-same, refusal-next}
+use Rattle.text.specs.Read.{readRangeText}
 use Rattle.text.proofs.SubjectLaws.{table-next}
 use Rattle.text.proofs.read.read_range.Statement.{statement}
 use Rattle.text.proofs.read.read_range.Tie as tie
@@ -13,7 +13,7 @@ returns-2 c =
     let b = c .before in
     let e = b .before .before .before .before in
     let a = e .before .before .before .before .before .args in
-    answers-same (c .read-range-checked .ensures) (table-next (a .more) (a .table .now) (e .before .before .check .ensures) (e .enum-told2 .given .1) (b .starts-to .ensures) (λ es. readRangeOf es (a .caller) (a .text .now)))
+    answers-same (c .read-range-checked .ensures) (table-next (a .more) (a .table .now) (e .before .before .check .ensures) (e .enum-told2 .given .1) (b .starts-to .ensures) (λ es. readRangeText es (a .caller) (a .text .now)))
 
 pub read-range-spec : {M : Type 1} → statement M
 read-range-spec =

@@ -1,18 +1,18 @@
 use borrow.Author.Needs.{needs}
-use Rattle.label.proofs.AnswerLaws.{require-both}
-use Rattle.text.specs.Read.{readRangeOf}
+use Rattle.common.proofs.AnswerLaws.{require-both}
+use Rattle.text.specs.Read.{readRangeText}
 use Rattle.text.proofs.read.read_range_checked.Statement.{statement}
 use Rattle.text.proofs.read.read_range_checked.Tie as tie
 
 returns : tie.Need-returns
-unfolding readRangeOf
+unfolding readRangeText
 returns c =
     let r = c .before in
     let b = r .before .before in
     rw (← b .before .before .valid .ensures, ← b .begins-with .ensures, ← r .rest .ensures, ← require-both, r .before .if1 .taken) (c .ends .ensures)
 
 returns-2 : tie.Need-returns-2
-unfolding readRangeOf
+unfolding readRangeText
 returns-2 c =
     let b = c .before .before in
     rw (← b .before .before .valid .ensures, ← b .begins-with .ensures, ← require-both, c .before .if1 .left) (c .no-range .ensures)

@@ -3,8 +3,8 @@ use borrow.Author.Tests.{not-false, not-true}
 use mathlib.Core.Bool.{Bool, _&&_}
 use mathlib.Core.Path.{_≡_, refl, sym, _∙_}
 use Rattle.label.specs.Caller.{callerValid}
-use Rattle.label.specs.declared.errno.Errno.the-variants.{Access, Invalid}
-use Rattle.label.proofs.AnswerLaws.{answers-grant, answers-refusal, passed, stopped}
+use Rattle.common.specs.declared.errno.Errno.the-variants.{Access, Invalid}
+use Rattle.common.proofs.AnswerLaws.{answers-grant, answers-refusal, passed, stopped}
 use Rattle.text.specs.Subject.{allowedOf}
 use Rattle.text.proofs.write.allowed.Statement.{statement}
 use Rattle.text.proofs.write.allowed.Tie as tie

@@ -5,7 +5,7 @@ use Prim.Native.Nat.{_*_, _-_}
 use native.Mathlib.Omega.{arith}
 use lib.ListN.{length}
 use Rattle.label.specs.Label.{zeroLabel}
-use Rattle.label.specs.Words.{foundOf, nextOf, words}
+use Rattle.label.specs.Words.{foundCategoryOf, nextCategoryFrom, words}
 use Rattle.label.proofs.ListingLaws.{next-within}
 use Rattle.hexline.specs.Entry.{nameSize}
 use Rattle.hexline.specs.declared.entry.Value.the-variants.{Category}
@@ -24,8 +24,8 @@ abbrev μ-loop : tie.MeasureT-loop
 -- the category that is found
 found : (n : tie.After-next2 Inv-loop μ-loop)
     → let h = n .before .before .before .before in
-    nextOf (h .before .before .before .args .categories) (h .loop .c) ≡ some (n .next2 .given .0 .0)
-found n = sym (n .before .before .next .ensures) ∙ ap foundOf (n .next2 .given .1)
+    nextCategoryFrom (h .before .before .before .args .categories) (h .loop .c) ≡ some (n .next2 .given .0 .0)
+found n = sym (n .before .before .next .ensures) ∙ ap foundCategoryOf (n .next2 .given .1)
 
 -- the name that is there
 whole : (m : tie.After-m Inv-loop μ-loop)
@@ -77,7 +77,7 @@ returns c =
 loop-again-2 : tie.Need-loop-again-2 Inv-loop μ-loop
 loop-again-2 c =
     let n = c .before .before in
-    let h = n .before .before in measured-past (h .loop .inv) (sym (n .next .ensures) ∙ ap foundOf (c .enum-told2 .given .1))
+    let h = n .before .before in measured-past (h .loop .inv) (sym (n .next .ensures) ∙ ap foundCategoryOf (c .enum-told2 .given .1))
 
 returns-2 : tie.Need-returns-2 Inv-loop μ-loop
 returns-2 c = measured-all (c .before .loop .inv) (c .loop-test .left)

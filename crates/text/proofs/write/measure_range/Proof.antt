@@ -3,7 +3,7 @@ use mathlib.Core.Bool.{and-false}
 use Prim.Native.Nat.{_≤_}
 use native.Mathlib.Omega.{arith}
 use Rattle.alias.specs.Lines.{entriesBy}
-use Rattle.text.specs.Measure.{maxLabel}
+use Rattle.text.specs.Internal.Measure.{maxLabel}
 use Rattle.text.specs.Write.{allNamed}
 use Rattle.text.proofs.PartLaws.{low-counts, whole-counts}
 use Rattle.text.proofs.WriteLaws.{counted, counts, missed, misses}

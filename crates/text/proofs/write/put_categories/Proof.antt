@@ -4,7 +4,7 @@ use mathlib.Core.Path.{_≡_, sym, ap, _∙_}
 use Prim.Native.Nat.{_*_, _-_}
 use native.Mathlib.Omega.{arith}
 use lib.ListN.{length}
-use Rattle.label.specs.Words.{foundOf, nextOf, words}
+use Rattle.label.specs.Words.{foundCategoryOf, nextCategoryFrom, words}
 use Rattle.label.proofs.ListingLaws.{next-within}
 use Rattle.octets.proofs.ByteLaws.{put-same-length}
 use Rattle.alias.specs.Lines.{entriesBy}
@@ -21,8 +21,8 @@ abbrev μ-loop : tie.MeasureT-loop
 -- the category that is found
 found : (n : tie.After-next2 Inv-loop μ-loop)
     → let h = n .before .before .before .before in
-    nextOf (h .before .before .before .before .args .categories) (h .loop .c) ≡ some (n .next2 .given .0 .0)
-found n = sym (n .before .before .next .ensures) ∙ ap foundOf (n .next2 .given .1)
+    nextCategoryFrom (h .before .before .before .before .args .categories) (h .loop .c) ≡ some (n .next2 .given .0 .0)
+found n = sym (n .before .before .next .ensures) ∙ ap foundCategoryOf (n .next2 .given .1)
 
 loop-holds : tie.Need-loop-holds Inv-loop μ-loop
 loop-holds c = let h : length (c .before .before .before .args .categories) ≡ words = search needs in put-none h
@@ -55,7 +55,7 @@ loop-again c =
 loop-again-2 : tie.Need-loop-again-2 Inv-loop μ-loop
 loop-again-2 c =
     let n = c .before .before in
-    let h = n .before .before in put-past (h .loop .inv) (sym (n .next .ensures) ∙ ap foundOf (c .enum-told .given .1))
+    let h = n .before .before in put-past (h .loop .inv) (sym (n .next .ensures) ∙ ap foundCategoryOf (c .enum-told .given .1))
 
 same-length : tie.Need-same-length Inv-loop μ-loop
 same-length c = let h = c .before in put-same-length (h .before .before .before .before .pre) (put-every (h .loop .inv) (c .loop-test .left))

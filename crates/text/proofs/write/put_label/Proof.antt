@@ -1,6 +1,6 @@
 use borrow.Author.Needs.{needs}
 use mathlib.Core.Path.{sym, ap, _∙_}
-use Rattle.alias.specs.Lookup.{foundOf}
+use Rattle.alias.specs.Lookup.{foundEntryOf}
 use Rattle.text.specs.Write.{textIn}
 use Rattle.text.proofs.PartLaws.{alias-text, definition-instead}
 use Rattle.text.proofs.write.put_label.Statement.{statement}
@@ -19,7 +19,7 @@ put-name-requires c κs =
     let l = t .before .before in
     let f = l .before in
     let s = f .before .before .before .before .before in
-    rw (f .enum-told2 .given .1, alias-text _ _ _ (sym (l .last .ensures) ∙ ap foundOf (t .enum-told3 .given .1))) at (s .pre)
+    rw (f .enum-told2 .given .1, alias-text _ _ _ (sym (l .last .ensures) ∙ ap foundEntryOf (t .enum-told3 .given .1))) at (s .pre)
 
 put-definition-requires-2 : tie.Need-put-definition-requires-2
 put-definition-requires-2 c κs =
@@ -27,7 +27,7 @@ put-definition-requires-2 c κs =
     let l = t .before .before in
     let f = l .before in
     let s = f .before .before .before .before .before in
-    rw (f .enum-told2 .given .1, definition-instead _ _ _ (sym (l .last .ensures) ∙ ap foundOf (t .enum-told4 .given .1))) at (s .pre)
+    rw (f .enum-told2 .given .1, definition-instead _ _ _ (sym (l .last .ensures) ∙ ap foundEntryOf (t .enum-told4 .given .1))) at (s .pre)
 
 returns : tie.Need-returns
 unfolding textIn
@@ -40,14 +40,14 @@ returns-2 c =
     let p = c .before .before in
     let t = p .before .before in
     let l = t .before .before in
-    rw (l .before .enum-told2 .given .1, alias-text _ _ _ (sym (l .last .ensures) ∙ ap foundOf (t .enum-told3 .given .1))) (p .put-name .ensures)
+    rw (l .before .enum-told2 .given .1, alias-text _ _ _ (sym (l .last .ensures) ∙ ap foundEntryOf (t .enum-told3 .given .1))) (p .put-name .ensures)
 
 returns-3 : tie.Need-returns-3
 returns-3 c =
     let p = c .before .before in
     let t = p .before .before in
     let l = t .before .before in
-    rw (l .before .enum-told2 .given .1, definition-instead _ _ _ (sym (l .last .ensures) ∙ ap foundOf (t .enum-told4 .given .1))) (p .put-definition2 .ensures)
+    rw (l .before .enum-told2 .given .1, definition-instead _ _ _ (sym (l .last .ensures) ∙ ap foundEntryOf (t .enum-told4 .given .1))) (p .put-definition2 .ensures)
 
 pub put-label-spec : {M : Type 1} → statement M
 put-label-spec =

@@ -4,7 +4,7 @@ use Prim.Native.Nat.{ℕ}
 use native.Mathlib.Omega.{arith}
 use Rattle.octets.proofs.ByteLaws.{appended-put, both-put, first-fits, second-fits}
 use Rattle.alias.specs.Lines.{entriesBy}
-use Rattle.text.specs.Measure.{highText}
+use Rattle.text.specs.Internal.Measure.{highText}
 use Rattle.text.specs.Write.{labelText, lowMarker}
 use Rattle.text.proofs.write.put_range.Statement.{statement}
 use Rattle.text.proofs.write.put_range.Tie as tie

@@ -1,7 +1,7 @@
 use borrow.Author.Needs.{needs}
 use mathlib.Core.Path.{refl, _∙_}
-use Rattle.label.proofs.AnswerLaws.{grant-next, refused-next}
-use Rattle.label.proofs.BufferLaws.{writes-nothing}
+use Rattle.common.proofs.AnswerLaws.{grant-next, refused-next}
+use Rattle.common.proofs.BufferLaws.{writes-nothing}
 use Rattle.text.specs.Write.{writeLabelOf}
 use Rattle.text.proofs.RoomLaws.{written-same}
 use Rattle.text.proofs.SubjectLaws.{allowed-next}

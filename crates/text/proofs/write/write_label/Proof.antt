@@ -1,7 +1,7 @@
 use borrow.Author.Needs.{needs}
 use mathlib.Core.Path.{refl}
-use Rattle.label.proofs.BufferLaws.{writes-nothing}
-use Rattle.label.proofs.AnswerLaws.{refused-next}
+use Rattle.common.proofs.BufferLaws.{writes-nothing}
+use Rattle.common.proofs.AnswerLaws.{refused-next}
 use Rattle.text.specs.Write.{writeLabelOf}
 use Rattle.text.proofs.RoomLaws.{written-same}
 use Rattle.text.proofs.SubjectLaws.{table-next}

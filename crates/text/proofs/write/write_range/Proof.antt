@@ -1,6 +1,6 @@
 use borrow.Author.Needs.{needs}
 use mathlib.Core.Path.{refl}
-use Rattle.label.proofs.AnswerLaws.{refused-next}
+use Rattle.common.proofs.AnswerLaws.{refused-next}
 use Rattle.text.specs.Write.{writeRangeOf}
 use Rattle.text.proofs.RoomLaws.{range-refusal, range-same}
 use Rattle.text.proofs.SubjectLaws.{table-next}

@@ -1,8 +1,8 @@
 use borrow.Author.Needs.{needs}
 use mathlib.Core.Path.{refl, _∙_}
-use Rattle.label.proofs.AnswerLaws.{grant-next, refused-next}
+use Rattle.common.proofs.AnswerLaws.{grant-next, refused-next}
 use Rattle.alias.specs.Lines.{entriesBy}
-use Rattle.text.specs.Measure.{rangeNamed, rangeText, statusOf}
+use Rattle.text.specs.Internal.Measure.{rangeNamed, rangeText, statusOf}
 use Rattle.text.specs.Write.{writeRangeOf}
 use Rattle.text.proofs.PartLaws.{range-shown}
 use Rattle.text.proofs.RoomLaws.{range-refusal, range-same, range-written}

@@ -1,0 +1,4 @@
+pub mod Index
+pub mod Errno
+pub mod Answer
+pub mod Buffer

@@ -1,0 +1,3 @@
+-- Definitions that only the contracts of functions that are not public cite: no promise rests on them.
+pub mod Measure
+pub mod Named
