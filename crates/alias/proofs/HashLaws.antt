@@ -28,7 +28,8 @@ use Rattle.hexline.specs.declared.entry.Entry.{Entry}
 use Rattle.alias.specs.Internal.Hash.{Hashes, HashesKept, HashesOf, Filtered, NoneCollide, NoneWithin, foldedHash, inFilter, hashFrom, hashOf, hashedCount, filterWords, withHash, collide, collideAt, collidesBefore, nameHash, nextHash, otherBytes, otherHash, repeatsWithin}
 use Rattle.alias.specs.Lines.{entryAt, maxLines}
 use Rattle.alias.specs.Lookup.{calledOf}
-use Rattle.alias.specs.Table.{firstRepeat, repeatsAt, sharesOf}
+use Rattle.alias.specs.Table.{repeatsAt, sharesOf}
+use Rattle.alias.specs.Internal.Walk.{firstRepeat}
 use Rattle.alias.proofs.LookupLaws.{sharesAt}
 
 -- ---- the hash of bytes, from the front
@@ -198,7 +199,7 @@ unfolding bit
 power-bit s = ap (λ (z : ℕ). eqb (z % 2) 1) (ap (λ (z : ℕ). z / 2 ^ s) (sym (one-mul (2 ^ s))) ∙ shl-shr 1 s)
 
 module _ (filter : List ℕ) (size : length filter ≡ filterWords) where
-  -- a mark stays set
+  -- a bit stays set
   filter-kept : (hash other : ℕ) → inFilter filter hash ≡ true → inFilter (withHash filter other) hash ≡ true
   filter-kept hash other h = ⊎-elim same (λ u. ap (λ (w : ℕ). bit w (hash % 64)) (getD-set-other filter j i (bitOr x y) 0 u) ∙ h) (same-or-not i j)
     where
@@ -253,7 +254,7 @@ module _ {names others filter : List ℕ} {k : ℕ} (h : Filtered names others k
   pub filter-next : {first second : List ℕ} → first ≡ withHash filter (getD names k 0) → second ≡ withHash first (getD others k 0) → Filtered names others (k + 1) second
   filter-next e f = rw (f, e) filter-both
 
-  -- a hash that has no mark is none of the earlier ones
+  -- a hash whose bit is not set is none of the earlier ones
   apart : (hash c : ℕ) → inFilter filter hash ≡ true → inFilter filter c ≡ false → eqb hash c ≡ false
   apart hash c m z = not-so (eqb hash c) (λ e. true≢false (sym m ∙ ap (inFilter filter) (eqb-true hash c e) ∙ z))
 
@@ -265,7 +266,7 @@ module _ {names others filter : List ℕ} {k : ℕ} (h : Filtered names others k
       (some-none (collideAt names others k) k
       (λ j m. rw (apart _ _ (h .name j m) (d .0), apart _ _ (h .other j m) (d .0), apart _ _ (h .name j m) (d .1), apart _ _ (h .other j m) (d .1))))
 
--- such a loop over n entries has filter the hashes of the first k, and none of these was met before
+-- such a loop over n entries has the hashes of the first k in the filter, and none of these collides with an earlier one
 pub record Filtering (names others : List ℕ) (n : ℕ) (filter : List ℕ) (k : ℕ) : Type 0 where
   pub upto : k ≤ n
   pub hashes : Filtered names others k filter

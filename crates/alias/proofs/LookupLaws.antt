@@ -25,7 +25,8 @@ use Rattle.hexline.specs.declared.entry.Value.{Value}
 use Rattle.hexline.specs.declared.entry.Value.the-variants.{Hierarchy, Category, WholeLabel}
 use Rattle.hexline.proofs.entry.Value.{the-type}
 use Rattle.hexline.proofs.StandingLaws.{abbreviation-stands, name-stands, span-at, span-length}
-use Rattle.alias.specs.Lines.{entriesBy, entriesOf, entryAt, lineAt, linesBy, partAt}
+use Rattle.octets.specs.Lines.{lineAt}
+use Rattle.alias.specs.Lines.{entriesBy, entriesOf, entryAt, linesBy, partAt}
 use Rattle.alias.specs.Lookup.{calledOf, sameValue, standsFor}
 use Rattle.alias.specs.Table.{sharesOf}
 

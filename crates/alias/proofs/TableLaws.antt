@@ -25,7 +25,8 @@ use Rattle.hexline.specs.Entry.{TypedEntry, abbreviationBytes, nameBytes}
 use Rattle.hexline.specs.Line.{readEntryLine, standingIn}
 use Rattle.hexline.specs.declared.entry.Entry.{Entry}
 use Rattle.hexline.proofs.StandingLaws.{entry-standing, standing-read, standing-typed}
-use Rattle.alias.specs.Lines.{entriesOf, entryAt, indexedOf, lineAt, linesBy, linesOf, maxLines}
+use Rattle.octets.specs.Lines.{lineAt, linesOf}
+use Rattle.alias.specs.Lines.{entriesOf, entryAt, indexedOf, linesBy, maxLines}
 use Rattle.alias.specs.Lookup.{calledOf}
 use Rattle.alias.specs.Table.{badAt, checkTable, judgedLines, repeatsAt, sharesOf, verdictOf}
 use Rattle.alias.specs.Internal.Walk.{faultyAt, faultyOf}

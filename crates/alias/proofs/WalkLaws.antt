@@ -17,11 +17,14 @@ use Rattle.hexline.specs.Entry.{abbreviationBytes, nameBytes, zeroEntry}
 use Rattle.hexline.specs.Line.{standingIn}
 use Rattle.hexline.specs.declared.entry.Entry.{Entry}
 use Rattle.alias.specs.Internal.Hash.{HashesKept, hashedCount}
-use Rattle.alias.specs.Lines.{bytesBefore, entriesBy, entriesOf, entryAt, indexedOf, linesBy, linesOf, maxLines}
-use Rattle.alias.specs.Table.{badAt, checkTable, firstRepeat, judgedLines, repeatsAt, sharesOf}
+use Rattle.octets.specs.Lines.{bytesBefore, linesOf}
+use Rattle.alias.specs.Lines.{entriesBy, entriesOf, entryAt, indexedOf, linesBy, maxLines}
+use Rattle.alias.specs.Table.{badAt, checkTable, judgedLines, repeatsAt, sharesOf}
+use Rattle.alias.specs.Internal.Walk.{firstRepeat}
 use Rattle.alias.specs.Internal.Walk.{Walks, faultyAt, faultyOf, linesFrom}
 use Rattle.alias.specs.declared.LineStarts.{LineStarts}
-use Rattle.alias.proofs.LinesLaws.{LineHere, first-lines-by-starts, lines-end, starts-next, starts-none}
+use Rattle.octets.proofs.LineLaws.{LineHere, lines-end}
+use Rattle.alias.proofs.LinesLaws.{first-lines-by-starts, starts-next, starts-none}
 use Rattle.alias.proofs.HashLaws.{kept-same}
 use Rattle.alias.proofs.LookupLaws.{entry-of, lines-length}
 use Rattle.alias.proofs.TableLaws.{entries-length, faulty-bad, faulty-few, good-few, judged-cut-off, judged-faulty, judged-longer, judged-whole}

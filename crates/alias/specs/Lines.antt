@@ -1,11 +1,11 @@
 -- Document 01, "Names and text": the lines of an alias table, and the entries in them.
 use mathlib.Core.Bool.{cond}
-use mathlib.Core.List.{List, [], _∷_, map}
-use Prim.Native.Nat.{ℕ, zero, suc, _+_, _-_}
-use lib.Dec.{eqb, leb}
+use mathlib.Core.List.{List, map}
+use Prim.Native.Nat.{ℕ, _+_, _-_}
+use lib.Dec.{leb}
 use lib.ListN.{drop, getD, length, take}
 use Rattle.common.specs.Index.{tabulate}
-use Rattle.octets.specs.Bytes.{lf}
+use Rattle.octets.specs.Lines.{bytesBefore}
 use Rattle.hexline.specs.Entry.{zeroEntry}
 use Rattle.hexline.specs.Line.{standingIn}
 use Rattle.hexline.specs.declared.entry.Entry.{Entry}
@@ -15,19 +15,6 @@ use Rattle.alias.specs.declared.LineStarts.{LineStarts}
 abbrev pub maxLines : ℕ
 maxLines = 512
 
--- b at the start of the first line
-abbrev pub startFirst : ℕ → List (List ℕ) → List (List ℕ)
-startFirst b [] = (b ∷ []) ∷ []
-startFirst b (l ∷ ls) = (b ∷ l) ∷ ls
-
--- bytes cut after each LF: each line has its LF, and what stands after the last LF is a line too, which does not end
-unfoldable pub linesOf : List ℕ → List (List ℕ)
-linesOf [] = []
-linesOf (b ∷ bs) = cond (eqb b lf) ((b ∷ []) ∷ linesOf bs) (startFirst b (linesOf bs))
-
-abbrev pub lineAt : List (List ℕ) → ℕ → List ℕ
-lineAt ls k = getD ls k []
-
 -- the entries of lines
 unfoldable pub entriesOf : List (List ℕ) → List Entry
 entriesOf ls = map standingIn ls
@@ -36,12 +23,6 @@ abbrev pub entryAt : List Entry → ℕ → Entry
 entryAt es k = getD es k zeroEntry
 
 -- ---- where lines begin
-
--- how many bytes the first k lines have
-unfoldable pub bytesBefore : List (List ℕ) → ℕ → ℕ
-bytesBefore ls zero = 0
-bytesBefore [] (suc k) = 0
-bytesBefore (l ∷ ls) (suc k) = length l + bytesBefore ls k
 
 -- where line k begins, and for the number past the last line where that ends; zeros past these
 unfoldable pub lineStart : List (List ℕ) → ℕ → ℕ

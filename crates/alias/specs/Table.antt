@@ -11,7 +11,8 @@ use Rattle.octets.specs.Bytes.{sameBytes}
 use Rattle.hexline.specs.Entry.{abbreviationBytes, nameBytes}
 use Rattle.hexline.specs.Line.{readEntryLine}
 use Rattle.hexline.specs.declared.entry.Entry.{Entry}
-use Rattle.alias.specs.Lines.{entriesOf, entryAt, indexedOf, lineAt, linesOf, maxLines}
+use Rattle.octets.specs.Lines.{lineAt, linesOf}
+use Rattle.alias.specs.Lines.{entriesOf, entryAt, indexedOf, maxLines}
 use Rattle.alias.specs.Lookup.{calledOf}
 use Rattle.alias.specs.declared.LineStarts.{LineStarts}
 
@@ -22,10 +23,6 @@ sharesOf e f = calledOf e (nameBytes f) || (leb 1 (length (abbreviationBytes f))
 -- whether entry k repeats a name: within itself, or of an earlier entry. Case counts
 unfoldable pub repeatsAt : List Entry → ℕ → Bool
 repeatsAt es k = sameBytes (nameBytes (entryAt es k)) (abbreviationBytes (entryAt es k)) || someBelow (λ j. sharesOf (entryAt es j) (entryAt es k)) k
-
--- the first entry that repeats a name
-unfoldable pub firstRepeat : List Entry → Option ℕ
-firstRepeat es = firstFrom (repeatsAt es) 0 (length es)
 
 -- whether line k is bad: the 513th or a later one, a faulty line or one of another kind, or a repeat
 unfoldable pub badAt : List (List ℕ) → ℕ → Bool

@@ -1,4 +1,4 @@
-// Marks of the hashes that were met, a bit each: a hash whose mark is not set was not. The hashes are compared only where it is.
+// A bitmap filter of the hashes so far: a hash whose bit is not set is none of them. Hashes are compared only where it is.
 use crate::MAX_LINES;
 use crate::hash::collides_before;
 ghost use mathlib.Core.Path.{_≡_};
@@ -9,11 +9,11 @@ ghost use Rattle.alias.specs.Lines.{maxLines};
 
 const FILTER_WORDS: usize = 256;
 
-// The word that has the mark of a hash.
+// The word that has the bit of a hash.
 fn filter_word(hash: u32) -> usize
     ensures { λ r. ⌜ r ≡ hash / 64 % filterWords ⌝ }
 {
-    (hash / 64 % 256) as usize
+    (hash / 64 % FILTER_WORDS as u32) as usize
 }
 
 fn in_filter(filter: &[u64; FILTER_WORDS], hash: u32) -> bool
@@ -30,7 +30,7 @@ fn insert(filter: &mut [u64; FILTER_WORDS], hash: u32)
     filter[i] = filter[i] | (1 << (hash % 64));
 }
 
-// Whether entry k, by its hashes, may have a name in common with an earlier entry, where the hashes of these are filter.
+// Whether entry k, by its hashes, may have a name in common with an earlier entry, where the hashes of these are in the filter.
 fn collides(
     names: &[u32; MAX_LINES],
     others: &[u32; MAX_LINES],

@@ -11,7 +11,7 @@ ghost use Rattle.hexline.specs.Line.{readEntryLine, standingIn};
 ghost use Rattle.hexline.specs.declared.entry.Entry.{Entry};
 ghost use Rattle.alias.specs.Internal.Hash.{HashesOf, foldedHash, hashOf, collidesBefore};
 
-// What hashes are made with: 2 ^ 48, a number below 2 ^ 16, and 2 ^ 32.
+// What a hash is made with; the definitions say why these numbers.
 const MODULUS: u64 = 281474976710656;
 
 const MULTIPLIER: u64 = 65491;

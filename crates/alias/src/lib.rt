@@ -10,8 +10,6 @@ mod repeats;
 use crate::lines::walk;
 use common::answer::Outcome;
 use common::errno::Errno;
-ghost use mathlib.Core.Path.{_≡_};
-ghost use mathlib.Core.List.{List};
 ghost use mathlib.Core.Option.{some};
 ghost use Rattle.common.specs.Answer.{Answered, refused};
 ghost use Rattle.alias.specs.Lines.{noLines};

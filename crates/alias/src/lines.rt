@@ -9,8 +9,10 @@ ghost use Prim.Native.Nat.{_+_, _<_, _≤_};
 ghost use lib.ListN.{drop, length, replicate};
 ghost use Rattle.octets.specs.Bytes.{indexOf, lf};
 ghost use Rattle.alias.specs.Internal.Hash.{HashesKept};
-ghost use Rattle.alias.specs.Lines.{entriesOf, linesOf, maxLines};
-ghost use Rattle.alias.specs.Internal.Walk.{Walks, lineEnd, linesFrom};
+ghost use Rattle.octets.specs.Lines.{linesOf};
+ghost use Rattle.alias.specs.Lines.{entriesOf, maxLines};
+ghost use Rattle.octets.specs.Lines.{lineEnd};
+ghost use Rattle.alias.specs.Internal.Walk.{Walks, linesFrom};
 
 // How many lines there are before the first that is bad by itself, whether there is one, and whether an entry among those before it may have its
 // name as its abbreviation too.

@@ -9,7 +9,8 @@ use label::Label;
 ghost use mathlib.Core.Path.{_≡_};
 ghost use Prim.Native.Nat.{_+_, _-_};
 ghost use lib.ListN.{drop, length, take};
-ghost use Rattle.alias.specs.Lines.{entriesBy, lineAt, linesBy};
+ghost use Rattle.octets.specs.Lines.{lineAt};
+ghost use Rattle.alias.specs.Lines.{entriesBy, linesBy};
 ghost use Rattle.alias.specs.Lookup.{findOf, foundEntryOf, lastEntryFor, nextEntryFor};
 
 // The starts of so many lines, and of the end of the last: all that there are where these are fewer.

@@ -11,7 +11,7 @@ ghost use Rattle.hexline.specs.Entry.{abbreviationBytes, nameBytes, spanBytes};
 ghost use Rattle.hexline.specs.Line.{standingIn};
 ghost use Rattle.label.specs.Label as labels;
 ghost use Rattle.octets.specs.Bytes.{sameBytes};
-ghost use Rattle.alias.specs.Lookup.{calledOf, sameValue, standsFor};
+ghost use Rattle.alias.specs.Lookup.{calledOf, standsFor};
 ghost use Rattle.alias.specs.Table.{sharesOf};
 
 // Whether a line's body has a text at a span. The length is compared first.

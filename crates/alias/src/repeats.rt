@@ -14,7 +14,8 @@ ghost use Rattle.common.specs.Index.{someBelow};
 ghost use Rattle.alias.specs.Internal.Hash.{Hashes, HashesKept, hashedCount};
 ghost use Rattle.alias.specs.Lines.{entriesBy, entryAt};
 ghost use Rattle.alias.specs.Lookup.{foundEntryOf};
-ghost use Rattle.alias.specs.Table.{firstRepeat, repeatsAt, sharesOf};
+ghost use Rattle.alias.specs.Table.{repeatsAt, sharesOf};
+ghost use Rattle.alias.specs.Internal.Walk.{firstRepeat};
 
 // Whether an entry before entry k has a name in common with it, by the names.
 fn shared_before(table: &[u8], starts: &[usize], k: usize) -> bool

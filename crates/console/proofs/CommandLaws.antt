@@ -12,7 +12,8 @@ use lib.Seq.{drop-cons, drop-drop, drop-set-lt, length-take-le, take-suc-set}
 use borrow.Author.Tests.{eq-eqb, le-leb, lt-leb, ne-eqb}
 use Rattle.octets.specs.Bytes.{FirstIndex, blank, indexOf, lf}
 use Rattle.octets.proofs.ByteLaws.{fieldsFrom, split-first}
-use Rattle.console.specs.Command.{bodyCommandOf, beforeLf, commandOf, consOf, endedOf, invalidCommand, most, numberReadOf, fieldNumber, numbersOf, ofNumbers, commandWord}
+use Rattle.console.specs.Command.{bodyCommandOf, beforeLf, commandOf, consOf, endedOf, invalidCommand, most, fieldNumber, numbersOf, ofNumbers, commandWord}
+use Rattle.console.specs.Internal.Numbers.{numberReadOf}
 use Rattle.console.specs.declared.command.Command.{Command}
 use Rattle.console.specs.declared.command.Number.{Number}
 use Rattle.console.specs.declared.command.Number.the-variants.{Value, Bad}

@@ -7,8 +7,6 @@ use lib.Dec.{eqb, leb, ltb}
 use lib.ListN.{length, replicate, take}
 use Rattle.octets.specs.Bytes.{blank, firstField, indexOf, lf, otherFields, split}
 use Rattle.console.specs.declared.command.Command.{Command}
-use Rattle.console.specs.declared.command.Number.{Number}
-use Rattle.console.specs.declared.command.Number.the-variants.{Value, Bad}
 
 -- how many numbers a command has at most
 abbrev pub most : ℕ
@@ -30,11 +28,6 @@ decimalValue bs = decimalFrom 0 bs
 -- the number that a field is: one or more digits, with a value below 2 ^ 64
 unfoldable pub fieldNumber : List ℕ → Option ℕ
 fieldNumber bs = cond (ltb 0 (length bs) && digits bs && ltb (decimalValue bs) (2 ^ 64)) (some (decimalValue bs)) none
-
--- what the enum Number says
-abbrev pub numberReadOf : Number → Option ℕ
-numberReadOf (Value v) = some v
-numberReadOf Bad = none
 
 -- a number and the numbers behind it, if there are both
 abbrev pub consOf : Option ℕ → Option (List ℕ) → Option (List ℕ)

@@ -2,10 +2,8 @@
 use mathlib.Core.Bool.{cond}
 use mathlib.Core.List.{List, [], _∷_, _++_}
 use mathlib.Core.Option.{Option, none, some}
-use mathlib.Core.Path.{_≡_}
-use Prim.Native.Nat.{ℕ, zero, suc, _+_, _/_, _%_, _≤_}
+use Prim.Native.Nat.{ℕ, zero, suc, _+_, _/_, _%_}
 use lib.Dec.{ltb}
-use lib.ListN.{length}
 use Rattle.common.specs.Errno.{detailOf, errnoNumber}
 use Rattle.common.specs.declared.errno.Errno.{Errno}
 use Rattle.octets.specs.Bytes.{ascii, blank, lf}
@@ -38,8 +36,3 @@ refusalText n carried = errorWord ++ decimalOf n ++ carriedText carried ++ (lf �
 -- the line that answers a refusal
 unfoldable pub errorText : Errno → List ℕ
 errorText e = refusalText (errnoNumber e) (detailOf e)
-
--- r is how many bytes bs has, and that is at most n
-pub record ByteCount (n : ℕ) (bs : List ℕ) (r : ℕ) : Type 0 where
-  pub count : r ≡ length bs
-  pub at-most : r ≤ n

@@ -1,3 +1,4 @@
 pub mod Lines
 pub mod Command
 pub mod Format
+pub mod Internal

@@ -6,6 +6,7 @@ use Prim.Native.Nat.{ℕ, _+_, _≤_, max, min}
 use lib.Dec.{leb, ltb}
 use lib.ListN.{drop, length, take}
 use Rattle.octets.specs.Bytes.{indexOf, lf, putAt}
+use Rattle.octets.specs.Lines.{firstEnds, firstLine}
 use Rattle.console.specs.declared.lines.Line.{Line}
 use Rattle.console.specs.declared.lines.Line.the-variants.{More, Whole, Bad}
 use Rattle.console.specs.declared.lines.Partial.{Partial}
@@ -36,11 +37,11 @@ pieceBy false false next n = piece next skipped More
 -- what the bytes `rest`, which stand in the chunk from index `from` on, make of the line that p holds
 unfoldable pub pieceOf : List ℕ → ℕ → ℕ → Partial → Piece
 pieceOf rest from size p =
-    pieceBy (ltb (indexOf lf rest) (length rest)) (fitsOf p (indexOf lf rest) size) (from + indexOf lf rest) (p .length + indexOf lf rest)
+    pieceBy (firstEnds rest) (fitsOf p (indexOf lf rest) size) (from + indexOf lf rest) (p .length + indexOf lf rest)
 
--- the buffer then: where they fit, the bytes up to the LF and the LF, or all of `rest` where it has no LF, are put behind those that are held
+-- the buffer then: where it fits, the first line of `rest`, or what there is of it, is put behind what is held
 unfoldable pub pieceBuffer : List ℕ → List ℕ → Partial → List ℕ
-pieceBuffer rest buffer p = cond (fitsOf p (indexOf lf rest) (length buffer)) (putAt buffer (p .length) (take (indexOf lf rest + 1) rest)) buffer
+pieceBuffer rest buffer p = cond (fitsOf p (indexOf lf rest) (length buffer)) (putAt buffer (p .length) (firstLine rest)) buffer
 
 -- at the end of the input, a line with no LF is bad
 abbrev pub lineAtEnd : Partial → Line

@@ -3,7 +3,8 @@ use octets::BLANK;
 use octets::LF;
 ghost use mathlib.Core.Path.{_≡_};
 ghost use Rattle.octets.specs.Bytes.{sameBytes};
-ghost use Rattle.console.specs.Command.{bodyCommandOf, commandOf, invalidCommand, numberReadOf, fieldNumber, skippedOf, commandWord};
+ghost use Rattle.console.specs.Command.{bodyCommandOf, commandOf, invalidCommand, fieldNumber, skippedOf, commandWord};
+ghost use Rattle.console.specs.Internal.Numbers.{numberReadOf};
 
 // How many numbers a command has at most.
 pub const MAX_NUMBERS: usize = 6;

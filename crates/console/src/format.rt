@@ -5,8 +5,10 @@ use common::errno::Errno;
 ghost use Prim.Native.Nat.{_+_, _≤_};
 ghost use lib.ListN.{length};
 ghost use Rattle.common.specs.Errno.{carriedOf};
-ghost use Rattle.octets.specs.Bytes.{Appended, Put};
-ghost use Rattle.console.specs.Format.{ByteCount, carriedText, decimalOf, errorText, refusalText};
+ghost use Rattle.octets.specs.Bytes.{Appended};
+ghost use Rattle.octets.specs.Internal.Put.{Put};
+ghost use Rattle.console.specs.Format.{carriedText, decimalOf, errorText, refusalText};
+ghost use Rattle.console.specs.Internal.Numbers.{ByteCount};
 
 // How many decimal digits n has.
 fn decimal_length(n: u64) -> usize

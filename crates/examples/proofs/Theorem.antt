@@ -17,7 +17,8 @@ use Rattle.hexline.specs.Body.{baseNumber}
 use Rattle.hexline.specs.Entry
 use Rattle.hexline.specs.Line.{contentsOf, entryForm, bodyForm, standingIn, tupleBody, tupleForm}
 use Rattle.hexline.specs.Regions.{presenceOf, presentBelow, regionAt, regionBytes, regionsBytes, tupleAt}
-use Rattle.alias.specs.Lines.{entriesOf, linesOf}
+use Rattle.octets.specs.Lines.{linesOf}
+use Rattle.alias.specs.Lines.{entriesOf}
 use Rattle.alias.specs.Lookup.{calledOf, lastEntryFor, sameValue, standsFor}
 use Rattle.alias.specs.Table
 use Rattle.text.specs.Write

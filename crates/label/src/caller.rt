@@ -1,6 +1,6 @@
 // Who asks, where what is answered depends on what the one that asks may see: of a text, and of the monitor.
 use crate::Label;
-use crate::components;
+use crate::tested;
 ghost use mathlib.Core.Path.{_≡_};
 ghost use Rattle.label.specs.Caller.{seesOf};
 
@@ -13,8 +13,5 @@ pub struct Caller {
 pub fn sees(c: Caller, l: Label) -> bool
     ensures { λ r. ⌜ r ≡ seesOf c l ⌝ }
 {
-    let own = c.label;
-    let x = own.categories;
-    let y = l.categories;
-    c.read_override | components::dominates(own.hierarchy, x, l.hierarchy, y)
+    c.read_override | tested::dominates(c.label, l)
 }

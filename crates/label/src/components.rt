@@ -4,7 +4,7 @@ use crate::words;
 use crate::words::WORDS;
 ghost use mathlib.Core.Path.{_≡_};
 ghost use Prim.Native.Nat.{max, min};
-ghost use Rattle.label.specs.Label.{dominatesOf, equalOf, labelOf, lowerBoundOf, upperBoundOf};
+ghost use Rattle.label.specs.Label.{dominatesOf, equalOf, labelOf, lowerBoundOf, upperBoundOf, zeroLabel};
 
 // Whether the first label dominates the second.
 pub fn dominates(ah: u64, ac: [u64; WORDS], bh: u64, bc: [u64; WORDS]) -> bool
@@ -18,6 +18,14 @@ pub fn equal(ah: u64, ac: [u64; WORDS], bh: u64, bc: [u64; WORDS]) -> bool
     ensures { λ r. ⌜ r ≡ equalOf (labelOf ah ac) (labelOf bh bc) ⌝ }
 {
     (ah == bh) & words::same(ac, bc)
+}
+
+// Whether the label is the label of zeros, as is held where there is none.
+pub fn is_zero(h: u64, c: [u64; WORDS]) -> bool
+    ensures { λ r. ⌜ r ≡ equalOf (labelOf h c) zeroLabel ⌝ }
+{
+    let none = [0u64; WORDS];
+    equal(h, c, 0, none)
 }
 
 // The larger of two hierarchy numbers.

@@ -3,6 +3,7 @@
 pub mod caller;
 pub mod components;
 pub mod region;
+mod tested;
 pub mod words;
 
 use crate::words::FoundCategory;
@@ -81,9 +82,7 @@ pub fn dominates(a: Label, b: Label) -> Test
     ensures { λ r. ⌜ testOf r ≡ require (validOf a && validOf b) 22 (granted (dominatesOf a b)) ⌝ }
 {
     if both_valid(a, b) {
-        let x = a.categories;
-        let y = b.categories;
-        return Test::Holds(components::dominates(a.hierarchy, x, b.hierarchy, y));
+        return Test::Holds(tested::dominates(a, b));
     }
     Test::Refused(Errno::Invalid)
 }
@@ -93,9 +92,7 @@ pub fn equal(a: Label, b: Label) -> Test
     ensures { λ r. ⌜ testOf r ≡ require (validOf a && validOf b) 22 (granted (equalOf a b)) ⌝ }
 {
     if both_valid(a, b) {
-        let x = a.categories;
-        let y = b.categories;
-        return Test::Holds(components::equal(a.hierarchy, x, b.hierarchy, y));
+        return Test::Holds(tested::equal(a, b));
     }
     Test::Refused(Errno::Invalid)
 }
@@ -105,11 +102,9 @@ pub fn upper_bound(a: Label, b: Label) -> LabelAnswer
     ensures { λ r. ⌜ Answered (r .outcome) (r .label) zeroLabel (require (validOf a && validOf b) 22 (granted (upperBoundOf a b))) ⌝ }
 {
     if both_valid(a, b) {
-        let x = a.categories;
-        let y = b.categories;
         return LabelAnswer {
             outcome: Outcome::Granted,
-            label: components::upper_bound(a.hierarchy, x, b.hierarchy, y),
+            label: tested::upper_bound(a, b),
         };
     }
     LabelAnswer {
@@ -123,11 +118,9 @@ pub fn lower_bound(a: Label, b: Label) -> LabelAnswer
     ensures { λ r. ⌜ Answered (r .outcome) (r .label) zeroLabel (require (validOf a && validOf b) 22 (granted (lowerBoundOf a b))) ⌝ }
 {
     if both_valid(a, b) {
-        let x = a.categories;
-        let y = b.categories;
         return LabelAnswer {
             outcome: Outcome::Granted,
-            label: components::lower_bound(a.hierarchy, x, b.hierarchy, y),
+            label: tested::lower_bound(a, b),
         };
     }
     LabelAnswer {

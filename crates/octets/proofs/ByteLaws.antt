@@ -10,7 +10,8 @@ use lib.Dec.{eqb, leb}
 use lib.ListN.{drop, getD, length, set, take, drop-of-length-le, length-append, length-take, take-append-drop}
 use lib.Seq.{append-snoc, drop-append-add, drop-append-seam, drop-at, drop-cons, drop-drop, drop-length, length-paste, length-take-le, paste, set-split, take-append-seam, take-at, take-length, take-set-le}
 use borrow.Author.Tests.{eq-eqb, eqb-true, le-leb, leb-false, leb-true, lt-leb, ne-eqb}
-use Rattle.octets.specs.Bytes.{Appended, Put, appendedOf, indexOf, onFirst, pastOf, putAt, sameBytes, split}
+use Rattle.octets.specs.Bytes.{Appended, appendedOf, indexOf, onFirst, pastOf, putAt, sameBytes, split}
+use Rattle.octets.specs.Internal.Put.{Put}
 
 -- ---- indexOf
 

@@ -66,11 +66,6 @@ pub record FirstIndex (b : ℕ) (xs : List ℕ) (r : ℕ) : Type 0 where
   pub index : r ≡ indexOf b xs
   pub within : r ≤ length xs
 
--- the bytes bs were put in out at index at, and r is the index past them
-pub record Put (out : List ℕ) (at : ℕ) (bs : List ℕ) (r : ℕ) (after : List ℕ) : Type 0 where
-  pub past : r ≡ at + length bs
-  pub written : after ≡ putAt out at bs
-
 -- r and the buffer `after` are what appending the bytes bs makes. The last three follow, and are stated for callers: r is an index of the
 -- buffer, if at is one
 pub record Appended (out : List ℕ) (at : ℕ) (bs : List ℕ) (r : ℕ) (after : List ℕ) : Type 0 where

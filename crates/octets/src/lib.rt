@@ -4,7 +4,8 @@ ghost use mathlib.Core.Path.{_≡_};
 ghost use Prim.Native.Nat.{_+_, _≤_};
 ghost use lib.Dec.{leb};
 ghost use lib.ListN.{drop, length, take};
-ghost use Rattle.octets.specs.Bytes.{Appended, FirstIndex, Put, sameBytes};
+ghost use Rattle.octets.specs.Bytes.{Appended, FirstIndex, sameBytes};
+ghost use Rattle.octets.specs.Internal.Put.{Put};
 
 pub const LF: u8 = 10;
 

@@ -1,13 +1,15 @@
 // Ranges of labels, and in `tuple` a range for each region. Each function tests what it is handed and refuses an invalid label, range or
 // tuple with 22 before its other checks; only the two functions `valid` answer a bare yes or no.
+pub mod components;
+mod tested;
 pub mod tuple;
 pub mod unchecked;
 
+use crate::tested::dominates;
 use common::answer::Outcome;
 use common::answer::Test;
 use common::errno::Errno;
 use label::Label;
-use label::components;
 ghost use mathlib.Core.Path.{_≡_};
 ghost use mathlib.Core.Bool.{_&&_};
 ghost use Rattle.common.specs.Answer.{Answered, granted, require, testOf};
@@ -37,15 +39,6 @@ pub fn zero() -> Range
     }
 }
 
-// Whether a dominates b, of labels that were tested.
-pub(crate) fn dominates(a: Label, b: Label) -> bool
-    ensures { λ r. ⌜ r ≡ labels.dominatesOf a b ⌝ }
-{
-    let x = a.categories;
-    let y = b.categories;
-    components::dominates(a.hierarchy, x, b.hierarchy, y)
-}
-
 pub fn valid(x: Range) -> bool
     ensures { λ r. ⌜ r ≡ validOf x ⌝ }
 {
@@ -73,17 +66,9 @@ pub fn contains(x: Range, l: Label) -> Test
 pub(crate) fn bounds(x: Range, y: Range) -> Range
     ensures { λ r. ⌜ r ≡ meetOf x y ⌝ }
 {
-    let xl = x.low;
-    let yl = y.low;
-    let xh = x.high;
-    let yh = y.high;
-    let a = xl.categories;
-    let b = yl.categories;
-    let c = xh.categories;
-    let d = yh.categories;
     Range {
-        low: components::upper_bound(xl.hierarchy, a, yl.hierarchy, b),
-        high: components::lower_bound(xh.hierarchy, c, yh.hierarchy, d),
+        low: tested::upper_bound(x.low, y.low),
+        high: tested::lower_bound(x.high, y.high),
     }
 }
 

@@ -1,5 +1,7 @@
 // Tuples: for each region a range whose ends lie in it, or none. A region's range is at the region's number.
 use crate::Range;
+use crate::tested::dominates;
+use crate::tested::is_zero;
 use common::answer::Outcome;
 use common::answer::Test;
 use common::errno::Errno;
@@ -14,7 +16,7 @@ ghost use Rattle.common.specs.Answer.{Answered, granted, require, testOf};
 ghost use Rattle.label.specs.Label as labels;
 ghost use Rattle.label.specs.Region.{regions};
 ghost use Rattle.range.specs.Range as ranges;
-ghost use Rattle.range.specs.Tuple.{TypedTuple, absent, containsOf, cutOf, emptyOf, emptyTuple, meetAt, meetOf, regionRangeAt, splitOf, validAt, validOf, withinAt, withinOf};
+ghost use Rattle.range.specs.Tuple.{TypedTuple, absent, containsAt, containsOf, cutOf, emptyOf, emptyTuple, meetAt, meetOf, regionRangeAt, splitOf, validAt, validOf, withinAt, withinOf};
 
 // The range of one region: `present` is 1. Where there is none it holds zeros, `present` too; no other number is valid.
 #[repr(C)]
@@ -63,7 +65,7 @@ fn valid_at(region: usize, e: RegionRange) -> bool
             & (region::of_hierarchy(e.range.low.hierarchy) == region)
             & (region::of_hierarchy(e.range.high.hierarchy) == region);
     }
-    (e.present == 0) & label::is_zero(e.range.low) & label::is_zero(e.range.high)
+    (e.present == 0) & is_zero(e.range.low) & is_zero(e.range.high)
 }
 
 pub fn valid(t: Tuple) -> bool
@@ -103,12 +105,33 @@ pub fn is_empty(t: Tuple) -> Test
     Test::Refused(Errno::Invalid)
 }
 
+// Whether a label is in what a tuple has for its region: in the range, if that is present.
+pub(crate) fn contains_at(e: RegionRange, l: Label) -> bool
+    ensures { λ r. ⌜ r ≡ containsAt e l ⌝ }
+{
+    (e.present == 1) & crate::holds(e.range, l)
+}
+
+// Whether a label is in a tuple, both tested. Each region has its own step: a tuple that is indexed by a variable is copied first.
+pub(crate) fn holds(t: Tuple, l: Label) -> bool
+    ensures { λ r. ⌜ r ≡ containsOf t l ⌝ }
+{
+    let r = region::of_hierarchy(l.hierarchy);
+    if r == region::VIRUS_PREVENTION {
+        return contains_at(t.ranges[region::VIRUS_PREVENTION], l);
+    }
+    if r == region::USER {
+        return contains_at(t.ranges[region::USER], l);
+    }
+    contains_at(t.ranges[region::ADMINISTRATIVE], l)
+}
+
 // Whether l is in t.
 pub fn contains(t: Tuple, l: Label) -> Test
     ensures { λ r. ⌜ testOf r ≡ require (validOf t && labels.validOf l) 22 (granted (containsOf t l)) ⌝ }
 {
     if valid(t) & label::valid(l) {
-        return Test::Holds(crate::unchecked::contains(t, l));
+        return Test::Holds(holds(t, l));
     }
     Test::Refused(Errno::Invalid)
 }
@@ -162,8 +185,8 @@ fn within_at(e: RegionRange, f: RegionRange) -> bool
 {
     (e.present != 1)
         | ((f.present == 1)
-            & crate::dominates(f.range.high, e.range.high)
-            & crate::dominates(e.range.low, f.range.low))
+            & dominates(f.range.high, e.range.high)
+            & dominates(e.range.low, f.range.low))
 }
 
 // Whether each label of t is in u, region by region.

@@ -1,7 +1,8 @@
 -- The answers of calls as text.
 use mathlib.Core.List.{List, [], _++_}
 use Prim.Native.Nat.{ℕ, _≤_}
-use Rattle.octets.specs.Bytes.{Put, ascii}
+use Rattle.octets.specs.Bytes.{ascii}
+use Rattle.octets.specs.Internal.Put.{Put}
 use Rattle.console.specs.Format.{decimalOf, errorText}
 use Rattle.hexline.specs.Line.{labelLineOf}
 use Rattle.common.specs.Answer.{valueOr}

@@ -15,7 +15,7 @@ use segments::TenantId;
 use segments::state;
 ghost use Prim.Native.Nat.{_+_, _<_, _≤_};
 ghost use lib.ListN.{length};
-ghost use Rattle.octets.specs.Bytes.{Put};
+ghost use Rattle.octets.specs.Internal.Put.{Put};
 ghost use Rattle.label.specs.Words.{membersOf};
 ghost use Rattle.segments.specs.Segments.{tenants};
 ghost use Rattle.segments_cmd.specs.Answer.{PutWithin};

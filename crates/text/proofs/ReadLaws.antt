@@ -16,7 +16,8 @@ use Rattle.hexline.specs.declared.entry.Entry.{Entry}
 use Rattle.hexline.specs.declared.entry.Value.{Value}
 use Rattle.hexline.specs.declared.entry.Value.the-variants.{Hierarchy, Category, WholeLabel}
 use Rattle.hexline.proofs.entry.Value.{the-type}
-use Rattle.alias.specs.Lines.{entriesBy, lineAt, linesBy}
+use Rattle.octets.specs.Lines.{lineAt}
+use Rattle.alias.specs.Lines.{entriesBy, linesBy}
 use Rattle.alias.specs.Lookup.{findOf}
 use Rattle.alias.proofs.LookupLaws.{calledAt, entries-at, entries-length}
 use Rattle.text.specs.Internal.Named.{addedTo, valueNamed, valueNamedOf}

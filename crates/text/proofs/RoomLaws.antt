@@ -15,7 +15,8 @@ use Rattle.common.specs.declared.answer.Written.{Written}
 use Rattle.common.specs.declared.answer.Written.the-variants.{Length, Refused}
 use Rattle.common.specs.declared.errno.Errno.{Errno}
 use Rattle.common.proofs.BufferLaws.{writes-nothing}
-use Rattle.octets.specs.Bytes.{Put, putAt}
+use Rattle.octets.specs.Bytes.{putAt}
+use Rattle.octets.specs.Internal.Put.{Put}
 use Rattle.text.specs.Write.{RangeWrittenTo, Shown, shown, statusOr}
 use Rattle.text.specs.declared.RangeWritten.{RangeWritten}
 use Rattle.text.specs.Internal.Measure.{MeasuredText, measureOf, roomOf}

@@ -12,11 +12,13 @@ use Rattle.common.specs.declared.answer.Outcome.{Outcome}
 use Rattle.common.specs.declared.answer.Outcome.the-variants.{Granted}
 use Rattle.common.proofs.AnswerLaws.{grant-next, granted-is, require-then}
 use Rattle.hexline.specs.declared.entry.Entry.{Entry}
-use Rattle.alias.specs.Lines.{entriesBy, entriesOf, linesOf, noLines}
+use Rattle.octets.specs.Lines.{linesOf}
+use Rattle.alias.specs.Lines.{entriesBy, entriesOf, noLines}
 use Rattle.alias.specs.Table.{checkTable}
 use Rattle.alias.specs.declared.LineStarts.{LineStarts}
 use Rattle.alias.proofs.TableLaws.{checked-lines}
-use Rattle.text.specs.Subject.{allowedOf, withTable}
+use Rattle.text.specs.Subject.{withTable}
+use Rattle.text.specs.Internal.Allowed.{allowedOf}
 
 -- a table that is granted: the entries by its starts are its own
 pub table-next : {A : Type 0} (more : Bool) (bytes : List ℕ) {starts : List ℕ} {o : Outcome} {x : LineStarts} → Answered o x noLines (checkTable more bytes) → o ≡ Granted

@@ -21,7 +21,8 @@ use Rattle.hexline.specs.Entry as entries
 use Rattle.hexline.specs.Entry.{entryFrom, isLetter, isNameByte, labelFrom, layoutOf, nameByteOk, nameOf, textByte, textFrom, valueByClass, valueOk, valueSize}
 use Rattle.hexline.specs.declared.entry.Entry.{Entry}
 use Rattle.hexline.specs.Line.{contentsOf, entryForm, bodyForm, standingIn}
-use Rattle.alias.specs.Lines.{entriesOf, indexedOf, linesOf}
+use Rattle.octets.specs.Lines.{linesOf}
+use Rattle.alias.specs.Lines.{entriesOf, indexedOf}
 use Rattle.alias.specs.Lookup.{calledOf, findOf, lastEntryFor, sameValue, standsFor}
 use Rattle.alias.specs.Table.{badAt, checkTable, judgedLines, repeatsAt, sharesOf}
 use Rattle.text.specs.Read.{categoriesRead, categoryNamed, composedOf, entryNamed, hierarchyNamed, labelInText, labelNamed, labelSeen, plain, readLabelText}

@@ -13,7 +13,8 @@ use Rattle.label.specs.declared.caller.Caller.{Caller}
 use Rattle.range.specs.Range
 use Rattle.range.specs.declared.Range.{Range}
 use Rattle.hexline.specs.declared.entry.Entry.{Entry}
-use Rattle.alias.specs.Lines.{entriesOf, linesOf}
+use Rattle.octets.specs.Lines.{linesOf}
+use Rattle.alias.specs.Lines.{entriesOf}
 use Rattle.alias.specs.Table.{checkTable}
 use Rattle.alias.specs.declared.LineStarts.{LineStarts}
 use Rattle.alias.proofs.TableLaws.{checked-good}

@@ -15,7 +15,7 @@ use Rattle.label.specs.Words.{membersBelow, membersOf, nextCategoryFrom, words}
 use Rattle.label.specs.declared.Label.{Label}
 use Rattle.label.proofs.ListingLaws.{all-listed, last-listed, members-front, next-listed, next-within}
 use Rattle.common.proofs.SearchLaws.{last-holds}
-use Rattle.octets.specs.Bytes.{Put}
+use Rattle.octets.specs.Internal.Put.{Put}
 use Rattle.octets.proofs.ByteLaws.{nothing-put, put-same-length, then-put}
 use Rattle.frame.specs.Frame.{bodyOf}
 use Rattle.hexline.specs.Entry.{nameSize, spanBytes}
@@ -25,7 +25,8 @@ use Rattle.hexline.specs.declared.entry.Span.{Span}
 use Rattle.hexline.specs.declared.entry.Value.{Value}
 use Rattle.hexline.specs.declared.entry.Value.the-variants.{Category}
 use Rattle.hexline.proofs.StandingLaws.{abbreviation-stands, name-stands, span-length}
-use Rattle.alias.specs.Lines.{entriesBy, entryAt, lineAt, linesBy}
+use Rattle.octets.specs.Lines.{lineAt}
+use Rattle.alias.specs.Lines.{entriesBy, entryAt, linesBy}
 use Rattle.alias.specs.Lookup.{lastEntryFor, standsFor}
 use Rattle.alias.proofs.LookupLaws.{entries-at, entries-length}
 use Rattle.text.specs.Internal.Measure.{MeasuredText, maxCategories, measureOf, roomOf, writtenIn}

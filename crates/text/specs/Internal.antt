@@ -1,3 +1,4 @@
 -- Definitions that only the contracts of functions that are not public cite: no promise rests on them.
 pub mod Measure
 pub mod Named
+pub mod Allowed

@@ -11,7 +11,7 @@ ghost use Prim.Native.Nat.{_+_, _<_, _≤_};
 ghost use lib.ListN.{length};
 ghost use Rattle.frame.specs.Frame.{bodyOf};
 ghost use Rattle.hexline.specs.Entry.{nameSize, spanBytes};
-ghost use Rattle.octets.specs.Bytes.{Put};
+ghost use Rattle.octets.specs.Internal.Put.{Put};
 ghost use Rattle.alias.specs.Lines.{entriesBy};
 ghost use Rattle.text.specs.Internal.Measure.{MeasuredText, writtenIn};
 ghost use Rattle.text.specs.Write.{nameFor, named};

@@ -28,10 +28,11 @@ ghost use Rattle.common.specs.Buffer.{WrittenTo, writtenOf};
 ghost use Rattle.label.specs.Label.{zeroLabel};
 ghost use Rattle.label.specs.Words.{membersOf};
 ghost use Rattle.hexline.specs.declared.entry.Value.the-variants.{Category};
-ghost use Rattle.octets.specs.Bytes.{Put};
+ghost use Rattle.octets.specs.Internal.Put.{Put};
 ghost use Rattle.alias.specs.Lines.{entriesBy};
 ghost use Rattle.text.specs.Internal.Measure.{MeasuredText, maxCategories, maxLabel, maxRange, measureOf, rangeNamed, rangeText, roomOf, statusOf};
-ghost use Rattle.text.specs.Subject.{allowedOf, withTable};
+ghost use Rattle.text.specs.Subject.{withTable};
+ghost use Rattle.text.specs.Internal.Allowed.{allowedOf};
 ghost use Rattle.text.specs.Write.{RangeWrittenTo, allNamed, categoriesNamed, categoriesText, colon, definitionNamed, definitionText, labelText, nameFor, writeLabelOf, writeRangeOf};
 
 // One past the last category.

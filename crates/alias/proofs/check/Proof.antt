@@ -3,7 +3,7 @@ use mathlib.Core.Path.{_≡_, refl, sym, ap, _∙_}
 use Rattle.common.proofs.AnswerLaws.{answers-grant}
 use Rattle.alias.specs.Lines.{entriesBy, noLines}
 use Rattle.alias.specs.Lookup.{foundEntryOf}
-use Rattle.alias.specs.Table.{firstRepeat}
+use Rattle.alias.specs.Internal.Walk.{firstRepeat}
 use Rattle.alias.specs.Internal.Walk.{linesFrom}
 use Rattle.alias.specs.declared.FoundEntry.{FoundEntry}
 use Rattle.alias.specs.declared.LineStarts.{LineStarts}

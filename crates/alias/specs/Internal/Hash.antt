@@ -1,4 +1,5 @@
--- Hashes of names, which tell most names apart without reading them: for functions that are not public.
+-- Hashes of names, which tell most names apart without reading them, and a bitmap filter of hashes. No promise rests on how good they are: where
+-- two hashes are the same, which is a collision, the names themselves are compared.
 use mathlib.Core.Bool.{Bool, true, false, cond, _||_}
 use mathlib.Core.List.{List, [], _∷_}
 use mathlib.Core.Path.{_≡_}
@@ -13,17 +14,29 @@ use Rattle.hexline.specs.Entry.{abbreviationBytes, nameBytes}
 use Rattle.hexline.specs.declared.entry.Entry.{Entry}
 use Rattle.alias.specs.Lines.{entryAt, maxLines}
 
--- a hash with one byte more. The first number is 2 ^ 48 and the second is below 2 ^ 16, so that it fits a word
+-- the modulus is 2 ^ 48. The multiplier is below 2 ^ 16, so that the product and a byte fit a word of 64 bits; near 2 ^ 16, so that a byte soon
+-- counts in the high bits; and odd, so that multiplying by it modulo 2 ^ 48 takes no two hashes to the same
+abbrev pub hashModulus : ℕ
+hashModulus = 281474976710656
+
+abbrev pub hashMultiplier : ℕ
+hashMultiplier = 65491
+
+-- a hash with one byte more
 abbrev pub nextHash : ℕ → ℕ → ℕ
-nextHash hash b = hash % 281474976710656 * 65491 + b
+nextHash hash b = hash % hashModulus * hashMultiplier + b
 
 unfoldable pub hashFrom : ℕ → List ℕ → ℕ
 hashFrom hash [] = hash
 hashFrom hash (b ∷ bs) = hashFrom (nextHash hash b) bs
 
--- the halves of a word in one: their sum, modulo 2 ^ 32
+-- 2 ^ 32: a hash is kept in 32 bits, of which a loop compares several at a time
+abbrev pub foldedModulus : ℕ
+foldedModulus = 4294967296
+
+-- the halves of a word in one: their sum, modulo 2 ^ 32, so that all bits count
 abbrev pub foldedHash : ℕ → ℕ
-foldedHash hash = (hash / 4294967296 + hash % 4294967296) % 4294967296
+foldedHash hash = (hash / foldedModulus + hash % foldedModulus) % foldedModulus
 
 -- the hash of bytes: any function of them would do
 unfoldable pub hashOf : List ℕ → ℕ
@@ -67,7 +80,7 @@ pub record HashesKept (es : List Entry) (n : ℕ) (names others : List ℕ) (unc
   pub hashes : Hashes es n names others
   pub within : unclear ≡ false → NoneWithin es n
 
--- whether one of a and b is one of c and d
+-- a collision: whether one of the hashes a and b is one of c and d
 abbrev pub collide : ℕ → ℕ → ℕ → ℕ → Bool
 collide a b c d = (eqb a c || eqb b c) || (eqb a d || eqb b d)
 
@@ -81,22 +94,21 @@ collidesBefore names others k = leb maxLines k || someBelow (collideAt names oth
 abbrev pub NoneCollide : List ℕ → List ℕ → ℕ → Type 0
 NoneCollide names others n = (k : ℕ) → k < n → collidesBefore names others k ≡ false
 
--- ---- marks of the hashes that were met, a bit each
-
--- in so many words of 64 bits
+-- ---- a bitmap filter of the hashes so far: a bit for each remainder of a hash, in so many words of 64 bits. A hash whose bit is not set is none
+-- of them. With 16,384 bits for at most 1,024 hashes, one in sixteen is set at most
 abbrev pub filterWords : ℕ
 filterWords = 256
 
--- whether the mark of a hash is set
+-- whether the bit of a hash is set
 abbrev pub inFilter : List ℕ → ℕ → Bool
-inFilter marked hash = bit (getD marked (hash / 64 % filterWords) 0) (hash % 64)
+inFilter filter hash = bit (getD filter (hash / 64 % filterWords) 0) (hash % 64)
 
--- with the mark of one more hash
+-- with the bit of one more hash
 abbrev pub withHash : List ℕ → ℕ → List ℕ
-withHash marked hash = set marked (hash / 64 % filterWords) (bitOr (getD marked (hash / 64 % filterWords) 0) (2 ^ (hash % 64)))
+withHash filter hash = set filter (hash / 64 % filterWords) (bitOr (getD filter (hash / 64 % filterWords) 0) (2 ^ (hash % 64)))
 
--- the marks of the hashes of the first k entries are set
-pub record Filtered (names others : List ℕ) (k : ℕ) (marked : List ℕ) : Type 0 where
-  pub size : length marked ≡ filterWords
-  pub name : (j : ℕ) → j < k → inFilter marked (getD names j 0) ≡ true
-  pub other : (j : ℕ) → j < k → inFilter marked (getD others j 0) ≡ true
+-- the bits of the hashes of the first k entries are set
+pub record Filtered (names others : List ℕ) (k : ℕ) (filter : List ℕ) : Type 0 where
+  pub size : length filter ≡ filterWords
+  pub name : (j : ℕ) → j < k → inFilter filter (getD names j 0) ≡ true
+  pub other : (j : ℕ) → j < k → inFilter filter (getD others j 0) ≡ true

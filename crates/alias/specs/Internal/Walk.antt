@@ -1,24 +1,19 @@
 -- A table's lines up to the first that is bad by itself: for functions that are not public.
 use mathlib.Core.Bool.{Bool, true, false, not, _||_}
 use mathlib.Core.List.{List}
+use mathlib.Core.Option.{Option}
 use mathlib.Core.Path.{_≡_}
-use Prim.Native.Nat.{ℕ, _+_, _<_, min}
+use Prim.Native.Nat.{ℕ, _<_}
 use lib.Dec.{leb}
-use lib.ListN.{drop, length, take}
+use lib.ListN.{length, take}
 use Rattle.common.specs.Answer.{isGranted}
-use Rattle.octets.specs.Bytes.{indexOf, lf}
+use Rattle.common.specs.Index.{firstFrom}
 use Rattle.hexline.specs.Line.{readEntryLine}
-use Rattle.alias.specs.Lines.{indexedOf, lineAt, linesOf, maxLines}
-use Rattle.alias.specs.Table.{judgedLines}
+use Rattle.hexline.specs.declared.entry.Entry.{Entry}
+use Rattle.octets.specs.Lines.{lineAt, linesOf}
+use Rattle.alias.specs.Lines.{indexedOf, maxLines}
+use Rattle.alias.specs.Table.{judgedLines, repeatsAt}
 use Rattle.alias.specs.declared.LineStarts.{LineStarts}
-
--- how many bytes the first line has: up to its LF and with it, or all where there is no LF
-unfoldable pub firstLength : List ℕ → ℕ
-firstLength bytes = min (indexOf lf bytes + 1) (length bytes)
-
--- where the line ends that begins at an index
-abbrev pub lineEnd : List ℕ → ℕ → ℕ
-lineEnd bytes at = at + firstLength (drop at bytes)
 
 -- whether a line is bad by itself as line k: one line too many, or no accepted line of kind 04
 unfoldable pub faultyOf : ℕ → List ℕ → Bool
@@ -36,3 +31,7 @@ pub record Walks (more : Bool) (bytes : List ℕ) (lines : LineStarts) (stopped 
   pub good : (k : ℕ) → k < lines .count → faultyAt (judgedLines more bytes) k ≡ false
   pub first : stopped ≡ true → (lines .count < length (judgedLines more bytes)) × (faultyAt (judgedLines more bytes) (lines .count) ≡ true)
   pub all : stopped ≡ false → lines .count ≡ length (judgedLines more bytes)
+
+-- the first entry that repeats a name
+unfoldable pub firstRepeat : List Entry → Option ℕ
+firstRepeat es = firstFrom (repeatsAt es) 0 (length es)

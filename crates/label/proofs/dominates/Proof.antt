@@ -3,7 +3,7 @@ use Rattle.label.proofs.dominates.Statement.{statement}
 use Rattle.label.proofs.dominates.Tie as tie
 
 returns : tie.Need-returns
-returns c = rw (← c .before .before .before .before .both-valid .ensures, c .before .before .before .if1 .taken, c .dominates .ensures)
+returns c = rw (← c .before .before .both-valid .ensures, c .before .if1 .taken, c .dominates .ensures)
 
 returns-2 : tie.Need-returns-2
 returns-2 c = rw (← c .before .both-valid .ensures, c .if1 .left)

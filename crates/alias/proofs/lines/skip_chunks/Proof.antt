@@ -4,7 +4,7 @@ use Prim.Native.Nat.{_+_, _-_, _≤_}
 use native.Mathlib.Omega.{arith}
 use lib.ListN.{drop, length}
 use Rattle.octets.specs.Bytes.{indexOf, lf}
-use Rattle.alias.proofs.LinesLaws.{lf-later}
+use Rattle.octets.proofs.LineLaws.{lf-later}
 use Rattle.alias.proofs.lines.skip_chunks.Statement.{statement}
 use Rattle.alias.proofs.lines.skip_chunks.Tie as tie
 

@@ -7,10 +7,11 @@ use lib.Dec.{leb}
 use lib.ListN.{drop, length, take}
 use borrow.Author.Tests.{not-false}
 use Rattle.common.proofs.BoolLaws.{neither}
-use Rattle.alias.specs.Lines.{entriesOf, linesOf, maxLines}
+use Rattle.octets.specs.Lines.{linesOf}
+use Rattle.alias.specs.Lines.{entriesOf, maxLines}
 use Rattle.alias.specs.Internal.Walk.{faultyOf}
 use Rattle.alias.proofs.HashLaws.{Keeping, keep-end, keep-next, keep-start}
-use Rattle.alias.proofs.LinesLaws.{LineHere, line-here}
+use Rattle.octets.proofs.LineLaws.{LineHere, line-here}
 use Rattle.alias.proofs.LookupLaws.{entry-of}
 use Rattle.alias.proofs.TableLaws.{faulty-few}
 use Rattle.alias.proofs.WalkLaws.{Walking, walk-ends, walk-next, walk-start, walk-stops}

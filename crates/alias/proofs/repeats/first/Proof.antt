@@ -9,7 +9,8 @@ use Rattle.common.specs.Index.{firstFrom}
 use Rattle.common.proofs.BoolLaws.{neither}
 use Rattle.common.proofs.SearchLaws.{search-end, search-hit, search-pass}
 use Rattle.alias.specs.Lines.{entriesBy}
-use Rattle.alias.specs.Table.{firstRepeat, repeatsAt}
+use Rattle.alias.specs.Table.{repeatsAt}
+use Rattle.alias.specs.Internal.Walk.{firstRepeat}
 use Rattle.alias.proofs.HashLaws.{none-collide}
 use Rattle.alias.proofs.LookupLaws.{entries-length, search-start}
 use Rattle.alias.proofs.repeats.first.Statement.{statement}

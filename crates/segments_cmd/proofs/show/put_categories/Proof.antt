@@ -3,7 +3,7 @@ use mathlib.Core.List.{[]}
 use mathlib.Core.Path.{_≡_}
 use native.Mathlib.Omega.{arith}
 use lib.ListN.{length}
-use Rattle.octets.specs.Bytes.{Put}
+use Rattle.octets.specs.Internal.Put.{Put}
 use Rattle.label.specs.Words.{membersOf}
 use Rattle.octets.proofs.ByteLaws.{appended-put, then-put}
 use Rattle.segments_cmd.specs.Show.{listText}

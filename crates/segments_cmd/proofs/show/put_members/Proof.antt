@@ -3,7 +3,7 @@ use mathlib.Core.Path.{_≡_, refl, sym}
 use Prim.Native.Nat.{_+_, _-_, _*_, _≤_, _<_}
 use native.Mathlib.Omega.{arith}
 use lib.ListN.{length}
-use Rattle.octets.specs.Bytes.{Put}
+use Rattle.octets.specs.Internal.Put.{Put}
 use Rattle.octets.proofs.ByteLaws.{put-nil, then-put}
 use Rattle.label.specs.Words.{membersBelow, words}
 use Rattle.segments_cmd.specs.Show.{listText}

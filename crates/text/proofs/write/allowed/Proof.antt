@@ -5,7 +5,7 @@ use mathlib.Core.Path.{_≡_, refl, sym, _∙_}
 use Rattle.label.specs.Caller.{callerValid}
 use Rattle.common.specs.declared.errno.Errno.the-variants.{Access, Invalid}
 use Rattle.common.proofs.AnswerLaws.{answers-grant, answers-refusal, passed, stopped}
-use Rattle.text.specs.Subject.{allowedOf}
+use Rattle.text.specs.Internal.Allowed.{allowedOf}
 use Rattle.text.proofs.write.allowed.Statement.{statement}
 use Rattle.text.proofs.write.allowed.Tie as tie
 

@@ -4,8 +4,8 @@ use Prim.Native.Nat.{ℕ}
 use native.Mathlib.Omega.{arith}
 use Rattle.label.proofs.RegionLaws.{region-within}
 use Rattle.range.specs.Tuple.{containsAt, containsOf, regionRangeAt}
-use Rattle.range.proofs.unchecked.contains.Statement.{statement}
-use Rattle.range.proofs.unchecked.contains.Tie as tie
+use Rattle.range.proofs.tuple.holds.Statement.{statement}
+use Rattle.range.proofs.tuple.holds.Tie as tie
 
 -- what is asked of the range at n, where n is the region
 asked : (c : tie.After-of-hierarchy) (n : ℕ) → c .of-hierarchy .result ≡ n → let a = c .before .args in containsAt (regionRangeAt (a .t1) n) (a .l) ≡ containsOf (a .t1) (a .l)
@@ -27,6 +27,6 @@ returns-3 c =
     let w = rw (← h .of-hierarchy .ensures) at (region-within (h .before .args .l .hierarchy) .known) in
     c .contains-at3 .ensures ∙ asked h 2 (omega arith)
 
-pub contains-spec : {M : Type 1} → statement M
-contains-spec =
+pub holds-spec : {M : Type 1} → statement M
+holds-spec =
     tie.close (tie.spec (search needs) (search needs) (search needs) returns (search needs) (search needs) returns-2 (search needs) (search needs) returns-3)

@@ -2,8 +2,8 @@ use borrow.Author.Needs.{needs}
 use mathlib.Core.Bool.{Bool, _&&_}
 use mathlib.Core.Path.{ap}
 use Rattle.range.specs.Tuple.{containsAt, isThere}
-use Rattle.range.proofs.unchecked.contains_at.Statement.{statement}
-use Rattle.range.proofs.unchecked.contains_at.Tie as tie
+use Rattle.range.proofs.tuple.contains_at.Statement.{statement}
+use Rattle.range.proofs.tuple.contains_at.Tie as tie
 
 returns : tie.Need-returns
 unfolding containsAt
