@@ -9,7 +9,8 @@ use lib.Seq.{getD-set-other, getD-set-same, getD-take, length-take-le, take-leng
 use borrow.Author.Tests.{le-leb, lt-leb}
 use Rattle.common.proofs.IndexLaws.{le-or-lt, tabulate-at, tabulate-is, tabulate-length, tabulate-one}
 use Rattle.common.proofs.SearchLaws.{same-or-not}
-use Rattle.octets.specs.Lines.{bytesBefore, lineAt, lineEnd, linesOf}
+use Rattle.octets.specs.Lines.{bytesBefore, lineAt, linesOf}
+use Rattle.octets.specs.Internal.Lines.{lineEnd}
 use Rattle.octets.proofs.LineLaws.{before-take, line-here, lines-end}
 use Rattle.alias.specs.Lines.{indexedOf, lineStart, linesBy, maxLines, partAt}
 

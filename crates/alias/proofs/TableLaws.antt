@@ -85,6 +85,10 @@ pub faulty-bad : (ls : List (List ℕ)) (k : ℕ) → faultyAt ls k ≡ true →
 unfolding badAt faultyOf
 faulty-bad ls k e = or-first (repeatsAt (entriesOf ls) k) e
 
+-- a table that is cut off has a bad line: the one after those that end
+pub cut-off-bad : (bytes : List ℕ) → badAt (judgedLines true bytes) (length (linesOf bytes)) ≡ true
+cut-off-bad bytes = faulty-bad (judgedLines true bytes) (length (linesOf bytes)) (judged-cut-off bytes .1)
+
 not-bad : (ls : List (List ℕ)) (k : ℕ) → badAt ls k ≡ false → (faultyAt ls k ≡ false) × (repeatsAt (entriesOf ls) k ≡ false)
 unfolding badAt faultyOf
 not-bad ls k e = neither (faultyAt ls k) (repeatsAt (entriesOf ls) k) e

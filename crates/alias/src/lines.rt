@@ -11,7 +11,7 @@ ghost use Rattle.octets.specs.Bytes.{indexOf, lf};
 ghost use Rattle.alias.specs.Internal.Hash.{HashesKept};
 ghost use Rattle.octets.specs.Lines.{linesOf};
 ghost use Rattle.alias.specs.Lines.{entriesOf, maxLines};
-ghost use Rattle.octets.specs.Lines.{lineEnd};
+ghost use Rattle.octets.specs.Internal.Lines.{lineEnd};
 ghost use Rattle.alias.specs.Internal.Walk.{Walks, linesFrom};
 
 // How many lines there are before the first that is bad by itself, whether there is one, and whether an entry among those before it may have its

@@ -10,7 +10,8 @@ use lib.Dec.{eqb}
 use lib.ListN.{drop, getD, length, take, drop-of-length-le, length-drop, take-append-drop}
 use lib.Seq.{drop-drop, getD-drop, length-take-le}
 use Rattle.octets.specs.Bytes.{indexOf, lf}
-use Rattle.octets.specs.Lines.{bytesBefore, firstLength, lineAt, lineEnd, linesOf, startFirst}
+use Rattle.octets.specs.Lines.{bytesBefore, lineAt, linesOf, startFirst}
+use Rattle.octets.specs.Internal.Lines.{firstLength, lineEnd}
 use Rattle.octets.proofs.ByteLaws.{index-append}
 
 -- ---- the first line, and the rest

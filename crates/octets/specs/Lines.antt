@@ -1,9 +1,9 @@
 -- Lines of bytes: every crate that cuts bytes into lines goes by these.
 use mathlib.Core.Bool.{Bool, cond}
 use mathlib.Core.List.{List, [], _∷_}
-use Prim.Native.Nat.{ℕ, zero, suc, _+_, min}
+use Prim.Native.Nat.{ℕ, zero, suc, _+_}
 use lib.Dec.{eqb, ltb}
-use lib.ListN.{drop, getD, length, take}
+use lib.ListN.{getD, length, take}
 use Rattle.octets.specs.Bytes.{indexOf, lf}
 
 -- b at the start of the first line
@@ -34,11 +34,3 @@ firstEnds bytes = ltb (indexOf lf bytes) (length bytes)
 -- the first line: what stands up to the first LF and with it, or all bytes where there is no LF
 abbrev pub firstLine : List ℕ → List ℕ
 firstLine bytes = take (indexOf lf bytes + 1) bytes
-
--- how many bytes it has
-unfoldable pub firstLength : List ℕ → ℕ
-firstLength bytes = min (indexOf lf bytes + 1) (length bytes)
-
--- where the line ends that begins at an index
-abbrev pub lineEnd : List ℕ → ℕ → ℕ
-lineEnd bytes at = at + firstLength (drop at bytes)

@@ -3,7 +3,7 @@ use mathlib.Core.Path.{ap, _∙_}
 use native.Mathlib.Omega.{arith}
 use lib.ListN.{length, length-drop}
 use Rattle.octets.specs.Bytes.{indexOf, lf}
-use Rattle.octets.specs.Lines.{firstLength}
+use Rattle.octets.specs.Internal.Lines.{firstLength}
 use Rattle.alias.proofs.lines.line_end.Statement.{statement}
 use Rattle.alias.proofs.lines.line_end.Tie as tie
 
