@@ -1,10 +1,10 @@
 -- Alias entries as C has them: what an entry names is a number of its own.
-use mathlib.Core.Bool.{Bool, true, false, cond, _&&_, _||_}
+use mathlib.Core.Bool.{Bool, _&&_, _||_}
 use Prim.Native.Nat.{ℕ}
 use lib.Dec.{eqb}
 use lib.ListN.{replicate}
 use Rattle.label.specs.Label
-use Rattle.hexline.specs.Entry.{abbreviationSize, abbreviationText, nameSize, nameText}
+use Rattle.hexline.specs.Entry.{abbreviationSize, abbreviationText, nameSize, nameText, valueByClass, valueClass}
 use Rattle.hexline.specs.declared.entry.Entry as coreEntry
 use Rattle.hexline.specs.declared.entry.Value.{Value}
 use Rattle.hexline.specs.declared.entry.Value.the-variants.{Hierarchy, Category, WholeLabel}
@@ -14,16 +14,8 @@ use Rattle.abi.specs.declared.entry.CEntry.{CEntry}
 unfoldable pub formedOf : CEntry → Bool
 formedOf e = eqb (e .names) 1 || eqb (e .names) 2 || (eqb (e .names) 3 && eqb (e .number) 0)
 
-unfoldable pub namedValue : ℕ → ℕ → Value
-namedValue names number = cond (eqb names 1) (Hierarchy number) (cond (eqb names 2) (Category number) WholeLabel)
-
 abbrev pub decodedOf : CEntry → coreEntry.Entry
-decodedOf e = record { value = namedValue (e .names) (e .number); label = e .label; name = e .name; abbreviation = e .abbreviation }
-
-abbrev pub namedClass : Value → ℕ
-namedClass (Hierarchy h) = 1
-namedClass (Category c) = 2
-namedClass WholeLabel = 3
+decodedOf e = record { value = valueByClass (e .names) (e .number); label = e .label; name = e .name; abbreviation = e .abbreviation }
 
 abbrev pub valueNumber : Value → ℕ
 valueNumber (Hierarchy h) = h
@@ -31,7 +23,7 @@ valueNumber (Category c) = c
 valueNumber WholeLabel = 0
 
 abbrev pub encodedOf : coreEntry.Entry → CEntry
-encodedOf e = record { names = namedClass (e .value); number = valueNumber (e .value); label = e .label; name = e .name; abbreviation = e .abbreviation }
+encodedOf e = record { names = valueClass (e .value); number = valueNumber (e .value); label = e .label; name = e .name; abbreviation = e .abbreviation }
 
 -- the entry of zeros, which names nothing: what stands beside a refusal
 abbrev pub zeroCEntry : CEntry

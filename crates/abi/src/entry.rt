@@ -6,7 +6,8 @@ use hexline::entry::Value;
 use label::Label;
 ghost use mathlib.Core.Path.{_≡_};
 ghost use mathlib.Core.Bool.{true};
-ghost use Rattle.abi.specs.Entry.{namedClass, decodedOf, encodedOf, formedOf, valueNumber, namedValue, zeroCEntry};
+ghost use Rattle.hexline.specs.Entry.{valueByClass, valueClass};
+ghost use Rattle.abi.specs.Entry.{decodedOf, encodedOf, formedOf, valueNumber, zeroCEntry};
 
 #[repr(C)]
 pub struct CEntry {
@@ -25,7 +26,7 @@ pub fn formed(e: CEntry) -> bool
 }
 
 fn value(names: u64, number: u64) -> Value
-    ensures { λ r. ⌜ r ≡ namedValue names number ⌝ }
+    ensures { λ r. ⌜ r ≡ valueByClass names number ⌝ }
 {
     if names == 1 {
         return Value::Hierarchy(number);
@@ -51,7 +52,7 @@ pub fn decode(e: CEntry) -> entry::Entry
 }
 
 fn class(v: Value) -> u64
-    ensures { λ r. ⌜ r ≡ namedClass v ⌝ }
+    ensures { λ r. ⌜ r ≡ valueClass v ⌝ }
 {
     match v {
         Value::Hierarchy(_) => 1,

@@ -1,3 +1,4 @@
+-- After i steps the first i bytes of xs stand in the buffer (`paste`); when all do, that is `putAt` (`put-all`).
 use borrow.Author.Needs.{needs}
 use mathlib.Core.Path.{_≡_, refl, _∙_}
 use Prim.Native.Nat.{_+_, _-_, _≤_}

@@ -1,3 +1,4 @@
+-- Whether the lists are the same is whether they are from index i on: a pair of equal bytes is passed, a pair that differs decides.
 use borrow.Author.Needs.{needs}
 use mathlib.Core.Path.{_≡_, refl, sym, _∙_}
 use Prim.Native.Nat.{_-_, _≤_}

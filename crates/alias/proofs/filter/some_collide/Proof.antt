@@ -1,3 +1,5 @@
+-- After k entries their hashes are in the filter and none of them collides with an earlier one (`Filtering`); the next one is held against the
+-- filter and then inserted.
 use borrow.Author.Needs.{needs}
 use mathlib.Core.Bool.{true≢false}
 use mathlib.Core.Path.{sym, _∙_}

@@ -1,3 +1,4 @@
+-- After j steps `collides` says whether one of the first j entries has a hash in common with entry k.
 use borrow.Author.Needs.{needs}
 use mathlib.Core.Bool.{Bool, _||_}
 use mathlib.Core.Path.{_≡_, ap, _∙_}

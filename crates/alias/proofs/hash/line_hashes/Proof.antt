@@ -1,3 +1,4 @@
+-- A line that is not accepted has no hashes; of one that is, the parts of its body are its entry's name and abbreviation, whose hashes they are.
 use borrow.Author.Needs.{needs}
 use mathlib.Core.Bool.{true≢false}
 use mathlib.Core.List.{List}

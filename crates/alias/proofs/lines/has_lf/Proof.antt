@@ -1,3 +1,4 @@
+-- As long as no LF was met, the first one stands past the i bytes that were looked at; with none in all bytes, their length is its index.
 use borrow.Author.Needs.{needs}
 use mathlib.Core.Bool.{false}
 use mathlib.Core.Path.{_≡_, _∙_}

@@ -1,3 +1,4 @@
+-- The bytes at two spans of as many bytes are the same exactly if they are from the i-th on, where the first i were equal.
 use borrow.Author.Needs.{needs}
 use mathlib.Core.Path.{refl, sym, _∙_}
 use Prim.Native.Nat.{_-_}

@@ -1,3 +1,4 @@
+-- The bytes at a span are the text exactly if they are from the i-th on, where the first i were equal.
 use borrow.Author.Needs.{needs}
 use mathlib.Core.Path.{refl}
 use Prim.Native.Nat.{_-_}

@@ -1,3 +1,4 @@
+-- By the class of the entry and that of the value: of the same class what they hold is compared, and of two classes the answer is no (`other-class`).
 use borrow.Author.Needs.{needs}
 use mathlib.Core.Logic.{⊎-elim}
 use native.Mathlib.Omega.{arith}

@@ -1,3 +1,5 @@
+-- Where the hashes leave nothing open there is no repeat (`none-collide`). Else the search of all entries is the search from entry k on: an entry
+-- that does not repeat a name is passed, and the first that does is the answer.
 use borrow.Author.Needs.{needs}
 use mathlib.Core.Bool.{_||_}
 use mathlib.Core.Path.{_≡_, sym, _∙_}

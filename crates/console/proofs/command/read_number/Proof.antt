@@ -1,3 +1,5 @@
+-- The value so far and the rest of the field make the number that the field is (`numberFrom`): a digit goes over from the rest to the value
+-- (`number-pass`), and any other byte, or a value of 2 ^ 64 or more, ends it with no number.
 use borrow.Author.Needs.{needs}
 use mathlib.Core.Path.{_≡_, sym, _∙_}
 use Prim.Native.Nat.{_-_, _^_, _≤_, _<_}

@@ -1,3 +1,5 @@
+-- Digits are put from the last to the first: what is left, put in front of those that are there, is the number that was asked for. A step takes
+-- the last digit off what is left (`decimal-more`); when one digit is left it is put first (`decimal-one`).
 use borrow.Author.Needs.{needs}
 use mathlib.Core.Path.{_≡_, refl, sym, ap, _∙_}
 use Prim.Native.Nat.{_+_, _-_, _/_, _%_, _≤_}

@@ -1,3 +1,4 @@
+-- After i words n is the number of categories below 64 i: a word adds its set bits (`below-more`). All words make the whole set.
 use borrow.Author.Needs.{needs}
 use mathlib.Core.Path.{_≡_, refl, sym, ap, _∙_}
 use Prim.Native.Nat.{ℕ, _≤_, _+_, _-_, _*_}

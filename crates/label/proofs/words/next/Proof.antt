@@ -1,3 +1,5 @@
+-- The search from c on answers as the one from `from` on: a word that is 0 from c on is passed (`next-pass`), else its lowest set bit is the
+-- category (`next-hit`), and past the last word there is none (`next-end`).
 use borrow.Author.Needs.{needs}
 use mathlib.Core.Path.{_≡_, refl, sym, _∙_}
 use Prim.Native.Nat.{_-_, _*_, _/_}

@@ -1,3 +1,4 @@
+-- The measure is the sum of two: a name that is missing in either part is missing in the whole (`misses`), and else the lengths add up (`joined`).
 use borrow.Author.Needs.{needs}
 use mathlib.Core.Bool.{and-false}
 use native.Mathlib.Omega.{arith}

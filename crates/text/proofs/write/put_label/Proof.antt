@@ -1,3 +1,5 @@
+-- The three ways to write a label, each by what is known there: the definition form, the alias form with an alias (`alias-text`), and without
+-- one (`definition-instead`).
 use borrow.Author.Needs.{needs}
 use mathlib.Core.Path.{sym, ap, _∙_}
 use Rattle.alias.specs.Lookup.{foundEntryOf}
