@@ -2,13 +2,12 @@
 // tests all that it is handed, and decides by document 01's steps.
 mod intent;
 pub mod numbers;
+mod tested;
 
 use common::answer::Test;
 use common::errno::Errno;
 use label::Label;
-use label::caller;
 use label::caller::Caller;
-use label::components;
 use range::Range;
 use range::tuple;
 use range::tuple::Tuple;
@@ -138,18 +137,16 @@ fn caller_sees(r: Request) -> bool
     let c = r.caller;
     let subject = r.credentials;
     let o = r.object;
-    caller::sees(c, subject.label) & (!o.present.label | caller::sees(c, o.label))
+    tested::sees(c, subject.label) & (!o.present.label | tested::sees(c, o.label))
 }
 
 // Whether the test of an access is met under a label.
 fn under_label(a: Access, subject: Label, object: Label) -> bool
     ensures { λ b. ⌜ b ≡ underLabel a subject object ⌝ }
 {
-    let x = subject.categories;
-    let y = object.categories;
     match a {
-        Access::Observe => components::dominates(subject.hierarchy, x, object.hierarchy, y),
-        Access::Modify => components::equal(subject.hierarchy, x, object.hierarchy, y),
+        Access::Observe => tested::dominates(subject, object),
+        Access::Modify => tested::equal(subject, object),
     }
 }
 

@@ -2,6 +2,7 @@
 // refusal writes nothing. `more` says that the table is cut off, and more follows.
 mod name;
 pub mod read;
+mod tested;
 pub mod write;
 
 use common::answer::Written;

@@ -1,4 +1,6 @@
 // Labels and ranges read from text. Whatever is wrong with a text is the same plain 22.
+use crate::tested::dominates;
+use crate::tested::sees;
 use alias::FoundEntry;
 use alias::lookup;
 use common::answer::Outcome;
@@ -7,9 +9,7 @@ use hexline::entry::Value;
 use hexline::parts;
 use label::Label;
 use label::LabelAnswer;
-use label::caller;
 use label::caller::Caller;
-use label::components;
 use label::words;
 use label::words::WORDS;
 use octets::BLANK;
@@ -206,7 +206,7 @@ fn label_seen(table: &[u8], starts: &[usize], caller: Caller, text: &[u8]) -> La
     let Outcome::Granted = outcome else {
         return l;
     };
-    if caller::sees(caller, l.label) {
+    if sees(caller, l.label) {
         return l;
     }
     no_label()
@@ -270,9 +270,7 @@ fn range_from(
         };
     };
     let high = end.label;
-    let x = high.categories;
-    let y = low.categories;
-    if components::dominates(high.hierarchy, x, low.hierarchy, y) {
+    if dominates(high, low) {
         return RangeAnswer {
             outcome: Outcome::Granted,
             range: Range { low, high },

@@ -6,13 +6,13 @@ use crate::Variant;
 use crate::name::Measure;
 use crate::name::measure_name;
 use crate::name::put_name;
+use crate::tested::sees;
 use alias::lookup;
 use common::answer::Outcome;
 use common::answer::Written;
 use common::errno::Errno;
 use hexline::entry::Value;
 use label::Label;
-use label::caller;
 use label::caller::Caller;
 use label::words;
 use label::words::FoundCategory;
@@ -259,7 +259,7 @@ fn allowed(valid: bool, caller: Caller, l: Label) -> Outcome
     if !(valid & label::valid(caller.label)) {
         return Outcome::Refused(Errno::Invalid);
     }
-    if !caller::sees(caller, l) {
+    if !sees(caller, l) {
         return Outcome::Refused(Errno::Access);
     }
     Outcome::Granted
@@ -413,7 +413,7 @@ fn write_range_checked(
     match outcome {
         Outcome::Refused(e) => with_status(true, Written::Refused(e)),
         Outcome::Granted => {
-            let whole = caller::sees(caller, x.high);
+            let whole = sees(caller, x.high);
             with_status(whole, write_ends(table, starts, style, x, whole, out))
         }
     }

@@ -16,7 +16,7 @@ returns-2 : tie.Need-returns-2
 unfolding standsFor
 returns-2 c =
     let a = c .before .before .before .before .before .before .args in
-    rw (← c .before .before .before .before .value .ensures, c .before .before .u .given .1) (other-class _ (a .v) _ (a .l) (λ e. ⊎-elim (λ k. omega arith) (λ k. omega arith) (c .match2 .hashes2)))
+    rw (← c .before .before .before .before .value .ensures, c .before .before .u .given .1) (other-class _ (a .v) _ (a .l) (λ e. ⊎-elim (λ k. omega arith) (λ k. omega arith) (c .match2 .keys2)))
 
 returns-3 : tie.Need-returns-3
 unfolding standsFor sameValue
@@ -27,7 +27,7 @@ returns-4 : tie.Need-returns-4
 unfolding standsFor
 returns-4 c =
     let a = c .before .before .before .before .before .before .args in
-    rw (← c .before .before .before .before .value .ensures, c .before .before .u2 .given .1) (other-class _ (a .v) _ (a .l) (λ e. ⊎-elim (λ k. omega arith) (λ k. omega arith) (c .match3 .hashes2)))
+    rw (← c .before .before .before .before .value .ensures, c .before .before .u2 .given .1) (other-class _ (a .v) _ (a .l) (λ e. ⊎-elim (λ k. omega arith) (λ k. omega arith) (c .match3 .keys2)))
 
 returns-5 : tie.Need-returns-5
 unfolding standsFor sameValue
@@ -38,7 +38,7 @@ returns-6 : tie.Need-returns-6
 unfolding standsFor
 returns-6 c =
     let a = c .before .before .before .before .before .args in
-    rw (← c .before .before .before .value .ensures, c .before .enum-told .given .1) (other-class _ (a .v) _ (a .l) (λ e. ⊎-elim (λ k. omega arith) (λ k. omega arith) (c .match4 .hashes2)))
+    rw (← c .before .before .before .value .ensures, c .before .enum-told .given .1) (other-class _ (a .v) _ (a .l) (λ e. ⊎-elim (λ k. omega arith) (λ k. omega arith) (c .match4 .keys2)))
 
 pub stands-for-spec : {M : Type 1} → statement M
 stands-for-spec =
