@@ -18,7 +18,7 @@ use Rattle.segments.specs.Replies.{done, opened, shown}
 use Rattle.segments.specs.Segments.{emptyTable, segmentOf, slot, tenantId}
 use Rattle.segments.specs.Slots
 use Rattle.segments.specs.Sound
-use Rattle.examples.specs.Examples.{Answered, Request, _gets_, admit, board, call, ceiling, l, make, openBy, played, sizeBy}
+use Rattle.examples.specs.Examples.{AnsweredRequest, Request, _gets_, admit, board, call, ceiling, l, make, openBy, played, sizeBy}
 
 abbrev postBy : ℕ → ℕ → ℕ → Request
 postBy t p version = call (postCall (tenantId t) l (slot p) version)
@@ -33,7 +33,7 @@ closeBy t p = call (closeCall (tenantId t) l (slot p))
 abbrev openUnder : ℕ → ℕ → ℕ → Request
 openUnder h t pages = call (openCall (tenantId t) (exampleOf h []) pages)
 
-abbrev others : List Answered
+abbrev others : List AnsweredRequest
 others =
     (postBy 0 0 7 gets granted done)
     ∷ (lookBy 1 0 gets granted (shown (segmentOf l 59 7)))
@@ -67,5 +67,5 @@ others =
     ∷ []
 
 board-holds : played (emptyTable 0) (board ++ others) ≡ board ++ others
-unfolding every firstFrom sumFrom Label.validOf Label.dominatesOf Label.equalOf includesOf sameOf regionOf Range.validOf Range.containsOf Tuple.validAt Tuple.validOf Tuple.containsAt Tuple.containsOf Tuple.emptyOf Slots.firstSlot Slots.slotCount Slots.owns Slots.filled Slots.lowestEmpty Slots.pagesOf Slots.ceilingsOf Sound.admitted Sound.tenantSound Sound.clearedBy Sound.zeros Sound.slotSound Sound.underCeiling Sound.sound Operator.makeAnswer Operator.makeOf Operator.admitAnswer Operator.admitOf Operator.setCeilingAnswer Operator.setCeilingOf Calls.callValid Calls.cleared Calls.writable Calls.visible Calls.accessOf Calls.answerOf Calls.stepOf
+unfolding every firstFrom sumFrom Label.validOf Label.dominatesOf Label.equalOf includesOf sameOf regionOf Range.validOf Range.containsOf Tuple.validAt Tuple.validOf Tuple.containsAt Tuple.containsOf Tuple.emptyOf Slots.firstSlot Slots.slotCount Slots.owns Slots.filled Slots.lowestEmpty Slots.pagesOf Slots.ceilingsOf Sound.admitted Sound.tenantSound Sound.clearedBy Sound.zeros Sound.slotSound Sound.underCeiling Sound.sound Operator.makeAnswer Operator.makeOf Operator.admitAnswer Operator.admitOf Operator.setCeilingAnswer Operator.setCeilingOf Calls.callValid Calls.cleared Calls.writable Calls.visible Calls.accessOf Calls.decisionOn Calls.stepOf
 board-holds = refl

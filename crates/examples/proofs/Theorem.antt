@@ -39,17 +39,17 @@ labels-and-ranges : Hold (take 8 examples)
 unfolding Hold every tabulate Label.validOf Label.dominatesOf Label.equalOf Label.upperBoundOf Label.lowerBoundOf combine includesOf intersectionOf sameOf unionOf Range.validOf Range.commonOf Range.meetOf Tuple.cutOf Tuple.splitOf
 labels-and-ranges = (refl, (refl, (refl, (refl, (refl, (refl, (refl, (refl, tt))))))))
 
-lines : Hold (take 3 (drop 8 examples))
+lines : Hold (take 4 (drop 8 examples))
 unfolding Hold every tabulate Label.validOf Label.equalOf includesOf sameOf bit Tuple.validAt Tuple.validOf bodyOf bytesOf checkByte digitOf digitsOf frameOf framedOf isDigit spelledOf sumOf digitValue baseNumber contentsOf bodyForm tupleBody tupleForm presenceOf presentBelow regionAt regionBytes regionsBytes tupleAt
-lines = (refl, (refl, (refl, tt)))
+lines = (refl, (refl, (refl, (refl, tt))))
 
-texts : Hold (take 2 (drop 11 examples))
-unfolding Hold lengthOf every firstFrom lastBelow tabulate Label.validOf Label.dominatesOf Label.equalOf bit has includesOf membersBelow membersOf sameOf bodyOf bytesOf framedOf isDigit spelledOf sumOf digitValue sameBytes Entry.entryFrom Entry.isLetter Entry.isNameByte Entry.labelFrom Entry.layoutOf Entry.nameByteOk Entry.nameOf Entry.textByte Entry.textFrom Entry.validOf Entry.valueByClass Entry.valueOk Entry.valueSize contentsOf entryForm bodyForm standingIn entriesOf linesOf calledOf lastEntryFor sameValue standsFor Table.badAt Table.checkTable Table.judgedLines Table.repeatsAt Table.sharesOf seesOf Write.categoriesNamed Write.categoriesText Write.definitionNamed Write.definitionText Write.nameFor Write.named Write.namedIn Write.textIn Write.writtenName Write.writeLabelOf
-texts = (refl, (refl, tt))
+texts : Hold (take 3 (drop 12 examples))
+unfolding Hold lengthOf every firstFrom lastBelow tabulate Label.validOf Label.dominatesOf Label.equalOf Range.validOf bit has includesOf membersBelow membersOf sameOf bodyOf bytesOf framedOf isDigit spelledOf sumOf digitValue sameBytes Entry.entryFrom Entry.isLetter Entry.isNameByte Entry.labelFrom Entry.layoutOf Entry.nameByteOk Entry.nameOf Entry.textByte Entry.textFrom Entry.validOf Entry.valueByClass Entry.valueOk Entry.valueSize contentsOf entryForm bodyForm standingIn entriesOf linesOf calledOf lastEntryFor sameValue standsFor Table.badAt Table.checkTable Table.judgedLines Table.repeatsAt Table.sharesOf seesOf Write.categoriesNamed Write.categoriesText Write.definitionNamed Write.definitionText Write.lowText Write.nameFor Write.named Write.namedIn Write.textIn Write.writtenName Write.writeLabelOf Write.writeRangeOf
+texts = (refl, (refl, (refl, tt)))
 
-board : Hold (drop 13 examples)
-unfolding Hold every firstFrom sumFrom Label.validOf Label.dominatesOf Label.equalOf includesOf sameOf regionOf Range.validOf Range.containsOf Tuple.validAt Tuple.validOf Tuple.containsAt Tuple.containsOf Tuple.emptyOf Slots.firstSlot Slots.slotCount Slots.owns Slots.filled Slots.lowestEmpty Slots.pagesOf Slots.ceilingsOf Sound.admitted Sound.tenantSound Sound.clearedBy Sound.zeros Sound.slotSound Sound.underCeiling Sound.sound Operator.makeAnswer Operator.makeOf Operator.admitAnswer Operator.admitOf Calls.callValid Calls.cleared Calls.writable Calls.accessOf Calls.answerOf Calls.stepOf
+board : Hold (drop 15 examples)
+unfolding Hold every firstFrom sumFrom Label.validOf Label.dominatesOf Label.equalOf includesOf sameOf regionOf Range.validOf Range.containsOf Tuple.validAt Tuple.validOf Tuple.containsAt Tuple.containsOf Tuple.emptyOf Slots.firstSlot Slots.slotCount Slots.owns Slots.filled Slots.lowestEmpty Slots.pagesOf Slots.ceilingsOf Sound.admitted Sound.tenantSound Sound.clearedBy Sound.zeros Sound.slotSound Sound.underCeiling Sound.sound Operator.makeAnswer Operator.makeOf Operator.admitAnswer Operator.admitOf Calls.callValid Calls.cleared Calls.writable Calls.accessOf Calls.decisionOn Calls.stepOf
 board = (refl, tt)
 
 pub examples-hold : ExamplesHold
-examples-hold = hold-parts 8 examples labels-and-ranges (hold-parts 3 (drop 8 examples) lines (hold-parts 2 (drop 11 examples) texts board))
+examples-hold = hold-parts 8 examples labels-and-ranges (hold-parts 4 (drop 8 examples) lines (hold-parts 3 (drop 12 examples) texts board))

@@ -1,14 +1,17 @@
--- Document 01, "Examples": those marked P, in its order, as one list, and the claim that all of them hold.
+-- Document 01, "Examples": those marked P, a mark counting to the end of its bullet, in its order, as one list, and the claim that all of them
+-- hold.
 use mathlib.Core.Bool.{Bool, true, false}
 use mathlib.Core.List.{List, [], _∷_}
 use mathlib.Core.Option.{none, some}
 use mathlib.Core.Path.{_≡_}
 use Prim.Native.Nat.{ℕ}
-use Rattle.common.specs.Answer.{Answer, granted, refused}
+use Rattle.common.specs.Answer.{Answer, granted, refused, require}
 use Rattle.common.specs.Buffer.{lengthOf}
 use Rattle.label.specs.Example.{exampleOf}
 use Rattle.label.specs.Label.{dominatesOf, lowerBoundOf, upperBoundOf, validOf}
 use Rattle.label.specs.declared.Label.{Label}
+use Rattle.label.specs.declared.caller.Caller.{Caller}
+use Rattle.range.specs.Range
 use Rattle.range.specs.Range.{meetAnswerOf, rangeOf}
 use Rattle.range.specs.Tuple.{absent, emptyTuple, present, splitOf, tupleOf}
 use Rattle.range.specs.declared.Range.{Range}
@@ -16,8 +19,9 @@ use Rattle.range.specs.declared.tuple.Tuple.{Tuple}
 use Rattle.octets.specs.Bytes.{ascii}
 use Rattle.hexline.specs.Line.{readTupleLine, tupleLineOf}
 use Rattle.text.specs.Subject.{withTable}
-use Rattle.text.specs.Write.{writeLabelOf}
+use Rattle.text.specs.Write.{Shown, writeLabelOf, writeRangeOf}
 use Rattle.text.specs.declared.Form.the-variants.{Definition}
+use Rattle.text.specs.declared.Style.{Style}
 use Rattle.text.specs.declared.Variant.the-variants.{Names}
 use Rattle.segments.specs.Calls.{openCall, sizeCall, stepOf}
 use Rattle.segments.specs.Operator.{admitOf, makeOf, setCeilingOf}
@@ -26,17 +30,31 @@ use Rattle.segments.specs.Segments.{emptyTable, slot, tenantId}
 use Rattle.segments.specs.declared.Call.{Call}
 use Rattle.segments.specs.declared.SegmentTable.{SegmentTable}
 
+-- ---- ranges
+
+-- what a split answers
+abbrev pub splitAnswerOf : Range → Answer Tuple
+splitAnswerOf x = require (Range.validOf x) 22 (granted (splitOf x))
+
 -- ---- names and text
 
 -- the whole table: "low" is hierarchy 20; "east", short "e", is category 7
 abbrev pub names : List ℕ
 names = ascii "040114036c6f770092\n04020704656173740165dc\n"
 
--- what is written of l, in the definition form and by names, for a subject that has a label and no read override
-abbrev pub written : Label → Label → Answer (List ℕ)
-written subject l =
-    withTable false names
-    (λ es. writeLabelOf es (record { label = subject; «read_override» = false }) (record { form = Definition; variant = Names }) l)
+-- in the definition form and by names, for a subject that has a label and no read override
+abbrev pub byNames : Style
+byNames = record { form = Definition; variant = Names }
+
+abbrev pub withoutOverride : Label → Caller
+withoutOverride subject = record { label = subject; «read_override» = false }
+
+-- what is written of a label, and of a range
+abbrev pub labelWrittenFor : Label → Label → Answer (List ℕ)
+labelWrittenFor subject l = withTable false names (λ es. writeLabelOf es (withoutOverride subject) byNames l)
+
+abbrev pub rangeWrittenFor : Label → Range → Answer Shown
+rangeWrittenFor subject x = withTable false names (λ es. writeRangeOf es (withoutOverride subject) byNames x)
 
 -- ---- the board
 
@@ -67,21 +85,21 @@ stepped s (ceiling t n) = setCeilingOf s (tenantId t) n
 stepped s (call c) = stepOf s c
 
 -- a request with its answer
-pub record Answered : Type 0 where
+pub record AnsweredRequest : Type 0 where
   pub request : Request
   pub answer : Answer Grant
 
 infix 20 _gets_
-abbrev pub _gets_ : Request → Answer Grant → Answered
+abbrev pub _gets_ : Request → Answer Grant → AnsweredRequest
 request gets answer = record { request = request; answer = answer }
 
 -- the same requests with the answers that the definitions give, the first on the state s
-abbrev pub played : SegmentTable → List Answered → List Answered
+abbrev pub played : SegmentTable → List AnsweredRequest → List AnsweredRequest
 played s [] = []
 played s (e ∷ es) = (e .request gets stepped s (e .request) .answer) ∷ played (stepped s (e .request) .table) es
 
 -- the example of the board, request by request
-abbrev pub board : List Answered
+abbrev pub board : List AnsweredRequest
 board =
     (make 100 gets granted done)
     ∷ (admit 0 60 gets granted done)
@@ -103,8 +121,9 @@ pub data Value : Type 0 where
   range : Answer Range → Value
   tuple : Answer Tuple → Value
   text : Answer (List ℕ) → Value
+  shown : Answer Shown → Value
   count : Answer ℕ → Value
-  grants : List Answered → Value
+  grants : List AnsweredRequest → Value
 
 -- what the definitions say, and what document 01 says that it is
 pub record Example : Type 0 where
@@ -132,16 +151,19 @@ examples =
     ∷ (range (meetAnswerOf (rangeOf (exampleOf 20 (1 ∷ [])) (exampleOf 40 (1 ∷ []))) (rangeOf (exampleOf 20 []) (exampleOf 40 (2 ∷ []))))
     is range (refused 33 none))
     -- [(10,{}),(30,{4})] splits into [(10,{}),(19,{4})] and [(20,{}),(30,{4})]
-    ∷ (tuple (granted (splitOf (rangeOf (exampleOf 10 []) (exampleOf 30 (4 ∷ [])))))
+    ∷ (tuple (splitAnswerOf (rangeOf (exampleOf 10 []) (exampleOf 30 (4 ∷ []))))
     is tuple (granted (tupleOf (present (rangeOf (exampleOf 10 []) (exampleOf 19 (4 ∷ []))) ∷ present (rangeOf (exampleOf 20 []) (exampleOf 30 (4 ∷ []))) ∷ absent ∷ []))))
     -- empty tuple: `0300fd`, written and read
     ∷ (text (tupleLineOf emptyTuple) is text (granted (ascii "0300fd\n")))
     ∷ (tuple (readTupleLine (ascii "0300fd\n")) is tuple (granted emptyTuple))
-    -- hierarchy 200 is not valid
+    -- hierarchy 199 valid, 200 not
+    ∷ (test (validOf (exampleOf 199 [])) is test true)
     ∷ (test (validOf (exampleOf 200 [])) is test false)
     -- (20,{7}) for subject (20,{7}) is `low:east`; a buffer of 7 answers 7 with 8
-    ∷ (text (written (exampleOf 20 (7 ∷ [])) (exampleOf 20 (7 ∷ []))) is text (granted (ascii "low:east")))
-    ∷ (count (lengthOf (written (exampleOf 20 (7 ∷ [])) (exampleOf 20 (7 ∷ []))) 7) is count (refused 7 (some 8)))
+    ∷ (text (labelWrittenFor (exampleOf 20 (7 ∷ [])) (exampleOf 20 (7 ∷ []))) is text (granted (ascii "low:east")))
+    ∷ (count (lengthOf (labelWrittenFor (exampleOf 20 (7 ∷ [])) (exampleOf 20 (7 ∷ []))) 7) is count (refused 7 (some 8)))
+    -- range [(20,{}),(20,{7})] for subject (20,{}): status 1, `-L low -H ?`
+    ∷ (shown (rangeWrittenFor (exampleOf 20 []) (rangeOf (exampleOf 20 []) (exampleOf 20 (7 ∷ [])))) is shown (granted (record { status = 1; text = ascii "-L low -H ?" })))
     -- Pool 100, ceilings 60 and 40: a third tenant with 1 gets 12. Tenant 0 opens 60 at place 0, then 1 page: 12. Tenant 1 still opens 40, at
     -- place 8. Tenant 0 sizes place 0 to 59 and opens 1 at place 1
     ∷ (grants (played (emptyTable 0) board) is grants board)

@@ -1,15 +1,15 @@
 -- Demand 3 of 00-demands.md, over the calls of document 01's table (`stepOf`).
 use mathlib.Core.Bool.{true, cond}
-use mathlib.Core.List.{List, [], _∷_}
+use mathlib.Core.List.{List, [], _∷_, Forall₂}
 use mathlib.Core.Logic.{_⊎_, _↔_}
 use mathlib.Core.Option.{Option, none, some}
 use mathlib.Core.Path.{_≡_}
-use Prim.Native.Nat.{_<_, _≤_}
+use Prim.Native.Nat.{ℕ, _<_, _≤_}
 use lib.Dec.{eqb}
 use Rattle.common.specs.Answer.{Answer, refused}
-use Rattle.segments.specs.Calls.{lookedAt, stepOf, visible}
+use Rattle.segments.specs.Calls.{callRow, stepOf, visible}
 use Rattle.segments.specs.Replies.{Grant}
-use Rattle.segments.specs.Segments.{Lengths, ceilingAt, clearanceAt, segmentAt, tenants}
+use Rattle.segments.specs.Segments.{ceilingAt, clearanceAt, segmentAt, tenants}
 use Rattle.segments.specs.Slots.{owns, pagesOf}
 use Rattle.segments.specs.Sound.{sound}
 use Rattle.segments.specs.declared.Call.{Call}
@@ -53,8 +53,8 @@ project call t (x ∷ xs) = cond (eqb (call x .tenant .0) (t .0)) (x ∷ project
 abbrev pub callsOf : TenantId → List Call → List Call
 callsOf t = project (λ c. c) t
 
-abbrev pub entriesOf : TenantId → List Entry → List Entry
-entriesOf t = project (λ e. e .call) t
+abbrev pub tenantEntries : TenantId → List Entry → List Entry
+tenantEntries t = project (λ e. e .call) t
 
 abbrev pub Interleaving : List Call → List Call → Type 0
 Interleaving xs ys = (t : TenantId) → callsOf t xs ≡ callsOf t ys
@@ -69,29 +69,28 @@ otherSlot s t (some p) = cond (owns s t p) none (some p)
 -- "Any other look gets different answers exactly when neither is the refusal 22 or 1, its place doesn't hold the same in both lists at
 -- that moment, and in at least one the looker's label dominates the label there (an empty place has none)."
 
+-- whatever further number the refusal carries
 abbrev pub Not22or1 : Answer Grant → Type 0
-Not22or1 a = (a ≡ refused 22 none → ⊥) × (a ≡ refused 1 none → ⊥)
+Not22or1 a = (detail : Option ℕ) → (a ≡ refused 22 detail → ⊥) × (a ≡ refused 1 detail → ⊥)
 
 pub record Different (p : Slot) (e f : Entry) : Type 0 where
   pub unrefused : Not22or1 (e .answer) × Not22or1 (f .answer)
   pub changed : segmentAt (e .table) p ≡ segmentAt (f .table) p → ⊥
   pub seen : (visible (e .table) (e .call .label) p ≡ true) ⊎ (visible (f .table) (f .call .label) p ≡ true)
 
+-- a look at slot p, not of the caller's own: where it is not so that the answers differ, they are equal
+pub record LookCompared (p : Slot) (e f : Entry) : Type 0 where
+  pub differ : (e .answer ≡ f .answer → ⊥) ↔ Different p e f
+  pub equal : (Different p e f → ⊥) → e .answer ≡ f .answer
+
 abbrev pub Compared : Option Slot → Entry → Entry → Type 0
 Compared none e f = e .answer ≡ f .answer
-Compared (some p) e f = (e .answer ≡ f .answer → ⊥) ↔ Different p e f
+Compared (some p) e f = LookCompared p e f
 
 -- a tenant's k-th calls in two lists
 pub record Agree (e f : Entry) : Type 0 where
   pub call : e .call ≡ f .call
-  pub answer : Compared (otherSlot (e .table) (e .call .tenant) (lookedAt (e .call .action))) e f
-
--- one by one, so also: two lists are equally long
-unfoldable pub Pairwise : {A : Type 0} → (A → A → Type 0) → List A → List A → Type 0
-Pairwise R [] [] = Unit {0}
-Pairwise R [] (y ∷ ys) = ⊥
-Pairwise R (x ∷ xs) [] = ⊥
-Pairwise R (x ∷ xs) (y ∷ ys) = R x y × Pairwise R xs ys
+  pub answer : Compared (otherSlot (e .table) (e .call .tenant) (callRow (e .call .action) .lookedAt)) e f
 
 -- "At the start and after every call, pool, clearances and ceilings are as they began, and each tenant's open pages are at most its
 -- ceiling."
@@ -110,12 +109,11 @@ Each P (x ∷ xs) = P x × Each P xs
 pub record Isolated (s : SegmentTable) (xs ys : List Call) : Type 0 where
   -- "From the same board both lists end in the same board."
   pub table : run s xs ≡ run s ys
-  -- the two sentences on answers, of every tenant number
-  pub answers : (t : TenantId) → Pairwise Agree (entriesOf t (trace s xs)) (entriesOf t (trace s ys))
-  -- the sentence on what stays
-  pub limits : Each (Limited s) (states s xs)
+  -- the two sentences on answers, of every tenant number: its calls one by one, so also as many in both
+  pub answers : (t : TenantId) → Forall₂ Agree (tenantEntries t (trace s xs)) (tenantEntries t (trace s ys))
+  -- the sentence on what stays, of either list
+  pub limits : Each (Limited s) (states s xs) × Each (Limited s) (states s ys)
 
--- "Operator calls are not part of this.": a Call is a tenant's. `Lengths` is no condition on what a program can hold: every value of the
--- type has it, as `segments::lengths` proves.
+-- "Operator calls are not part of this.": a Call is a tenant's
 abbrev pub Isolation : Type 0
-Isolation = (s : SegmentTable) → Lengths s → sound s ≡ true → (xs ys : List Call) → Interleaving xs ys → Isolated s xs ys
+Isolation = (s : SegmentTable) → sound s ≡ true → (xs ys : List Call) → Interleaving xs ys → Isolated s xs ys

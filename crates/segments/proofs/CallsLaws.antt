@@ -7,7 +7,7 @@ use mathlib.Core.Path.{_≡_, refl, sym, ap, ap₂, _∙_}
 use Prim.Native.Nat.{ℕ, _+_, _-_, _<_}
 use borrow.Author.Tests.{ltb-true}
 use lib.Dec.{leb, ltb}
-use Rattle.common.specs.Answer.{Answer, granted, refused, require}
+use Rattle.common.specs.Answer.{Answer, granted, isGranted, refused, require}
 use Rattle.common.specs.Index.{firstFrom, sumFrom}
 use Rattle.label.specs.Label
 use Rattle.label.specs.declared.Label.{Label}
@@ -15,9 +15,9 @@ use Rattle.common.proofs.AnswerLaws.{grant-passed, require-same}
 use Rattle.common.proofs.BoolLaws.{first-true, three-true}
 use Rattle.common.proofs.SearchLaws.{first-same, sum-same}
 use Rattle.range.specs.Tuple
-use Rattle.segments.specs.Calls.{accessOf, answerOf, callOf, callValid, cleared, found, grantOf, lookedAt, numbersValid, pagesFit, permitted, slotFor, slotOr0, slotValid, stepOf, target, visible, writable, written}
-use Rattle.segments.specs.Replies.{Grant, left, shown}
-use Rattle.segments.specs.Segments.{Lengths, ceilingAt, pagesAt, segmentAt, slot, slots, tenants, withSegment}
+use Rattle.segments.specs.Calls.{CallEffect, accessOf, answeredBy, callOf, callRow, callValid, cleared, decisionOn, effectOn, requireSlot, slotFor, slotValid, stepOf, tableBy, visible, writable}
+use Rattle.segments.specs.Replies.{Grant, shown}
+use Rattle.segments.specs.Segments.{ceilingAt, pagesAt, segmentAt, slot, slots, tenants, withSegment}
 use Rattle.segments.specs.Slots.{asSlot, emptyAt, filled, firstSlot, lowestEmpty, owns, pagesOf, slotCount}
 use Rattle.segments.specs.Sound.{admitted, sound}
 use Rattle.segments.specs.declared.Action.{Action}
@@ -28,8 +28,9 @@ use Rattle.segments.specs.declared.SegmentTable.{SegmentTable}
 use Rattle.segments.specs.declared.Slot.{Slot}
 use Rattle.segments.specs.declared.Tenant.{Tenant}
 use Rattle.segments.specs.declared.TenantId.{TenantId}
-use Rattle.segments.proofs.SegmentsLaws.{lengths-kept, segment-kept, segment-same, segment-written, tenant-same}
+use Rattle.segments.proofs.SegmentsLaws.{segment-kept, segment-same, segment-written, tenant-same}
 use Rattle.segments.proofs.SlotsLaws.{by-slot, lowest-own, count-kept, first-kept, own-of, own-slot, owns-kept, same-slot}
+use Rattle.segments.proofs.SoundLaws.{sound-parts}
 
 -- ---- the slot that a call is about
 
@@ -45,11 +46,11 @@ writable-at s t l q p f e = let i : q ≡ p = cc in rw (← i) e
 
 -- a call that looks, if at all, at a slot of its caller's own
 abbrev pub LooksAtOwn : SegmentTable → TenantId → Action → Type 0
-LooksAtOwn s t a = (p : Slot) → lookedAt a ≡ some p → owns s t p ≡ true
+LooksAtOwn s t a = (p : Slot) → callRow a .lookedAt ≡ some p → owns s t p ≡ true
 
 -- such a call is about a slot of its caller's own
 pub target-own : (s : SegmentTable) (t : TenantId) (l : Label) (a : Action) (p : Slot) → t .0 < tenants → LooksAtOwn s t a
-    → permitted s t l a ≡ true → slotFor s t a ≡ some p → owns s t p ≡ true
+    → callRow a .permitted s t l ≡ true → slotFor s t (callRow a .named) ≡ some p → owns s t p ≡ true
 target-own s t l (Open x) p h m e f = lowest-own s t p h f
 target-own s t l (Size x) p h m e f = writable-own s t l p (writable-at s t l (x .slot) p f e) .0
 target-own s t l (Post x) p h m e f = writable-own s t l p (writable-at s t l (x .slot) p f e) .0
@@ -60,20 +61,20 @@ target-own s t l (Close x) p h m e f = writable-own s t l p (writable-at s t l (
 pub valid-tenant : (s : SegmentTable) (t : TenantId) (l : Label) (a : Action) → callValid s (callOf t l a) ≡ true → t .0 < tenants
 unfolding callValid admitted
 valid-tenant s t l a e =
-    ltb-true (t .0) tenants (first-true _ (leb 1 (ceilingAt s t)) (three-true (ltb (t .0) tenants && leb 1 (ceilingAt s t)) (Label.validOf l) (numbersValid a) e .0))
+    ltb-true (t .0) tenants (first-true _ (leb 1 (ceilingAt s t)) (three-true (ltb (t .0) tenants && leb 1 (ceilingAt s t)) (Label.validOf l) (callRow a .numbersValid) e .0))
 
-pub valid-numbers : (s : SegmentTable) (t : TenantId) (l : Label) (a : Action) → callValid s (callOf t l a) ≡ true → numbersValid a ≡ true
+pub valid-numbers : (s : SegmentTable) (t : TenantId) (l : Label) (a : Action) → callValid s (callOf t l a) ≡ true → callRow a .numbersValid ≡ true
 unfolding callValid
-valid-numbers s t l a e = three-true (admitted s t) (Label.validOf l) (numbersValid a) e .2
+valid-numbers s t l a e = three-true (admitted s t) (Label.validOf l) (callRow a .numbersValid) e .2
 
 slot-in : (q p : Slot) → slotValid q ≡ true → some q ≡ some p → p .0 < slots
 slot-in q p v e = let r : q ≡ p = cc in rw (← r) (ltb-true (q .0) slots v)
 
 -- the slot that a valid call is about is one
-pub valid-slot : (s : SegmentTable) (t : TenantId) (l : Label) (a : Action) (p : Slot) → callValid s (callOf t l a) ≡ true → slotFor s t a ≡ some p → p .0 < slots
+pub valid-slot : (s : SegmentTable) (t : TenantId) (l : Label) (a : Action) (p : Slot) → callValid s (callOf t l a) ≡ true → slotFor s t (callRow a .named) ≡ some p → p .0 < slots
 valid-slot s t l a p e f = go a (valid-numbers s t l a e) f
   where
-    go : (a : Action) → numbersValid a ≡ true → slotFor s t a ≡ some p → p .0 < slots
+    go : (a : Action) → callRow a .numbersValid ≡ true → slotFor s t (callRow a .named) ≡ some p → p .0 < slots
     go (Open x) n f = own-slot s t p (lowest-own s t p (valid-tenant s t l a e) f)
     go (Size x) n f = slot-in (x .slot) p (first-true (slotValid (x .slot)) _ n) f
     go (Post x) n f = slot-in (x .slot) p n f
@@ -85,19 +86,17 @@ valid-slot s t l a p e f = go a (valid-numbers s t l a e) f
 -- both sound, the same in what no tenant call changes, and the same in t's own slots
 pub record Alike (t : TenantId) (s u : SegmentTable) : Type 0 where
   pub sounds : (sound s ≡ true) × (sound u ≡ true)
-  pub lengths : Lengths s × Lengths u
   pub pool : s .pool ≡ u .pool
   pub records : s .tenants ≡ u .tenants
   pub own : (p : Slot) → owns s t p ≡ true → segmentAt s p ≡ segmentAt u p
 
-pub alike-itself : (t : TenantId) (s : SegmentTable) → sound s ≡ true → Lengths s → Alike t s s
-alike-itself t s h l = record { sounds = (h, h); lengths = (l, l); pool = refl; records = refl; own = λ p e. refl }
+pub alike-itself : (t : TenantId) (s : SegmentTable) → sound s ≡ true → Alike t s s
+alike-itself t s h = record { sounds = (h, h); pool = refl; records = refl; own = λ p e. refl }
 
 pub alike-swap : (t : TenantId) (s u : SegmentTable) → Alike t s u → Alike t u s
 alike-swap t s u a =
     record {
       sounds = (a .sounds .1, a .sounds .0);
-      lengths = (a .lengths .1, a .lengths .0);
       pool = sym (a .pool);
       records = sym (a .records);
       own = λ p e. sym (a .own p (owns-kept s u t p (a .records) ∙ e));
@@ -107,7 +106,6 @@ pub alike-join : (t : TenantId) (s u v : SegmentTable) → Alike t s u → Alike
 alike-join t s u v a b =
     record {
       sounds = (a .sounds .0, b .sounds .1);
-      lengths = (a .lengths .0, b .lengths .1);
       pool = a .pool ∙ b .pool;
       records = a .records ∙ b .records;
       own = λ p e. a .own p e ∙ b .own p (sym (owns-kept s u t p (a .records)) ∙ e);
@@ -117,6 +115,11 @@ pub visible-same : (s u : SegmentTable) (l : Label) (p : Slot) → segmentAt s p
 unfolding visible filled
 visible-same s u l p e = ap (λ (x : Segment). leb 1 (x .pages) && Label.dominatesOf l (x .label)) e
 
+-- a slot is there or not alike, with what follows alike where it is there
+slot-same : {A : Type 0} (n : ℕ) (o q : Option Slot) (f g : Slot → Answer A) → o ≡ q → ((p : Slot) → o ≡ some p → f p ≡ g p) → requireSlot o n f ≡ requireSlot q n g
+slot-same n none q f g e h = rw (← e) refl
+slot-same n (some p) q f g e h = rw (← e) (h p refl)
+
 module _ (t : TenantId) (s u : SegmentTable) (k : Alike t s u) where
   ceiling-same : ceilingAt s t ≡ ceilingAt u t
   ceiling-same = ap (λ (x : Tenant). x .ceiling) (tenant-same s u t (k .records))
@@ -124,17 +127,17 @@ module _ (t : TenantId) (s u : SegmentTable) (k : Alike t s u) where
   pages-same : t .0 < tenants → pagesOf s t ≡ pagesOf u t
   unfolding pagesOf
   pages-same h =
-      sum-same (λ p. pagesAt s (slot p)) (λ p. pagesAt u (slot p)) (firstSlot s t) (slotCount s t)
+      sum-same (λ p. pagesAt s (slot p)) (λ p. pagesAt u (slot p)) (firstSlot s t .0) (slotCount s t)
       (λ j a b. ap (λ (x : Segment). x .pages) (k .own (slot j) (own-of s t (slot j) h a b)))
-      ∙ ap₂ (sumFrom (λ p. pagesAt u (slot p))) (first-kept s u t (k .records)) (count-kept s u t (k .records))
+      ∙ ap₂ (sumFrom (λ p. pagesAt u (slot p))) (ap (λ (p : Slot). p .0) (first-kept s u t (k .records))) (count-kept s u t (k .records))
 
   lowest-same : t .0 < tenants → lowestEmpty s t ≡ lowestEmpty u t
   unfolding lowestEmpty filled
   lowest-same h =
       ap asSlot
-      (first-same (emptyAt s) (emptyAt u) (firstSlot s t) (slotCount s t)
+      (first-same (emptyAt s) (emptyAt u) (firstSlot s t .0) (slotCount s t)
       (λ j a b. ap (λ (x : Segment). not (leb 1 (x .pages))) (k .own (slot j) (own-of s t (slot j) h a b)))
-      ∙ ap₂ (firstFrom (emptyAt u)) (first-kept s u t (k .records)) (count-kept s u t (k .records)))
+      ∙ ap₂ (firstFrom (emptyAt u)) (ap (λ (p : Slot). p .0) (first-kept s u t (k .records))) (count-kept s u t (k .records)))
 
   writable-same : (l : Label) (p : Slot) → writable s t l p ≡ writable u t l p
   unfolding writable filled
@@ -146,21 +149,18 @@ module _ (t : TenantId) (s u : SegmentTable) (k : Alike t s u) where
           ap₂ (λ (b : Bool) (x : Segment). (b && leb 1 (x .pages)) && Label.equalOf l (x .label)) (owns-kept s u t p (k .records)) (k .own p e)
       go false e = rw (sym (owns-kept s u t p (k .records)) ∙ e, e)
 
-  permitted-same : (l : Label) (a : Action) → LooksAtOwn s t a → permitted s t l a ≡ permitted u t l a
+  permitted-same : (l : Label) (a : Action) → LooksAtOwn s t a → callRow a .permitted s t l ≡ callRow a .permitted u t l
   permitted-same l (Open x) m = refl
   permitted-same l (Size x) m = writable-same l (x .slot)
   permitted-same l (Post x) m = writable-same l (x .slot)
   permitted-same l (Look x) m = visible-same s u l (x .slot) (k .own (x .slot) (m (x .slot) refl))
   permitted-same l (Close x) m = writable-same l (x .slot)
 
-  slot-for-same : t .0 < tenants → (a : Action) → slotFor s t a ≡ slotFor u t a
-  slot-for-same h (Open x) = lowest-same h
-  slot-for-same h (Size x) = refl
-  slot-for-same h (Post x) = refl
-  slot-for-same h (Look x) = refl
-  slot-for-same h (Close x) = refl
+  slot-for-same : t .0 < tenants → (o : Option Slot) → slotFor s t o ≡ slotFor u t o
+  slot-for-same h none = lowest-same h
+  slot-for-same h (some p) = refl
 
-  fit-same : t .0 < tenants → (l : Label) (a : Action) → permitted s t l a ≡ true → pagesFit s t a ≡ pagesFit u t a
+  fit-same : t .0 < tenants → (l : Label) (a : Action) → callRow a .permitted s t l ≡ true → callRow a .pagesFit s t ≡ callRow a .pagesFit u t
   fit-same h l (Open x) e = ap₂ (λ (used limit : ℕ). leb (used + x .pages) limit) (pages-same h) ceiling-same
   fit-same h l (Size x) e =
       ap₂ (λ (used limit : ℕ). leb (used - pagesAt s (x .slot) + x .pages) limit) (pages-same h) ceiling-same
@@ -169,39 +169,27 @@ module _ (t : TenantId) (s u : SegmentTable) (k : Alike t s u) where
   fit-same h l (Look x) e = refl
   fit-same h l (Close x) e = refl
 
-  -- the slot is the same, and it holds the same
-  target-same : t .0 < tenants → (l : Label) (a : Action) → slotOr0 (slotFor s t a) ≡ slotOr0 (slotFor u t a)
-  target-same h l a = ap slotOr0 (slot-for-same h a)
-
-  found-same : t .0 < tenants → (l : Label) (a : Action) → LooksAtOwn s t a → permitted s t l a ≡ true → found (slotFor s t a) ≡ true
-      → segmentAt s (slotOr0 (slotFor s t a)) ≡ segmentAt u (slotOr0 (slotFor u t a))
-  found-same h l a m e f = go (slotFor s t a) refl f ∙ ap (segmentAt u) (target-same h l a)
-    where
-      go : (o : Option Slot) → slotFor s t a ≡ o → found o ≡ true → segmentAt s (slotOr0 o) ≡ segmentAt u (slotOr0 o)
-      go none i f = absurd (true≢false (sym f))
-      go (some p) i f = k .own p (target-own s t l a p h m e i)
-
   access-same : t .0 < tenants → (l : Label) (a : Action) → LooksAtOwn s t a → accessOf s (callOf t l a) ≡ accessOf u (callOf t l a)
   unfolding accessOf
   access-same h l a m =
       require-same _ _ 13 _ _ (permitted-same l a m)
-      (λ e. require-same _ _ 28 _ _ (ap found (slot-for-same h a))
-      (λ f. require-same _ _ 12 _ _ (fit-same h l a e)
-      (λ g. ap granted (ap₂ (λ (p : Slot) (x : Segment). grantOf p x a) (target-same h l a) (found-same h l a m e f)))))
+      (λ e. slot-same 28 _ _ _ _ (slot-for-same h (callRow a .named))
+      (λ p i. require-same _ _ 12 _ _ (fit-same h l a e)
+      (λ g. ap (λ (x : Segment). granted (effectOn p x l a)) (k .own p (target-own s t l a p h m e i)))))
 
   valid-same : (l : Label) (a : Action) → callValid s (callOf t l a) ≡ callValid u (callOf t l a)
   unfolding callValid admitted
   valid-same l a =
-      ap (λ (x : Tenant). (ltb (t .0) tenants && leb 1 (x .ceiling)) && Label.validOf l && numbersValid a) (tenant-same s u t (k .records))
+      ap (λ (x : Tenant). (ltb (t .0) tenants && leb 1 (x .ceiling)) && Label.validOf l && callRow a .numbersValid) (tenant-same s u t (k .records))
 
   cleared-same : (l : Label) (a : Action) → cleared s (callOf t l a) ≡ cleared u (callOf t l a)
   unfolding cleared
   cleared-same l a = ap (λ (x : Tenant). Tuple.containsOf (x .clearance) l) (tenant-same s u t (k .records))
 
-  -- what a call answers depends on its caller's own slots and on what never changes
-  pub answer-same : (l : Label) (a : Action) → LooksAtOwn s t a → answerOf s (callOf t l a) ≡ answerOf u (callOf t l a)
-  unfolding answerOf
-  answer-same l a m =
+  -- what a call does and answers depends on its caller's own slots and on what never changes
+  pub decision-same : (l : Label) (a : Action) → LooksAtOwn s t a → decisionOn s (callOf t l a) ≡ decisionOn u (callOf t l a)
+  unfolding decisionOn
+  decision-same l a m =
       require-same _ _ 22 _ _ (k .sounds .0 ∙ sym (k .sounds .1))
       (λ e. require-same _ _ 22 _ _ (valid-same l a)
       (λ f. require-same _ _ 1 _ _ (cleared-same l a)
@@ -209,73 +197,80 @@ module _ (t : TenantId) (s u : SegmentTable) (k : Alike t s u) where
 
 -- ---- what a call changes
 
-pub next-refused : (s : SegmentTable) (c : Call) (n : ℕ) (detail : Option ℕ) → answerOf s c ≡ refused n detail → stepOf s c .table ≡ s
+pub step-answer : (s : SegmentTable) (c : Call) → stepOf s c .answer ≡ answeredBy (decisionOn s c)
+unfolding stepOf
+step-answer s c = refl
+
+pub answer-same : (t : TenantId) (s u : SegmentTable) → Alike t s u → (l : Label) (a : Action) → LooksAtOwn s t a
+    → stepOf s (callOf t l a) .answer ≡ stepOf u (callOf t l a) .answer
+answer-same t s u k l a m = step-answer s (callOf t l a) ∙ ap answeredBy (decision-same t s u k l a m) ∙ sym (step-answer u (callOf t l a))
+
+pub next-refused : (s : SegmentTable) (c : Call) (n : ℕ) (detail : Option ℕ) → decisionOn s c ≡ refused n detail → stepOf s c .table ≡ s
 unfolding stepOf
 next-refused s c n detail e = rw e
 
-pub next-granted : (s : SegmentTable) (c : Call) (g : Grant) → answerOf s c ≡ granted g
-    → stepOf s c .table ≡ withSegment s (target s c) (written (segmentAt s (target s c)) (c .label) (c .action))
+pub next-granted : (s : SegmentTable) (c : Call) (x : CallEffect) → decisionOn s c ≡ granted x → stepOf s c .table ≡ withSegment s (x .slot) (x .segment)
 unfolding stepOf
-next-granted s c g e = rw e
+next-granted s c x e = rw e
 
--- what a granted call has passed
-pub record Passed (s : SegmentTable) (t : TenantId) (l : Label) (a : Action) : Type 0 where
+-- what a granted call has passed, and what it does
+pub record Passed (s : SegmentTable) (t : TenantId) (l : Label) (a : Action) (x : CallEffect) : Type 0 where
   pub is-sound : sound s ≡ true
   pub is-valid : callValid s (callOf t l a) ≡ true
   pub is-cleared : cleared s (callOf t l a) ≡ true
-  pub is-permitted : permitted s t l a ≡ true
-  pub slot : Slot
-  pub slot-is : slotFor s t a ≡ some slot
-  pub fits : pagesFit s t a ≡ true
+  pub is-permitted : callRow a .permitted s t l ≡ true
+  pub slot-is : slotFor s t (callRow a .named) ≡ some (x .slot)
+  pub fits : callRow a .pagesFit s t ≡ true
+  pub effect-is : x ≡ effectOn (x .slot) (segmentAt s (x .slot)) l a
 
-pub slot-found : (o : Option Slot) → found o ≡ true → o ≡ some (slotOr0 o)
-slot-found none e = absurd (true≢false (sym e))
-slot-found (some p) e = refl
-
-pub granted-passed : (s : SegmentTable) (t : TenantId) (l : Label) (a : Action) (g : Grant) → answerOf s (callOf t l a) ≡ granted g → Passed s t l a
-unfolding answerOf accessOf
-granted-passed s t l a g e =
-    let e1 = grant-passed (sound s) 22 g _ (sym e) in
-    let e2 = grant-passed (callValid s (callOf t l a)) 22 g _ (e1 .1) in
-    let e3 = grant-passed (cleared s (callOf t l a)) 1 g _ (e2 .1) in
-    let e4 = grant-passed (permitted s t l a) 13 g _ (e3 .1) in
-    let e5 = grant-passed (found (slotFor s t a)) 28 g _ (e4 .1) in
-    let e6 = grant-passed (pagesFit s t a) 12 g _ (e5 .1) in
-    record {
-      is-sound = e1 .0;
-      is-valid = e2 .0;
-      is-cleared = e3 .0;
-      is-permitted = e4 .0;
-      slot = slotOr0 (slotFor s t a);
-      slot-is = slot-found (slotFor s t a) (e5 .0);
-      fits = e6 .0;
-    }
+pub granted-passed : (s : SegmentTable) (t : TenantId) (l : Label) (a : Action) (x : CallEffect) → decisionOn s (callOf t l a) ≡ granted x → Passed s t l a x
+unfolding decisionOn accessOf
+granted-passed s t l a x e =
+    let e1 = grant-passed (sound s) 22 x _ (sym e) in
+    let e2 = grant-passed (callValid s (callOf t l a)) 22 x _ (e1 .1) in
+    let e3 = grant-passed (cleared s (callOf t l a)) 1 x _ (e2 .1) in
+    let e4 = grant-passed (callRow a .permitted s t l) 13 x _ (e3 .1) in
+    at (slotFor s t (callRow a .named)) refl (e1 .0) (e2 .0) (e3 .0) (e4 .0) (e4 .1)
+  where
+    at : (o : Option Slot) → slotFor s t (callRow a .named) ≡ o → sound s ≡ true → callValid s (callOf t l a) ≡ true → cleared s (callOf t l a) ≡ true → callRow a .permitted s t l ≡ true
+        → granted x ≡ requireSlot o 28 (λ p. require (callRow a .pagesFit s t) 12 (granted (effectOn p (segmentAt s p) l a))) → Passed s t l a x
+    at none i h v c w e = absurd (true≢false (ap isGranted e))
+    at (some p) i h v c w e =
+        let f = grant-passed (callRow a .pagesFit s t) 12 x _ e in
+        let g : x ≡ effectOn p (segmentAt s p) l a = cc in
+        let q : p ≡ x .slot = ap (λ (x : CallEffect). x .slot) (sym g) in
+        record {
+          is-sound = h;
+          is-valid = v;
+          is-cleared = c;
+          is-permitted = w;
+          slot-is = i ∙ ap some q;
+          fits = f .0;
+          effect-is = g ∙ ap (λ (p : Slot). effectOn p (segmentAt s p) l a) q;
+        }
 
 -- what a state has, and has with whatever segment in a slot, the state that a call leaves has
 step-has : (P : SegmentTable → Type 0) (s : SegmentTable) (c : Call) → P s → ((p : Slot) (x : Segment) → P (withSegment s p x)) → P (stepOf s c .table)
 unfolding stepOf
-step-has P s c h f = go (answerOf s c)
+step-has P s c h f = go (decisionOn s c)
   where
-    go : (x : Answer Grant) → P (left s (withSegment s (target s c) (written (segmentAt s (target s c)) (c .label) (c .action))) x)
-    go (granted g) = f (target s c) _
+    go : (x : Answer CallEffect) → P (tableBy s x)
+    go (granted x) = f (x .slot) (x .segment)
     go (refused n detail) = h
 
--- pool, clearances and ceilings stay, and so do the lengths
+-- pool, clearances and ceilings stay
 pub pool-kept : (s : SegmentTable) (c : Call) → stepOf s c .table .pool ≡ s .pool
 pool-kept s c = step-has (λ u. u .pool ≡ s .pool) s c refl (λ p x. refl)
 
 pub records-kept : (s : SegmentTable) (c : Call) → stepOf s c .table .tenants ≡ s .tenants
 records-kept s c = step-has (λ u. u .tenants ≡ s .tenants) s c refl (λ p x. refl)
 
-pub next-lengths : (s : SegmentTable) (c : Call) → Lengths s → Lengths (stepOf s c .table)
-next-lengths s c h = step-has Lengths s c h (λ p x. lengths-kept s p x h)
-
 -- ---- looks, and calls that don't look
 
 abbrev lookOf : Slot → Action
 lookOf p = Look (record { slot = p })
 
-looks : (a : Action) (p : Slot) → lookedAt a ≡ some p → a ≡ lookOf p
+looks : (a : Action) (p : Slot) → callRow a .lookedAt ≡ some p → a ≡ lookOf p
 looks (Open x) p e = absurd (Option·none-ne-some p e)
 looks (Size x) p e = absurd (Option·none-ne-some p e)
 looks (Post x) p e = absurd (Option·none-ne-some p e)
@@ -283,41 +278,45 @@ looks (Look x) p e = let q : x .slot ≡ p = cc in ap lookOf q
 looks (Close x) p e = absurd (Option·none-ne-some p e)
 
 -- a look changes nothing
-pub look-next : (s : SegmentTable) (t : TenantId) (l : Label) (a : Action) (p : Slot) → lookedAt a ≡ some p → stepOf s (callOf t l a) .table ≡ s
-unfolding stepOf
-look-next s t l a p e = ap (λ (a : Action). stepOf s (callOf t l a) .table) (looks a p e) ∙ go (answerOf s (callOf t l (lookOf p)))
+pub look-next : (s : SegmentTable) (t : TenantId) (l : Label) (a : Action) (p : Slot) → callRow a .lookedAt ≡ some p → stepOf s (callOf t l a) .table ≡ s
+look-next s t l a p e = ap (λ (a : Action). stepOf s (callOf t l a) .table) (looks a p e) ∙ go (decisionOn s (callOf t l (lookOf p))) refl
   where
-    go : (y : Answer Grant) → left s (withSegment s p (segmentAt s p)) y ≡ s
-    go (granted g) = segment-same s p
-    go (refused n detail) = refl
+    go : (y : Answer CallEffect) → decisionOn s (callOf t l (lookOf p)) ≡ y → stepOf s (callOf t l (lookOf p)) .table ≡ s
+    go (granted x) f =
+        next-granted s (callOf t l (lookOf p)) x f
+        ∙ ap (λ (x : CallEffect). withSegment s (x .slot) (x .segment)) (granted-passed s t l (lookOf p) x f .effect-is)
+        ∙ segment-same s (x .slot)
+    go (refused n detail) f = next-refused s (callOf t l (lookOf p)) n detail f
 
--- what a look shows once it has passed the checks before: the slot, if it is visible
-pub look-access : (s : SegmentTable) (t : TenantId) (l : Label) (a : Action) (p : Slot) → lookedAt a ≡ some p
-    → accessOf s (callOf t l a) ≡ require (visible s l p) 13 (granted (shown (segmentAt s p)))
+-- what a look answers once it has passed the checks before: the slot, if it is visible
+pub look-access : (s : SegmentTable) (t : TenantId) (l : Label) (a : Action) (p : Slot) → callRow a .lookedAt ≡ some p
+    → answeredBy (accessOf s (callOf t l a)) ≡ require (visible s l p) 13 (granted (shown (segmentAt s p)))
 unfolding accessOf
-look-access s t l a p e = ap (λ (a : Action). accessOf s (callOf t l a)) (looks a p e)
+look-access s t l a p e = ap (λ (a : Action). answeredBy (accessOf s (callOf t l a))) (looks a p e) ∙ go (visible s l p)
+  where
+    go : (b : Bool) → answeredBy (require b 13 (granted (effectOn p (segmentAt s p) l (lookOf p)))) ≡ require b 13 (granted (shown (segmentAt s p)))
+    go true = refl
+    go false = refl
 
 -- a call that doesn't look
-pub looks-at-own : (s : SegmentTable) (t : TenantId) (a : Action) → lookedAt a ≡ none → LooksAtOwn s t a
+pub looks-at-own : (s : SegmentTable) (t : TenantId) (a : Action) → callRow a .lookedAt ≡ none → LooksAtOwn s t a
 looks-at-own s t a e p f = absurd (Option·none-ne-some p (sym e ∙ f))
 
 -- what a call does: it looks, is refused, or puts what it writes into a slot of its caller's own
 pub data Effect (s : SegmentTable) (t : TenantId) (l : Label) (a : Action) : Type 0 where
-  looking : (p : Slot) → lookedAt a ≡ some p → Effect s t l a
-  refusing : (n : ℕ) (detail : Option ℕ) → lookedAt a ≡ none → answerOf s (callOf t l a) ≡ refused n detail → Effect s t l a
-  writing : (g : Grant) → lookedAt a ≡ none → answerOf s (callOf t l a) ≡ granted g → (r : Passed s t l a) → owns s t (r .slot) ≡ true
-      → stepOf s (callOf t l a) .table ≡ withSegment s (r .slot) (written (segmentAt s (r .slot)) l a) → Effect s t l a
+  looking : (p : Slot) → callRow a .lookedAt ≡ some p → Effect s t l a
+  refusing : (n : ℕ) (detail : Option ℕ) → callRow a .lookedAt ≡ none → decisionOn s (callOf t l a) ≡ refused n detail → Effect s t l a
+  writing : (x : CallEffect) → callRow a .lookedAt ≡ none → decisionOn s (callOf t l a) ≡ granted x → Passed s t l a x → owns s t (x .slot) ≡ true → Effect s t l a
 
 pub effect : (s : SegmentTable) (t : TenantId) (l : Label) (a : Action) → Effect s t l a
-effect s t l a = go (lookedAt a) refl (answerOf s (callOf t l a)) refl
+effect s t l a = go (callRow a .lookedAt) refl (decisionOn s (callOf t l a)) refl
   where
-    go : (o : Option Slot) → lookedAt a ≡ o → (x : Answer Grant) → answerOf s (callOf t l a) ≡ x → Effect s t l a
+    go : (o : Option Slot) → callRow a .lookedAt ≡ o → (x : Answer CallEffect) → decisionOn s (callOf t l a) ≡ x → Effect s t l a
     go (some p) m x e = looking p m
     go none m (refused n detail) e = refusing n detail m e
-    go none m (granted g) e =
-        let r = granted-passed s t l a g e in
-        writing g m e r (target-own s t l a (r .slot) (valid-tenant s t l a (r .is-valid)) (looks-at-own s t a m) (r .is-permitted) (r .slot-is))
-        (next-granted s (callOf t l a) g e ∙ ap (λ (p : Slot). withSegment s p (written (segmentAt s p) l a)) (ap slotOr0 (r .slot-is)))
+    go none m (granted x) e =
+        let r = granted-passed s t l a x e in
+        writing x m e r (target-own s t l a (x .slot) (valid-tenant s t l a (r .is-valid)) (looks-at-own s t a m) (r .is-permitted) (r .slot-is))
 
 -- a call leaves the slots of all others as they were
 pub untouched : (s : SegmentTable) (t : TenantId) (l : Label) (a : Action) (p : Slot) → owns s t p ≡ false → segmentAt (stepOf s (callOf t l a) .table) p ≡ segmentAt s p
@@ -326,8 +325,9 @@ untouched s t l a p h = by (effect s t l a)
     by : Effect s t l a → segmentAt (stepOf s (callOf t l a) .table) p ≡ segmentAt s p
     by (looking q e) = ap (λ (u : SegmentTable). segmentAt u p) (look-next s t l a q e)
     by (refusing n detail m e) = ap (λ (u : SegmentTable). segmentAt u p) (next-refused s (callOf t l a) n detail e)
-    by (writing g m e r o f) =
-        ap (λ (u : SegmentTable). segmentAt u p) f ∙ segment-kept s (r .slot) p _ (λ i. true≢false (sym (ap (owns s t) (same-slot p (r .slot) i) ∙ o) ∙ h))
+    by (writing x m e r o) =
+        ap (λ (u : SegmentTable). segmentAt u p) (next-granted s (callOf t l a) x e)
+        ∙ segment-kept s (x .slot) p _ (λ i. true≢false (sym (ap (owns s t) (same-slot p (x .slot) i) ∙ o) ∙ h))
 
 -- what a call makes of its caller's own slots depends on these and on what never changes
 module _ (t : TenantId) (s u : SegmentTable) (k : Alike t s u) where
@@ -335,7 +335,7 @@ module _ (t : TenantId) (s u : SegmentTable) (k : Alike t s u) where
   written-same : (q : Slot) (x : Segment) (p : Slot) → q .0 < slots → segmentAt s p ≡ segmentAt u p → segmentAt (withSegment s q x) p ≡ segmentAt (withSegment u q x) p
   written-same q x p h e =
       by-slot (λ (p : Slot). segmentAt s p ≡ segmentAt u p → segmentAt (withSegment s q x) p ≡ segmentAt (withSegment u q x) p) q p
-      (λ e. segment-written s q x (k .lengths .0) h ∙ sym (segment-written u q x (k .lengths .1) h))
+      (λ e. segment-written s q x (sound-parts s (k .sounds .0) .lengths) h ∙ sym (segment-written u q x (sound-parts u (k .sounds .1) .lengths) h))
       (λ p i e. segment-kept s q p x i ∙ e ∙ sym (segment-kept u q p x i)) e
 
   pub own-next : (l : Label) (a : Action) (p : Slot) → owns s t p ≡ true → segmentAt (stepOf s (callOf t l a) .table) p ≡ segmentAt (stepOf u (callOf t l a) .table) p
@@ -344,25 +344,20 @@ module _ (t : TenantId) (s u : SegmentTable) (k : Alike t s u) where
       by : Effect s t l a → segmentAt (stepOf s (callOf t l a) .table) p ≡ segmentAt (stepOf u (callOf t l a) .table) p
       by (looking q e) = rw (look-next s t l a q e, look-next u t l a q e) (k .own p h)
       by (refusing n detail m e) =
-          rw (next-refused s (callOf t l a) n detail e, next-refused u (callOf t l a) n detail (sym (answer-same t s u k l a (looks-at-own s t a m)) ∙ e)) (k .own p h)
-      by (writing g m e r o f) =
-          let i : slotOr0 (slotFor u t a) ≡ r .slot = sym (target-same t s u k (valid-tenant s t l a (r .is-valid)) l a) ∙ ap slotOr0 (r .slot-is) in
-          let w : stepOf u (callOf t l a) .table ≡ withSegment u (r .slot) (written (segmentAt u (r .slot)) l a) =
-          next-granted u (callOf t l a) g (sym (answer-same t s u k l a (looks-at-own s t a m)) ∙ e) ∙ ap (λ (q : Slot). withSegment u q (written (segmentAt u q) l a)) i in
-          ap (λ (v : SegmentTable). segmentAt v p) f
-          ∙ written-same (r .slot) (written (segmentAt s (r .slot)) l a) p (own-slot s t (r .slot) o) (k .own p h)
-          ∙ ap (λ (x : Segment). segmentAt (withSegment u (r .slot) (written x l a)) p) (k .own (r .slot) o)
-          ∙ sym (ap (λ (v : SegmentTable). segmentAt v p) w)
+          rw (next-refused s (callOf t l a) n detail e, next-refused u (callOf t l a) n detail (sym (decision-same t s u k l a (looks-at-own s t a m)) ∙ e)) (k .own p h)
+      by (writing x m e r o) =
+          rw (next-granted s (callOf t l a) x e, next-granted u (callOf t l a) x (sym (decision-same t s u k l a (looks-at-own s t a m)) ∙ e))
+          (written-same (x .slot) (x .segment) p (own-slot s t (x .slot) o) (k .own p h))
 
 -- ---- what two states that are alike answer before a slot is looked into
 
 -- the checks before the slots are looked into end alike: refused with 22, refused with 1, or passed
 pub data Checked (s u : SegmentTable) (c : Call) : Type 0 where
-  both-refused : (n : ℕ) → (n ≡ 22) ⊎ (n ≡ 1) → answerOf s c ≡ refused n none → answerOf u c ≡ refused n none → Checked s u c
-  both-passed : answerOf s c ≡ accessOf s c → answerOf u c ≡ accessOf u c → Checked s u c
+  both-refused : (n : ℕ) → (n ≡ 22) ⊎ (n ≡ 1) → stepOf s c .answer ≡ refused n none → stepOf u c .answer ≡ refused n none → Checked s u c
+  both-passed : stepOf s c .answer ≡ answeredBy (accessOf s c) → stepOf u c .answer ≡ answeredBy (accessOf u c) → Checked s u c
 
 pub checked : (t : TenantId) (s u : SegmentTable) → Alike t s u → (l : Label) (a : Action) → Checked s u (callOf t l a)
-unfolding answerOf
+unfolding decisionOn stepOf
 checked t s u k l a =
     go (callValid u (callOf t l a)) (cleared u (callOf t l a)) refl refl
   where
@@ -379,7 +374,3 @@ checked t s u k l a =
         both-passed
         (rw (k .sounds .0, valid-same t s u k l a, e, cleared-same t s u k l a, f) refl)
         (rw (k .sounds .1, e, f) refl)
-
-pub step-answer : (s : SegmentTable) (c : Call) → stepOf s c .answer ≡ answerOf s c
-unfolding stepOf
-step-answer s c = refl

@@ -6,7 +6,7 @@ use Prim.Native.Nat.{ℕ, _+_, _-_, _<_, _≤_}
 use native.Mathlib.Omega.{arith}
 use borrow.Author.Tests.{le-leb, leb-true, lt-ltb, ltb-true}
 use lib.Dec.{leb, ltb}
-use lib.ListN.{getD-replicate}
+use lib.ListN.{getD-replicate, length-replicate}
 use Rattle.common.specs.Answer.{Answer, granted, refused, require}
 use Rattle.common.specs.Index.{someBelow}
 use Rattle.label.specs.Region.{regions}
@@ -22,7 +22,7 @@ use Rattle.range.proofs.TupleLaws.{absent-valid, empty-none}
 use Rattle.segments.specs.Operator.{admitAnswer, admitOf, makeAnswer, makeOf, setCeilingAnswer, setCeilingOf}
 use Rattle.segments.specs.Parts.{poolAnswer}
 use Rattle.segments.specs.Replies.{Grant, done, left}
-use Rattle.segments.specs.Segments.{Lengths, ceilingAt, clearanceAt, emptyTable, pagesAt, pagesValid, segmentAt, slot, slots, tenantAt, tenantId, tenantOf, tenants, withTenant, zeroSegment, zeroTenant}
+use Rattle.segments.specs.Segments.{ceilingAt, clearanceAt, emptyTable, pagesAt, pagesValid, segmentAt, slot, slots, tenantAt, tenantId, tenantOf, tenants, withTenant, zeroSegment, zeroTenant}
 use Rattle.segments.specs.Slots.{ceilingsOf, firstSlot, pagesOf, slotCount}
 use Rattle.segments.specs.Sound.{admitted, sound, tenantSound, zeros}
 use Rattle.segments.specs.declared.Segment.{Segment}
@@ -30,13 +30,13 @@ use Rattle.segments.specs.declared.SegmentTable.{SegmentTable}
 use Rattle.segments.specs.declared.Slot.{Slot}
 use Rattle.segments.specs.declared.Tenant.{Tenant}
 use Rattle.segments.specs.declared.TenantId.{TenantId}
-use Rattle.segments.proofs.SegmentsLaws.{tenant-kept, tenant-written}
+use Rattle.segments.proofs.SegmentsLaws.{lengths-stay, tenant-kept, tenant-written}
 use Rattle.segments.proofs.SlotsLaws.{by-tenant, count-stays, first-stays, own-bound, owns-stays}
 use Rattle.segments.proofs.SoundLaws.{Sound, admitted-parts, clears, clears-parts, held, parts-sound, slot-held, sound-parts, zeros-held}
 
 -- ---- another record for a tenant
 
-module _ (s : SegmentTable) (t : TenantId) (x : Tenant) (lengths : Lengths s) (number : t .0 < tenants) where
+module _ (s : SegmentTable) (t : TenantId) (x : Tenant) (h : Sound s) (number : t .0 < tenants) where
   abbrev next : SegmentTable
   next = withTenant s t x
 
@@ -50,13 +50,13 @@ module _ (s : SegmentTable) (t : TenantId) (x : Tenant) (lengths : Lengths s) (n
   unfolding ceilingsOf
   ceilings-with =
       sum-but (λ u. ceilingAt s (tenantId u)) (λ u. ceilingAt next (tenantId u)) (t .0) 0 tenants
-      (λ j h. ap (λ (y : Tenant). y .ceiling) (tenant-kept s t (tenantId j) x h)) (omega arith) (omega arith)
-      ∙ ap (λ (y : Tenant). ceilingsOf s + y .ceiling) (tenant-written s t x lengths number)
+      (λ j n. ap (λ (y : Tenant). y .ceiling) (tenant-kept s t (tenantId j) x n)) (omega arith) (omega arith)
+      ∙ ap (λ (y : Tenant). ceilingsOf s + y .ceiling) (tenant-written s t x (h .lengths) number)
 
   -- what a slot may hold, it still may where the new clearance has all labels of the old one
   held-with : ((l : Label) → Tuple.containsOf (clearanceAt s t) l ≡ true → Tuple.containsOf (x .clearance) l ≡ true)
       → (p : Slot) (y : Segment) → held s p y ≡ true → held next p y ≡ true
-  held-with h p y e = go (leb 1 (y .pages)) e
+  held-with f p y e = go (leb 1 (y .pages)) e
     where
       same : (v w : Tenant) → v ≡ w → Tuple.containsOf (w .clearance) (y .label) ≡ true → Tuple.containsOf (v .clearance) (y .label) ≡ true
       same v w i f = ap (λ (z : Tenant). Tuple.containsOf (z .clearance) (y .label)) i ∙ f
@@ -64,7 +64,7 @@ module _ (s : SegmentTable) (t : TenantId) (x : Tenant) (lengths : Lengths s) (n
       still : (u : TenantId) → Tuple.containsOf (clearanceAt s u) (y .label) ≡ true → Tuple.containsOf (clearanceAt next u) (y .label) ≡ true
       still u =
           by-tenant (λ (u : TenantId). Tuple.containsOf (clearanceAt s u) (y .label) ≡ true → Tuple.containsOf (clearanceAt next u) (y .label) ≡ true) t u
-          (λ f. same (tenantAt next t) x (tenant-written s t x lengths number) (h (y .label) f)) (λ u i. same (tenantAt next u) (tenantAt s u) (tenant-kept s t u x i))
+          (λ g. same (tenantAt next t) x (tenant-written s t x (h .lengths) number) (f (y .label) g)) (λ u i. same (tenantAt next u) (tenantAt s u) (tenant-kept s t u x i))
 
       go : (b : Bool) → cond b (someBelow (clears s p (y .label)) tenants) (zeros y) ≡ true → cond b (someBelow (clears next p (y .label)) tenants) (zeros y) ≡ true
       go false e = e
@@ -74,13 +74,14 @@ module _ (s : SegmentTable) (t : TenantId) (x : Tenant) (lengths : Lengths s) (n
           let c = clears-parts s p (y .label) k f in
           any-of (clears next p (y .label)) tenants k l (both (owns-stays s t (tenantId k) x p ∙ c .0) (still (tenantId k) (c .1))))
 
-  with-sound : Sound s → tenantSound x ≡ true → ((l : Label) → Tuple.containsOf (clearanceAt s t) l ≡ true → Tuple.containsOf (x .clearance) l ≡ true)
+  with-sound : tenantSound x ≡ true → ((l : Label) → Tuple.containsOf (clearanceAt s t) l ≡ true → Tuple.containsOf (x .clearance) l ≡ true)
       → ceilingsOf s + x .ceiling ≤ s .pool + ceilingAt s t → pagesOf s t ≤ x .ceiling → Sound next
-  with-sound h e f g k =
+  with-sound e f g k =
       record {
+        lengths = lengths-stay s t x (h .lengths);
         pool = h .pool;
         tenant = λ u l.
-            by-tenant (λ (u : TenantId). u .0 < tenants → tenantSound (tenantAt next u) ≡ true) t u (λ l. ap tenantSound (tenant-written s t x lengths number) ∙ e)
+            by-tenant (λ (u : TenantId). u .0 < tenants → tenantSound (tenantAt next u) ≡ true) t u (λ l. ap tenantSound (tenant-written s t x (h .lengths) number) ∙ e)
             (λ u i l. ap tenantSound (tenant-kept s t u x i) ∙ h .tenant u l) l;
         segment = λ p l. slot-held next p ∙ held-with f p (segmentAt s p) (sym (slot-held s p) ∙ h .segment p l);
         ceilings = let c = ceilings-with in omega arith;
@@ -88,7 +89,7 @@ module _ (s : SegmentTable) (t : TenantId) (x : Tenant) (lengths : Lengths s) (n
             by-tenant (λ (u : TenantId). u .0 < tenants → pagesOf next u ≤ ceilingAt next u) t u
             (λ l.
             let a = pages-stay t in
-            let b : ceilingAt next t ≡ x .ceiling = ap (λ (y : Tenant). y .ceiling) (tenant-written s t x lengths number) in
+            let b : ceilingAt next t ≡ x .ceiling = ap (λ (y : Tenant). y .ceiling) (tenant-written s t x (h .lengths) number) in
             omega arith)
             (λ u i l.
             let a = pages-stay u in
@@ -135,10 +136,10 @@ tenant-empty x l z e =
     empty-none (x .clearance) l
     (ap (λ (n : ℕ). cond (leb 1 n) (not (Tuple.emptyOf (x .clearance))) (Tuple.emptyOf (x .clearance))) (sym z) ∙ second-true (Tuple.validOf (x .clearance)) _ e)
 
-granted-admit : (s : SegmentTable) (t : TenantId) (n : ℕ) (c : Tuple) → Lengths s → sound s ≡ true → (g : Grant) → admitAnswer s t n c ≡ granted g
+granted-admit : (s : SegmentTable) (t : TenantId) (n : ℕ) (c : Tuple) → sound s ≡ true → (g : Grant) → admitAnswer s t n c ≡ granted g
     → sound (withTenant s t (tenantOf n c)) ≡ true
 unfolding admitAnswer
-granted-admit s t n c l h g e =
+granted-admit s t n c h g e =
     let v : Bool = ltb (t .0) tenants && Tuple.validOf c in
     let e1 = grant-passed (sound s) 22 g _ (sym e) in
     let e2 = grant-passed ((v && not (Tuple.emptyOf c)) && leb 1 n) 22 g _ (e1 .1) in
@@ -152,15 +153,15 @@ granted-admit s t n c l h g e =
     let p = q .pages t i in
     let m = leb-true (ceilingsOf s + n) (s .pool) (e4 .0) in
     parts-sound _
-    (with-sound s t (tenantOf n c) l i q
+    (with-sound s t (tenantOf n c) q i
     (tenant-sound-of n c (leb-true 1 n (second-true (v && not (Tuple.emptyOf c)) (leb 1 n) (e2 .0))) (second-true (ltb (t .0) tenants) (Tuple.validOf c) b) (second-true v (not (Tuple.emptyOf c)) a))
     (λ k f. absurd (tenant-empty (tenantAt s t) k z (q .tenant t i) f))
     (omega arith) (omega arith))
 
-granted-ceiling : (s : SegmentTable) (t : TenantId) (n : ℕ) → Lengths s → sound s ≡ true → (g : Grant) → setCeilingAnswer s t n ≡ granted g
+granted-ceiling : (s : SegmentTable) (t : TenantId) (n : ℕ) → sound s ≡ true → (g : Grant) → setCeilingAnswer s t n ≡ granted g
     → sound (withTenant s t (tenantOf n (clearanceAt s t))) ≡ true
 unfolding setCeilingAnswer
-granted-ceiling s t n l h g e =
+granted-ceiling s t n h g e =
     let e1 = grant-passed (sound s) 22 g _ (sym e) in
     let e2 = grant-passed (admitted s t && leb 1 n) 22 g _ (e1 .1) in
     let e3 = grant-passed (leb (pagesOf s t) n) 16 g _ (e2 .1) in
@@ -170,7 +171,7 @@ granted-ceiling s t n l h g e =
     let v = tenant-sound-in (tenantAt s t) (i .1) (q .tenant t (i .0)) in
     let m = leb-true (ceilingsOf s - ceilingAt s t + n) (s .pool) (e4 .0) in
     parts-sound _
-    (with-sound s t (tenantOf n (clearanceAt s t)) l (i .0) q
+    (with-sound s t (tenantOf n (clearanceAt s t)) q (i .0)
     (tenant-sound-of n (clearanceAt s t) (leb-true 1 n (second-true (admitted s t) (leb 1 n) (e2 .0))) (v .0) (v .1))
     (λ k f. f) (omega arith) (leb-true (pagesOf s t) n (e3 .0)))
 
@@ -179,13 +180,13 @@ left-sound : (s next : SegmentTable) (x : Answer Grant) → sound s ≡ true →
 left-sound s next (granted g) h f = f g refl
 left-sound s next (refused n detail) h f = h
 
-pub admit-sound : (s : SegmentTable) (t : TenantId) (n : ℕ) (c : Tuple) → Lengths s → sound s ≡ true → sound (admitOf s t n c .table) ≡ true
+pub admit-sound : (s : SegmentTable) (t : TenantId) (n : ℕ) (c : Tuple) → sound s ≡ true → sound (admitOf s t n c .table) ≡ true
 unfolding admitOf
-admit-sound s t n c l h = left-sound s _ (admitAnswer s t n c) h (granted-admit s t n c l h)
+admit-sound s t n c h = left-sound s _ (admitAnswer s t n c) h (granted-admit s t n c h)
 
-pub set-ceiling-sound : (s : SegmentTable) (t : TenantId) (n : ℕ) → Lengths s → sound s ≡ true → sound (setCeilingOf s t n .table) ≡ true
+pub set-ceiling-sound : (s : SegmentTable) (t : TenantId) (n : ℕ) → sound s ≡ true → sound (setCeilingOf s t n .table) ≡ true
 unfolding setCeilingOf
-set-ceiling-sound s t n l h = left-sound s _ (setCeilingAnswer s t n) h (granted-ceiling s t n l h)
+set-ceiling-sound s t n h = left-sound s _ (setCeilingAnswer s t n) h (granted-ceiling s t n h)
 
 -- ---- make
 
@@ -203,7 +204,7 @@ no-pages : (pool : ℕ) (t : TenantId) → t .0 < tenants → pagesOf (emptyTabl
 unfolding pagesOf
 no-pages pool t l =
     let k = own-bound (emptyTable pool) t l in
-    sum-zero (λ p. pagesAt (emptyTable pool) (slot p)) (firstSlot (emptyTable pool) t) (slotCount (emptyTable pool) t)
+    sum-zero (λ p. pagesAt (emptyTable pool) (slot p)) (firstSlot (emptyTable pool) t .0) (slotCount (emptyTable pool) t)
     (λ j a b. ap (λ (x : Segment). x .pages) (getD-replicate slots j zeroSegment _ (omega arith)))
 
 -- a state with no tenants is sound
@@ -211,6 +212,7 @@ empty-sound : (pool : ℕ) → pagesValid pool ≡ true → sound (emptyTable po
 empty-sound pool e =
     parts-sound (emptyTable pool)
     (record {
+      lengths = record { tenants-are = length-replicate tenants zeroTenant; segments-are = length-replicate slots zeroSegment };
       pool = e;
       tenant = λ t l. ap tenantSound (getD-replicate tenants (t .0) zeroTenant _ l) ∙ zero-tenant-sound;
       segment = λ p l. slot-held (emptyTable pool) p ∙ ap (held (emptyTable pool) p) (getD-replicate slots (p .0) zeroSegment _ l) ∙ zeros-held (emptyTable pool) p;

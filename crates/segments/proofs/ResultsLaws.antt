@@ -12,8 +12,8 @@ use Rattle.common.specs.declared.errno.Errno.{Errno}
 use Rattle.common.specs.declared.errno.Errno.the-variants.{Invalid}
 use Rattle.common.proofs.AnswerLaws.{grant-passed, require-then}
 use Rattle.common.proofs.BoolLaws.{both, first-true, not-so}
-use Rattle.segments.specs.Calls.{Decides, accessOf, answerOf, callOf, callValid, changedSlot, cleared, found, grantOf, numbersValid, pagesFit, permitted, slotFor, slotOr0, slotValid, stepOf, target, written}
-use Rattle.segments.specs.Parts.{Started, namedSlot, startOf, unlabeled}
+use Rattle.segments.specs.Calls.{CallEffect, Decides, accessOf, answeredBy, callOf, callRow, callValid, changedSlot, cleared, decisionOn, effectOn, slotFor, slotValid, stepOf}
+use Rattle.segments.specs.Parts.{Started, namedSegment, namedValid, startOf, unlabeled}
 use Rattle.segments.specs.Replies.{Answers, Grant, Results, applied, done, isRefusal, labelBeside, leaving, refusedWith, replyOf, shownLabel}
 use Rattle.segments.specs.Segments.{ceilingAt, segmentAt, slots, tenants, withSegment}
 use Rattle.segments.specs.Slots.{pagesOf}
@@ -61,26 +61,20 @@ refusal-is (Shown x) l n detail e = absurd (true≢false (ap isGranted e))
 refusal-is (Refused x) l n detail e = refl
 
 -- what an open writes and answers does not depend on what was in its slot; the others are about the slot that they name
-named-written : (s : SegmentTable) (t : TenantId) (l : Label) (a : Action) → written (segmentAt s (namedSlot a)) l a ≡ written (segmentAt s (slotOr0 (slotFor s t a))) l a
-named-written s t l (Open x) = refl
-named-written s t l (Size x) = refl
-named-written s t l (Post x) = refl
-named-written s t l (Look x) = refl
-named-written s t l (Close x) = refl
-
-named-grant : (s : SegmentTable) (p : Slot) (t : TenantId) (a : Action) → grantOf p (segmentAt s (namedSlot a)) a ≡ grantOf p (segmentAt s (slotOr0 (slotFor s t a))) a
-named-grant s p t (Open x) = refl
-named-grant s p t (Size x) = refl
-named-grant s p t (Post x) = refl
-named-grant s p t (Look x) = refl
-named-grant s p t (Close x) = refl
+named-effect : (s : SegmentTable) (t : TenantId) (l : Label) (a : Action) (p : Slot) → slotFor s t (callRow a .named) ≡ some p
+    → effectOn p (namedSegment s (callRow a .named)) l a ≡ effectOn p (segmentAt s p) l a
+named-effect s t l (Open x) p e = refl
+named-effect s t l (Size x) p e = let i : x .slot ≡ p = cc in ap (λ (q : Slot). effectOn p (segmentAt s q) l (Size x)) i
+named-effect s t l (Post x) p e = let i : x .slot ≡ p = cc in ap (λ (q : Slot). effectOn p (segmentAt s q) l (Post x)) i
+named-effect s t l (Look x) p e = let i : x .slot ≡ p = cc in ap (λ (q : Slot). effectOn p (segmentAt s q) l (Look x)) i
+named-effect s t l (Close x) p e = refl
 
 -- ---- a call that has passed the first checks
 
 module _ (s : SegmentTable) (c : Call) where
   -- what is answered: the refusal of the first checks, or what follows them
-  answer-start : answerOf s c ≡ andThen (startOf s c) (λ g. accessOf s c)
-  unfolding startOf answerOf
+  answer-start : decisionOn s c ≡ andThen (startOf s c) (λ g. accessOf s c)
+  unfolding startOf decisionOn
   answer-start = sym (simp require-then)
 
   pub start-passed : granted done ≡ startOf s c → Started s c
@@ -92,42 +86,38 @@ module _ (s : SegmentTable) (c : Call) where
       record { sound = a .0; valid = b .0; cleared = d .0 }
 
   -- a refusal changes nothing
-  pub decides-refused : {x : Change} (e : Errno) → x ≡ refusedWith e → answerOf s c ≡ refusedBy e → Decides s c x
+  pub decides-refused : {x : Change} (e : Errno) → x ≡ refusedWith e → decisionOn s c ≡ refusedBy e → Decides s c x
   decides-refused e h k = rw h (record { slot = rw k; segment = rw k; answer = rw k (record { reply = refl; label = refl }) })
 
   pub decides-stopped : {x : Change} (e : Errno) → x ≡ refusedWith e → refusedBy e ≡ startOf s c → Decides s c x
   decides-stopped e h k = decides-refused e h (answer-start ∙ ap (λ (y : Answer Grant). andThen y (λ g. accessOf s c)) (sym k))
 
-  pub unsound : sound s ≡ false → answerOf s c ≡ refusedBy Invalid
-  unfolding answerOf
+  pub unsound : sound s ≡ false → decisionOn s c ≡ refusedBy Invalid
+  unfolding decisionOn
   unsound h = rw h
 
   -- a call whose tenant, or the slot that it names, is not there is not valid
-  pub out-of-bounds : sound s ≡ true → (ltb (c .tenant .0) tenants && slotValid (namedSlot (c .action))) ≡ false → answerOf s c ≡ refusedBy Invalid
-  unfolding answerOf
+  pub out-of-bounds : sound s ≡ true → (ltb (c .tenant .0) tenants && namedValid (callRow (c .action) .named)) ≡ false → decisionOn s c ≡ refusedBy Invalid
+  unfolding decisionOn
   out-of-bounds h k = rw (h, not-so (callValid s c) (λ e. true≢false (sym (in-bounds (c .tenant) (c .label) (c .action) e) ∙ k)))
     where
-      named-valid : (a : Action) → numbersValid a ≡ true → slotValid (namedSlot a) ≡ true
+      named-valid : (a : Action) → callRow a .numbersValid ≡ true → namedValid (callRow a .named) ≡ true
       named-valid (Open x) e = refl
       named-valid (Size x) e = first-true (slotValid (x .slot)) _ e
       named-valid (Post x) e = e
       named-valid (Look x) e = e
       named-valid (Close x) e = e
 
-      in-bounds : (t : TenantId) (l : Label) (a : Action) → callValid s (callOf t l a) ≡ true → (ltb (t .0) tenants && slotValid (namedSlot a)) ≡ true
+      in-bounds : (t : TenantId) (l : Label) (a : Action) → callValid s (callOf t l a) ≡ true → (ltb (t .0) tenants && namedValid (callRow a .named)) ≡ true
       in-bounds t l a e = both (lt-ltb (t .0) tenants (valid-tenant s t l a e)) (named-valid a (valid-numbers s t l a e))
 
 module _ (s : SegmentTable) (c : Call) (w : Started s c) where
-  started-answer : answerOf s c ≡ accessOf s c
-  unfolding answerOf
+  started-answer : decisionOn s c ≡ accessOf s c
+  unfolding decisionOn
   started-answer = rw (w .sound, w .valid, w .cleared)
 
   pub started-tenant : c .tenant .0 < tenants
   started-tenant = valid-tenant s (c .tenant) (c .label) (c .action) (w .valid)
-
-  pub started-slot : {a : Action} {p : Slot} → c .action ≡ a → slotFor s (c .tenant) a ≡ some p → p .0 < slots
-  started-slot {a} {p} e f =
-      valid-slot s (c .tenant) (c .label) a p (ap (λ (a : Action). callValid s (callOf (c .tenant) (c .label) a)) (sym e) ∙ w .valid) f
 
   pub started-pages : pagesOf s (c .tenant) ≤ ceilingAt s (c .tenant)
   started-pages = sound-parts s (w .sound) .pages (c .tenant) started-tenant
@@ -136,43 +126,39 @@ module _ (s : SegmentTable) (c : Call) (w : Started s c) where
   access-refused e h k = decides-refused s c e h (started-answer ∙ k)
 
   -- what a granted call does: its slot is the one that the call is about, and gets what is written over y, which is in the slot that it names
-  pub decides-granted : {x : Change} {y : Segment} → permitted s (c .tenant) (c .label) (c .action) ≡ true
-      → found (slotFor s (c .tenant) (c .action)) ≡ true → pagesFit s (c .tenant) (c .action) ≡ true → x .slot ≡ target s c
-      → y ≡ segmentAt s (namedSlot (c .action)) → x .segment ≡ written y (c .label) (c .action)
-      → Answers (x .answer) (granted (grantOf (x .slot) y (c .action))) → Decides s c x
+  pub decides-granted : {x : Change} {y : Segment} → callRow (c .action) .permitted s (c .tenant) (c .label) ≡ true
+      → slotFor s (c .tenant) (callRow (c .action) .named) ≡ some (x .slot) → callRow (c .action) .pagesFit s (c .tenant) ≡ true
+      → y ≡ namedSegment s (callRow (c .action) .named) → x .segment ≡ callRow (c .action) .written y (c .label)
+      → Answers (x .answer) (granted (callRow (c .action) .answered (x .slot) y)) → Decides s c x
   unfolding accessOf
-  decides-granted {x} {y} a b d e v f g =
-      let k : answerOf s c ≡ granted (grantOf (target s c) (segmentAt s (target s c)) (c .action)) = started-answer ∙ rw (a, b, d) in
-      let h : granted (grantOf (x .slot) y (c .action)) ≡ granted (grantOf (target s c) (segmentAt s (target s c)) (c .action)) =
-      ap granted (ap (λ (z : Segment). grantOf (x .slot) z (c .action)) v ∙ named-grant s (x .slot) (c .tenant) (c .action) ∙ ap (λ (p : Slot). grantOf p (segmentAt s (target s c)) (c .action)) e) in
-      record {
-        slot = rw k e;
-        segment = rw k (f ∙ ap (λ (z : Segment). written z (c .label) (c .action)) v ∙ named-written s (c .tenant) (c .label) (c .action));
-        answer = record { reply = g .reply ∙ h ∙ sym k; label = g .label ∙ ap labelBeside (h ∙ sym k) };
-      }
+  decides-granted {x} {y} a b d v f g =
+      let h : effectOn (x .slot) y (c .label) (c .action) ≡ effectOn (x .slot) (segmentAt s (x .slot)) (c .label) (c .action) =
+      ap (λ (z : Segment). effectOn (x .slot) z (c .label) (c .action)) v ∙ named-effect s (c .tenant) (c .label) (c .action) (x .slot) b in
+      let k : decisionOn s c ≡ granted (effectOn (x .slot) y (c .label) (c .action)) = started-answer ∙ rw (a, b, d) (ap granted (sym h)) in
+      record { slot = rw k; segment = rw k f; answer = rw k g }
 
 -- ---- a change that is what the call does
 
 module _ (s : SegmentTable) (c : Call) {x : Change} (d : Decides s c x) where
   pub decides-slot : x .slot .0 < slots
-  decides-slot = rw (d .slot) (go (answerOf s c) refl)
+  decides-slot = rw (d .slot) (go (decisionOn s c) refl)
     where
-      go : (y : Answer Grant) → answerOf s c ≡ y → changedSlot y (target s c) .0 < slots
-      go (granted g) e =
-          let r = granted-passed s (c .tenant) (c .label) (c .action) g e in
-          rw (ap slotOr0 (r .slot-is)) (valid-slot s (c .tenant) (c .label) (c .action) (r .slot) (r .is-valid) (r .slot-is))
+      go : (y : Answer CallEffect) → decisionOn s c ≡ y → changedSlot y .0 < slots
+      go (granted z) e =
+          let r = granted-passed s (c .tenant) (c .label) (c .action) z e in
+          valid-slot s (c .tenant) (c .label) (c .action) (z .slot) (r .is-valid) (r .slot-is)
       go (refused n detail) e = lit< tt
 
   -- made to the state, it gives the call's outcome
   pub decides-results : Results (applied s x) (stepOf s c)
   unfolding stepOf
-  decides-results = go (answerOf s c) refl
+  decides-results = go (decisionOn s c) refl
     where
-      go : (y : Answer Grant) → answerOf s c ≡ y → Results (applied s x) (stepOf s c)
-      go (granted g) e =
+      go : (y : Answer CallEffect) → decisionOn s c ≡ y → Results (applied s x) (stepOf s c)
+      go (granted z) e =
           let a = rw e at (d .answer) in
           rw e (record {
-            table = ap (λ (b : Bool). cond b s (withSegment s (x .slot) (x .segment))) (grant-is-no-refusal (x .answer .reply) (x .answer .label) g (a .reply))
+            table = ap (λ (b : Bool). cond b s (withSegment s (x .slot) (x .segment))) (grant-is-no-refusal (x .answer .reply) (x .answer .label) (z .grant) (a .reply))
                 ∙ ap₂ (withSegment s) (rw e at (d .slot)) (rw e at (d .segment));
             answer = a .reply;
             label = a .label;

@@ -3,14 +3,19 @@ use mathlib.Core.List.{List}
 use mathlib.Core.Path.{_≡_, sym, ap, ap₂, _∙_}
 use Prim.Native.Nat.{_<_}
 use native.Mathlib.Omega.{arith}
-use lib.ListN.{length-set}
+use lib.ListN.{length, length-set}
 use lib.Seq.{ext-getD, getD-set-other, getD-set-same, set-getD}
-use Rattle.segments.specs.Segments.{Lengths, segmentAt, slot, slots, tableOf, tenantAt, tenants, withSegment, withTenant}
+use Rattle.segments.specs.Segments.{segmentAt, slot, slots, tableOf, tenantAt, tenants, withSegment, withTenant}
 use Rattle.segments.specs.declared.Segment.{Segment}
 use Rattle.segments.specs.declared.SegmentTable.{SegmentTable}
 use Rattle.segments.specs.declared.Slot.{Slot}
 use Rattle.segments.specs.declared.Tenant.{Tenant}
 use Rattle.segments.specs.declared.TenantId.{TenantId}
+
+-- a record for each tenant and a segment for each slot
+pub record Lengths (s : SegmentTable) : Type 0 where
+  pub tenants-are : length (s .tenants) ≡ tenants
+  pub segments-are : length (s .segments) ≡ slots
 
 module _ (s : SegmentTable) where
   pub segment-written : (p : Slot) (x : Segment) → Lengths s → p .0 < slots → segmentAt (withSegment s p x) p ≡ x
@@ -24,6 +29,9 @@ module _ (s : SegmentTable) where
 
   pub lengths-kept : (p : Slot) (x : Segment) → Lengths s → Lengths (withSegment s p x)
   lengths-kept p x l = record { tenants-are = l .tenants-are; segments-are = length-set (s .segments) (p .0) x ∙ l .segments-are }
+
+  pub lengths-stay : (t : TenantId) (x : Tenant) → Lengths s → Lengths (withTenant s t x)
+  lengths-stay t x l = record { tenants-are = length-set (s .tenants) (t .0) x ∙ l .tenants-are; segments-are = l .segments-are }
 
   pub tenant-written : (t : TenantId) (x : Tenant) → Lengths s → t .0 < tenants → tenantAt (withTenant s t x) t ≡ x
   tenant-written t x l h = let k = l .tenants-are in getD-set-same (s .tenants) (t .0) x _ (omega arith)

@@ -1,5 +1,4 @@
 -- Whose a slot is, and a tenant's own slots. The laws of `firstSlot`, `slotCount` and `owns` stand here: nothing else opens these three.
---
 use mathlib.Core.Bool.{true, false, _&&_}
 use mathlib.Core.Logic.{⊎-elim}
 use mathlib.Core.Option.{Option, none, some, Option·none-ne-some}
@@ -40,23 +39,23 @@ by-tenant = by-number (λ t. t .0) same-tenant
 
 pub record Own (s : SegmentTable) (t : TenantId) (p : Slot) : Type 0 where
   pub tenant : t .0 < tenants
-  pub from : firstSlot s t ≤ p .0
-  pub to : p .0 < firstSlot s t + slotCount s t
+  pub from : firstSlot s t .0 ≤ p .0
+  pub to : p .0 < firstSlot s t .0 + slotCount s t
 
 pub own-parts : (s : SegmentTable) (t : TenantId) (p : Slot) → owns s t p ≡ true → Own s t p
 unfolding owns
 own-parts s t p e =
-    let h = three-true (ltb (t .0) tenants) (leb (firstSlot s t) (p .0)) (ltb (p .0) (firstSlot s t + slotCount s t)) e in
+    let h = three-true (ltb (t .0) tenants) (leb (firstSlot s t .0) (p .0)) (ltb (p .0) (firstSlot s t .0 + slotCount s t)) e in
     record { tenant = ltb-true _ _ (h .0); from = leb-true _ _ (h .1); to = ltb-true _ _ (h .2) }
 
-pub own-of : (s : SegmentTable) (t : TenantId) (p : Slot) → t .0 < tenants → firstSlot s t ≤ p .0 → p .0 < firstSlot s t + slotCount s t → owns s t p ≡ true
+pub own-of : (s : SegmentTable) (t : TenantId) (p : Slot) → t .0 < tenants → firstSlot s t .0 ≤ p .0 → p .0 < firstSlot s t .0 + slotCount s t → owns s t p ≡ true
 unfolding owns
 own-of s t p h a b = both (both (lt-ltb _ _ h) (le-leb _ _ a)) (lt-ltb _ _ b)
 
 -- ---- what the rule of today says
 
 -- they are slots
-pub own-bound : (s : SegmentTable) (t : TenantId) → t .0 < tenants → firstSlot s t + slotCount s t ≤ slots
+pub own-bound : (s : SegmentTable) (t : TenantId) → t .0 < tenants → firstSlot s t .0 + slotCount s t ≤ slots
 unfolding firstSlot slotCount
 own-bound s t h = omega arith
 
@@ -110,7 +109,7 @@ owns-stays s t u x p = rw (first-stays s t u x, count-stays s t u x)
 -- the pages of a slot of a tenant's own are among its pages
 pub own-pages : (s : SegmentTable) (t : TenantId) (p : Slot) → owns s t p ≡ true → pagesAt s p ≤ pagesOf s t
 unfolding pagesOf
-own-pages s t p o = let k = own-parts s t p o in sum-term (λ p. pagesAt s (slot p)) (p .0) (firstSlot s t) (slotCount s t) (k .from) (k .to)
+own-pages s t p o = let k = own-parts s t p o in sum-term (λ p. pagesAt s (slot p)) (p .0) (firstSlot s t .0) (slotCount s t) (k .from) (k .to)
 
 -- a tenant's ceiling is among the ceilings
 pub ceiling-among : (s : SegmentTable) (t : TenantId) → t .0 < tenants → ceilingAt s t ≤ ceilingsOf s
@@ -120,52 +119,57 @@ ceiling-among s t h = sum-term (λ i. ceilingAt s (tenantId i)) (t .0) 0 tenants
 -- a slot that is found for an open is its tenant's own
 pub lowest-own : (s : SegmentTable) (t : TenantId) (p : Slot) → t .0 < tenants → lowestEmpty s t ≡ some p → owns s t p ≡ true
 unfolding lowestEmpty
-lowest-own s t p h e = go (firstFrom (emptyAt s) (firstSlot s t) (slotCount s t)) refl e
+lowest-own s t p h e = go (firstFrom (emptyAt s) (firstSlot s t .0) (slotCount s t)) refl e
   where
-    go : (o : Option ℕ) → firstFrom (emptyAt s) (firstSlot s t) (slotCount s t) ≡ o → asSlot o ≡ some p → owns s t p ≡ true
+    go : (o : Option ℕ) → firstFrom (emptyAt s) (firstSlot s t .0) (slotCount s t) ≡ o → asSlot o ≡ some p → owns s t p ≡ true
     go none f e = absurd (Option·none-ne-some p e)
     go (some k) f e =
         let q : slot k ≡ p = cc in
-        let r = first-least (emptyAt s) (firstSlot s t) (slotCount s t) k f in
+        let r = first-least (emptyAt s) (firstSlot s t .0) (slotCount s t) k f in
         ap (owns s t) (sym q) ∙ own-of s t (slot k) h (r .0 .above) (r .1)
 
 -- ---- a tenant's own slots, by the first and the count that the code has
 
-module _ (s : SegmentTable) (t : TenantId) (first count : ℕ) (f : first ≡ firstSlot s t) (n : count ≡ slotCount s t) where
+module _ (s : SegmentTable) (t : TenantId) (first : Slot) (count : ℕ) (f : first ≡ firstSlot s t) (n : count ≡ slotCount s t) where
+  number-is : first .0 ≡ firstSlot s t .0
+  number-is = ap (λ (p : Slot). p .0) f
+
   -- they are slots
-  pub bound-by : t .0 < tenants → first + count ≤ slots
-  bound-by h = let b = own-bound s t h in omega arith
+  pub bound-by : t .0 < tenants → first .0 + count ≤ slots
+  bound-by h = let b = own-bound s t h in let e = number-is in omega arith
 
-  pub pages-by : sumFrom (λ p. pagesAt s (slot p)) first count ≡ pagesOf s t
+  pub pages-by : sumFrom (λ p. pagesAt s (slot p)) (first .0) count ≡ pagesOf s t
   unfolding pagesOf
-  pages-by = ap₂ (sumFrom (λ p. pagesAt s (slot p))) f n
+  pages-by = ap₂ (sumFrom (λ p. pagesAt s (slot p))) number-is n
 
-  lowest-by : (x : Option ℕ) → firstFrom (emptyAt s) first count ≡ x → asSlot x ≡ lowestEmpty s t
+  lowest-by : (x : Option ℕ) → firstFrom (emptyAt s) (first .0) count ≡ x → asSlot x ≡ lowestEmpty s t
   unfolding lowestEmpty
-  lowest-by x e = ap asSlot (sym e ∙ ap₂ (firstFrom (emptyAt s)) f n)
+  lowest-by x e = ap asSlot (sym e ∙ ap₂ (firstFrom (emptyAt s)) number-is n)
 
   -- a search that has found none empty among the first i
-  pub lowest-found : (i : ℕ) → i < count → ((j : ℕ) → j < i → emptyAt s (first + j) ≡ false) → emptyAt s (first + i) ≡ true
-      → some (slot (first + i)) ≡ lowestEmpty s t
-  lowest-found i l h e = lowest-by (some (first + i)) (hit (emptyAt s) first count i l h e)
+  pub lowest-found : (i : ℕ) → i < count → ((j : ℕ) → j < i → emptyAt s (first .0 + j) ≡ false) → emptyAt s (first .0 + i) ≡ true
+      → some (slot (first .0 + i)) ≡ lowestEmpty s t
+  lowest-found i l h e = lowest-by (some (first .0 + i)) (hit (emptyAt s) (first .0) count i l h e)
 
-  pub lowest-none : (i : ℕ) → i ≡ count → ((j : ℕ) → j < i → emptyAt s (first + j) ≡ false) → none ≡ lowestEmpty s t
+  pub lowest-none : (i : ℕ) → i ≡ count → ((j : ℕ) → j < i → emptyAt s (first .0 + j) ≡ false) → none ≡ lowestEmpty s t
   unfolding firstFrom
   lowest-none i e h =
-      lowest-by none (ap (firstFrom (emptyAt s) first) (sym e ∙ sym (add-zero i)) ∙ pass (emptyAt s) first i 0 h)
+      lowest-by none (ap (firstFrom (emptyAt s) (first .0)) (sym e ∙ sym (add-zero i)) ∙ pass (emptyAt s) (first .0) i 0 h)
 
-  pub owns-inside : (p : Slot) → t .0 < tenants → (leb first (p .0) && ltb (p .0) (first + count)) ≡ owns s t p
+  pub owns-inside : (p : Slot) → t .0 < tenants → (leb (first .0) (p .0) && ltb (p .0) (first .0 + count)) ≡ owns s t p
   owns-inside p h =
-      same-truth (leb first (p .0) && ltb (p .0) (first + count)) (owns s t p)
+      same-truth (leb (first .0) (p .0) && ltb (p .0) (first .0 + count)) (owns s t p)
       (λ e.
-      let a = leb-true first (p .0) (first-true (leb first (p .0)) (ltb (p .0) (first + count)) e) in
-      let b = ltb-true (p .0) (first + count) (second-true (leb first (p .0)) (ltb (p .0) (first + count)) e) in
+      let k = number-is in
+      let a = leb-true (first .0) (p .0) (first-true (leb (first .0) (p .0)) (ltb (p .0) (first .0 + count)) e) in
+      let b = ltb-true (p .0) (first .0 + count) (second-true (leb (first .0) (p .0)) (ltb (p .0) (first .0 + count)) e) in
       own-of s t p h (omega arith) (omega arith))
       (λ e.
+      let k = number-is in
       let o = own-parts s t p e in
       let a = o .from in
       let b = o .to in
-      both (le-leb first (p .0) (omega arith)) (lt-ltb (p .0) (first + count) (omega arith)))
+      both (le-leb (first .0) (p .0) (omega arith)) (lt-ltb (p .0) (first .0 + count) (omega arith)))
 
 pub owns-outside : (s : SegmentTable) (t : TenantId) (p : Slot) → tenants ≤ t .0 → false ≡ owns s t p
 owns-outside s t p h = sym (not-so (owns s t p) (λ e. let o = own-parts s t p e .tenant in omega arith))

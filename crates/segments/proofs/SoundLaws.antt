@@ -1,11 +1,11 @@
--- Soundness part by part, and that every call keeps it.
+-- Soundness part by part, and that a segment put into a slot keeps it where the slot may hold it and its tenant's pages stay under the ceiling.
 use mathlib.Core.Bool.{Bool, true, false, cond, not, _&&_, _||_, and-false, and-true, true≢false}
-use mathlib.Core.Option.{none, some, Option·some-ne-none}
 use mathlib.Core.Path.{_≡_, refl, sym, ap, _∙_}
-use Prim.Native.Nat.{ℕ, _+_, _-_, _<_, _≤_}
+use Prim.Native.Nat.{ℕ, _+_, _<_, _≤_}
 use native.Mathlib.Omega.{arith}
-use borrow.Author.Tests.{le-leb, leb-true, ltb-true, ne-eqb}
-use lib.Dec.{leb, ltb}
+use borrow.Author.Tests.{eq-eqb, eqb-true, le-leb, leb-true, ltb-true, ne-eqb}
+use lib.Dec.{eqb, leb, ltb}
+use lib.ListN.{length}
 use Rattle.common.specs.Answer.{granted, require, testOf}
 use Rattle.common.specs.Index.{someBelow}
 use Rattle.label.specs.Label
@@ -21,12 +21,9 @@ use Rattle.range.specs.Tuple
 use Rattle.range.specs.declared.tuple.Tuple.{Tuple}
 use Rattle.range.proofs.TupleLaws.{contained-valid}
 use Rattle.segments.specs.Parts.{Owned, ceilingsKept, ownerOr, segmentSound, slotsSound, tenantsSound}
-use Rattle.segments.specs.Calls.{callOf, cleared, lookedAt, slotFor, slotValid, stepOf, writable, written}
-use Rattle.segments.specs.Segments.{Lengths, ceilingAt, clearanceAt, maxPages, pagesAt, pagesValid, segmentAt, segmentOf, slot, slots, tenantAt, tenantId, tenants, withSegment, zeroSegment}
+use Rattle.segments.specs.Segments.{ceilingAt, clearanceAt, pagesAt, pagesValid, segmentAt, slot, slots, tenantAt, tenantId, tenants, withSegment, zeroSegment}
 use Rattle.segments.specs.Slots.{ceilingsOf, filled, firstSlot, owns, pagesOf, slotCount}
-use Rattle.segments.specs.Sound.{admitted, clearedBy, slotSound, sound, tenantSound, underCeiling, zeros}
-use Rattle.segments.specs.declared.Action.{Action}
-use Rattle.segments.specs.declared.Action.the-variants.{Open, Size, Post, Look, Close}
+use Rattle.segments.specs.Sound.{admitted, clearedBy, slotSound, sound, tenantSound, underCeiling, wellSized, zeros}
 use Rattle.segments.specs.declared.Segment.{Segment}
 use Rattle.segments.specs.declared.SegmentTable.{SegmentTable}
 use Rattle.segments.specs.declared.Slot.{Slot}
@@ -34,13 +31,13 @@ use Rattle.segments.specs.declared.Tenant.{Tenant}
 use Rattle.segments.specs.declared.TenantId.{TenantId}
 use Rattle.segments.specs.declared.slots.Owner.{Owner}
 use Rattle.segments.specs.declared.slots.Owner.the-variants.{Tenant as ByTenant, Nobody}
-use Rattle.segments.proofs.CallsLaws.{Effect, Passed, effect, look-next, looking, next-refused, refusing, valid-numbers, valid-tenant, writable-at, writable-own, writing}
-use Rattle.segments.proofs.SegmentsLaws.{segment-kept, segment-written}
-use Rattle.segments.proofs.SlotsLaws.{by-slot, by-tenant, lowest-own, count-kept, first-kept, own-of, own-pages, own-parts, own-slot, owner-unique, owns-kept, same-slot}
+use Rattle.segments.proofs.SegmentsLaws.{Lengths, lengths-kept, segment-kept, segment-written}
+use Rattle.segments.proofs.SlotsLaws.{by-slot, by-tenant, count-kept, first-kept, own-of, own-parts, own-slot, owner-unique, owns-kept, same-slot}
 
 -- ---- the parts
 
 pub record Sound (s : SegmentTable) : Type 0 where
+  pub lengths : Lengths s
   pub pool : pagesValid (s .pool) ≡ true
   pub tenant : (t : TenantId) → t .0 < tenants → tenantSound (tenantAt s t) ≡ true
   pub segment : (p : Slot) → p .0 < slots → slotSound s p ≡ true
@@ -50,26 +47,32 @@ pub record Sound (s : SegmentTable) : Type 0 where
 pub sound-parts : (s : SegmentTable) → sound s ≡ true → Sound s
 unfolding sound underCeiling
 sound-parts s e =
+    let w : Bool = wellSized s in
     let a : Bool = pagesValid (s .pool) in
     let b : Bool = tenantsSound s in
     let c : Bool = slotsSound s in
     let d : Bool = leb (ceilingsOf s) (s .pool) in
     let f : Bool = ceilingsKept s in
-    let h = first-true (((a && b) && c) && d) f e in
-    let g = first-true ((a && b) && c) d h in
-    let i = three-true a b c g in
+    let h = first-true ((((w && a) && b) && c) && d) f e in
+    let g = first-true (((w && a) && b) && c) d h in
+    let i = three-true (w && a) b c g in
+    let z = first-true w a (i .0) in
     record {
-      pool = i .0;
+      lengths = record {
+        tenants-are = eqb-true _ _ (first-true (eqb (length (s .tenants)) tenants) (eqb (length (s .segments)) slots) z);
+        segments-are = eqb-true _ _ (second-true (eqb (length (s .tenants)) tenants) (eqb (length (s .segments)) slots) z);
+      };
+      pool = second-true w a (i .0);
       tenant = λ t l. every-at (λ t. tenantSound (tenantAt s (tenantId t))) tenants (t .0) (i .1) l;
       segment = λ p l. every-at (λ p. slotSound s (slot p)) slots (p .0) (i .2) l;
-      ceilings = leb-true _ _ (second-true ((a && b) && c) d h);
-      pages = λ t l. leb-true _ _ (every-at (λ t. underCeiling s (tenantId t)) tenants (t .0) (second-true (((a && b) && c) && d) f e) l);
+      ceilings = leb-true _ _ (second-true (((w && a) && b) && c) d h);
+      pages = λ t l. leb-true _ _ (every-at (λ t. underCeiling s (tenantId t)) tenants (t .0) (second-true ((((w && a) && b) && c) && d) f e) l);
     }
 
 pub parts-sound : (s : SegmentTable) → Sound s → sound s ≡ true
 unfolding sound underCeiling
 parts-sound s h =
-    both (both (both (both (h .pool)
+    both (both (both (both (both (both (eq-eqb _ _ (h .lengths .tenants-are)) (eq-eqb _ _ (h .lengths .segments-are))) (h .pool))
     (every-all (λ t. tenantSound (tenantAt s (tenantId t))) tenants (λ t l. h .tenant (tenantId t) l)))
     (every-all (λ p. slotSound s (slot p)) slots (λ p l. h .segment (slot p) l)))
     (le-leb _ _ (h .ceilings)))
@@ -171,7 +174,7 @@ pub owner-within : (s : SegmentTable) (p : Slot) (o : Owner) (n : ℕ) → Owned
 owner-within s p (ByTenant t) n h l = h .0
 owner-within s p Nobody n h l = l
 
-held-filled : (s : SegmentTable) (p : Slot) (x : Segment) (u : TenantId) → 1 ≤ x .pages → owns s u p ≡ true → Tuple.containsOf (clearanceAt s u) (x .label) ≡ true → held s p x ≡ true
+pub held-filled : (s : SegmentTable) (p : Slot) (x : Segment) (u : TenantId) → 1 ≤ x .pages → owns s u p ≡ true → Tuple.containsOf (clearanceAt s u) (x .label) ≡ true → held s p x ≡ true
 held-filled s p x u h o e = rw (le-leb 1 (x .pages) h) (owner-clears s p (x .label) u o ∙ e)
 
 -- where a filled slot may hold x, some tenant clears it
@@ -179,14 +182,14 @@ held-by : (s : SegmentTable) (p : Slot) (x : Segment) → 1 ≤ x .pages → hel
 held-by s p x h e = sym (ap (λ (b : Bool). cond b (someBelow (clears s p (x .label)) tenants) (zeros x)) (le-leb 1 (x .pages) h)) ∙ e
 
 -- which is its owner
-held-cleared : (s : SegmentTable) (p : Slot) (x : Segment) (t : TenantId) → 1 ≤ x .pages → owns s t p ≡ true → held s p x ≡ true → Tuple.containsOf (clearanceAt s t) (x .label) ≡ true
+pub held-cleared : (s : SegmentTable) (p : Slot) (x : Segment) (t : TenantId) → 1 ≤ x .pages → owns s t p ≡ true → held s p x ≡ true → Tuple.containsOf (clearanceAt s t) (x .label) ≡ true
 held-cleared s p x t h o e = sym (owner-clears s p (x .label) t o) ∙ held-by s p x h e
 
 pub zeros-held : (s : SegmentTable) (p : Slot) → held s p zeroSegment ≡ true
 unfolding zeros
 zeros-held s p = rw (equal-exact Label.zeroLabel Label.zeroLabel refl .1 refl)
 
-filled-pages : (s : SegmentTable) (p : Slot) → filled s p ≡ true → 1 ≤ pagesAt s p
+pub filled-pages : (s : SegmentTable) (p : Slot) → filled s p ≡ true → 1 ≤ pagesAt s p
 unfolding filled
 filled-pages s p e = leb-true 1 (pagesAt s p) e
 
@@ -200,7 +203,7 @@ filled-valid s p h l e =
 
 -- ---- a segment put into a slot of its tenant's own
 
-module _ (s : SegmentTable) (t : TenantId) (q : Slot) (x : Segment) (lengths : Lengths s) (own : owns s t q ≡ true) where
+module _ (s : SegmentTable) (t : TenantId) (q : Slot) (x : Segment) (h : Sound s) (own : owns s t q ≡ true) where
   abbrev next : SegmentTable
   next = withSegment s q x
 
@@ -211,30 +214,31 @@ module _ (s : SegmentTable) (t : TenantId) (q : Slot) (x : Segment) (lengths : L
       (λ u l. ap (λ (b : Bool). b && Tuple.containsOf (clearanceAt s (tenantId u)) (y .label)) (owns-kept next s (tenantId u) p refl)))
 
   here : segmentAt next q ≡ x
-  here = segment-written s q x lengths (own-slot s t q own)
+  here = segment-written s q x (h .lengths) (own-slot s t q own)
 
   -- its tenant has the new pages in place of the old ones
   pages-written : pagesOf next t + pagesAt s q ≡ pagesOf s t + x .pages
   unfolding pagesOf
   pages-written =
       let o = own-parts s t q own in
-      let r = sum-but (λ p. pagesAt s (slot p)) (λ p. pagesAt next (slot p)) (q .0) (firstSlot s t) (slotCount s t)
-      (λ j h. ap (λ (y : Segment). y .pages) (segment-kept s q (slot j) x h)) (o .from) (o .to) in
+      let r = sum-but (λ p. pagesAt s (slot p)) (λ p. pagesAt next (slot p)) (q .0) (firstSlot s t .0) (slotCount s t)
+      (λ j n. ap (λ (y : Segment). y .pages) (segment-kept s q (slot j) x n)) (o .from) (o .to) in
       rw (first-kept next s t refl, count-kept next s t refl) (r ∙ ap (λ (y : Segment). pagesOf s t + y .pages) here)
 
   -- all others have what they had
   pages-others : (u : TenantId) → u .0 < tenants → (u .0 ≡ t .0 → ⊥) → pagesOf next u ≡ pagesOf s u
   unfolding pagesOf
-  pages-others u l h =
+  pages-others u l n =
       rw (first-kept next s u refl, count-kept next s u refl)
-      (sum-same (λ p. pagesAt next (slot p)) (λ p. pagesAt s (slot p)) (firstSlot s u) (slotCount s u)
+      (sum-same (λ p. pagesAt next (slot p)) (λ p. pagesAt s (slot p)) (firstSlot s u .0) (slotCount s u)
       (λ j a b. ap (λ (y : Segment). y .pages) (segment-kept s q (slot j) x
-      (λ i. h (ap (λ (v : TenantId). v .0) (owner-unique s u t q (ap (owns s u) (same-slot q (slot j) (sym i)) ∙ own-of s u (slot j) l a b) own))))))
+      (λ i. n (ap (λ (v : TenantId). v .0) (owner-unique s u t q (ap (owns s u) (same-slot q (slot j) (sym i)) ∙ own-of s u (slot j) l a b) own))))))
 
-  written-sound : Sound s → held s q x ≡ true → pagesOf s t + x .pages ≤ ceilingAt s t + pagesAt s q → Sound next
+  pub written-sound : held s q x ≡ true → pagesOf s t + x .pages ≤ ceilingAt s t + pagesAt s q → Sound next
   unfolding ceilingsOf
-  written-sound h e f =
+  written-sound e f =
       record {
+        lengths = lengths-kept s q x (h .lengths);
         pool = h .pool;
         tenant = h .tenant;
         segment = λ p l.
@@ -246,67 +250,3 @@ module _ (s : SegmentTable) (t : TenantId) (q : Slot) (x : Segment) (lengths : L
             by-tenant (λ (u : TenantId). u .0 < tenants → pagesOf next u ≤ ceilingAt s u) t u (λ l. let k = pages-written in omega arith)
             (λ u i l. rw (pages-others u l i) (h .pages u l)) l;
       }
-
--- ---- a tenant call
-
-cleared-label : (s : SegmentTable) (t : TenantId) (l : Label) (a : Action) → cleared s (callOf t l a) ≡ true → Tuple.containsOf (clearanceAt s t) l ≡ true
-unfolding cleared
-cleared-label s t l a e = e
-
-valid-pages : (n : ℕ) → pagesValid n ≡ true → 1 ≤ n
-valid-pages n e = leb-true 1 n (first-true (leb 1 n) (leb n maxPages) e)
-
--- what a granted call writes may be held by its slot
-module _ (s : SegmentTable) (t : TenantId) (l : Label) (h : Sound s) where
-  -- a slot that is its caller's own and filled holds a label in its caller's clearance
-  own-cleared : (p : Slot) → writable s t l p ≡ true → Tuple.containsOf (clearanceAt s t) (segmentAt s p .label) ≡ true
-  own-cleared p e =
-      let w = writable-own s t l p e in
-      held-cleared s p (segmentAt s p) t (filled-pages s p (w .1)) (w .0) (sym (slot-held s p) ∙ h .segment p (own-slot s t p (w .0)))
-
-  -- a segment of at least a page under a label of the caller's clearance
-  own-held : (p : Slot) (x : Segment) → owns s t p ≡ true → 1 ≤ x .pages → Tuple.containsOf (clearanceAt s t) (x .label) ≡ true → held s p x ≡ true
-  own-held p x o g e = held-filled s p x t g o e
-
-  -- or of the label that the slot had
-  label-kept : (p : Slot) (pages version : ℕ) → writable s t l p ≡ true → 1 ≤ pages → held s p (segmentOf (segmentAt s p .label) pages version) ≡ true
-  label-kept p pages version w g = own-held p (segmentOf (segmentAt s p .label) pages version) (writable-own s t l p w .0) g (own-cleared p w)
-
-  written-held : (a : Action) (p : Slot) → Passed s t l a → lookedAt a ≡ none → slotFor s t a ≡ some p → held s p (written (segmentAt s p) l a) ≡ true
-  written-held (Open x) p r n f =
-      own-held p (segmentOf l (x .pages) 0) (lowest-own s t p (valid-tenant s t l (Open x) (r .is-valid)) f)
-      (valid-pages (x .pages) (valid-numbers s t l (Open x) (r .is-valid))) (cleared-label s t l (Open x) (r .is-cleared))
-  written-held (Size x) p r n f =
-      label-kept p (x .pages) (segmentAt s p .version) (writable-at s t l (x .slot) p f (r .is-permitted))
-      (valid-pages (x .pages) (second-true (slotValid (x .slot)) (pagesValid (x .pages)) (valid-numbers s t l (Size x) (r .is-valid))))
-  written-held (Post x) p r n f =
-      let w = writable-at s t l (x .slot) p f (r .is-permitted) in
-      label-kept p (segmentAt s p .pages) (x .version) w (filled-pages s p (writable-own s t l p w .1))
-  written-held (Look x) p r n f = absurd (Option·some-ne-none (x .slot) n)
-  written-held (Close x) p r n f = zeros-held s p
-
-  -- and its caller's pages stay under the ceiling
-  written-fits : (a : Action) (p : Slot) → Passed s t l a → slotFor s t a ≡ some p → owns s t p ≡ true
-      → pagesOf s t + written (segmentAt s p) l a .pages ≤ ceilingAt s t + pagesAt s p
-  written-fits (Open x) p r f o = let e = leb-true (pagesOf s t + x .pages) (ceilingAt s t) (r .fits) in omega arith
-  written-fits (Size x) p r f o =
-      let q : x .slot ≡ p = cc in
-      let e = leb-true (pagesOf s t - pagesAt s (x .slot) + x .pages) (ceilingAt s t) (r .fits) in
-      let g : pagesAt s (x .slot) ≡ pagesAt s p = ap (pagesAt s) q in
-      let k = own-pages s t p o in
-      omega arith
-  written-fits (Post x) p r f o = let k = h .pages t (own-parts s t p o .tenant) in omega arith
-  written-fits (Look x) p r f o = let k = h .pages t (own-parts s t p o .tenant) in omega arith
-  written-fits (Close x) p r f o = let k = h .pages t (own-parts s t p o .tenant) in omega arith
-
--- every tenant call keeps soundness
-pub call-sound : (s : SegmentTable) (t : TenantId) (l : Label) (a : Action) → Lengths s → sound s ≡ true → sound (stepOf s (callOf t l a) .table) ≡ true
-call-sound s t l a n h = by (effect s t l a)
-  where
-    by : Effect s t l a → sound (stepOf s (callOf t l a) .table) ≡ true
-    by (looking p e) = ap sound (look-next s t l a p e) ∙ h
-    by (refusing k detail m e) = ap sound (next-refused s (callOf t l a) k detail e) ∙ h
-    by (writing g m e r o f) =
-        let z = sound-parts s h in
-        ap sound f
-        ∙ parts-sound _ (written-sound s t (r .slot) (written (segmentAt s (r .slot)) l a) n o z (written-held s t l z a (r .slot) r m (r .slot-is)) (written-fits s t l z a (r .slot) r (r .slot-is) o))

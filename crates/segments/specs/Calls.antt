@@ -8,7 +8,7 @@ use Rattle.common.specs.Answer.{Answer, granted, refused, require}
 use Rattle.label.specs.Label
 use Rattle.label.specs.declared.Label.{Label}
 use Rattle.range.specs.Tuple
-use Rattle.segments.specs.Replies.{Answers, Grant, Step, done, leaving, opened, shown}
+use Rattle.segments.specs.Replies.{Answers, Grant, Step, done, opened, shown}
 use Rattle.segments.specs.Segments.{ceilingAt, clearanceAt, pagesAt, pagesValid, segmentAt, segmentOf, slot, slots, withSegment, zeroSegment}
 use Rattle.segments.specs.Slots.{filled, lowestEmpty, owns, pagesOf}
 use Rattle.segments.specs.Sound.{admitted, sound}
@@ -40,26 +40,11 @@ lookCall t l p = callOf t l (Look (record { slot = p }))
 abbrev pub closeCall : TenantId → Label → Slot → Call
 closeCall t l p = callOf t l (Close (record { slot = p }))
 
--- ---- the checks
+-- ---- the checks that look at a slot
 
--- 22: pages 0 or above 1,048,576, slot above 63
+-- 22: slot above 63
 abbrev pub slotValid : Slot → Bool
 slotValid p = ltb (p .0) slots
-
-abbrev pub numbersValid : Action → Bool
-numbersValid (Open x) = pagesValid (x .pages)
-numbersValid (Size x) = slotValid (x .slot) && pagesValid (x .pages)
-numbersValid (Post x) = slotValid (x .slot)
-numbersValid (Look x) = slotValid (x .slot)
-numbersValid (Close x) = slotValid (x .slot)
-
--- 22: tenant not admitted, invalid label, numbers out of bounds
-unfoldable pub callValid : SegmentTable → Call → Bool
-callValid s c = admitted s (c .tenant) && Label.validOf (c .label) && numbersValid (c .action)
-
--- 1: label outside the tenant's clearance
-unfoldable pub cleared : SegmentTable → Call → Bool
-cleared s c = Tuple.containsOf (clearanceAt s (c .tenant)) (c .label)
 
 -- 13: slot not its own, empty, or label not equal
 unfoldable pub writable : SegmentTable → TenantId → Label → Slot → Bool
@@ -69,95 +54,141 @@ writable s t l p = owns s t p && filled s p && Label.equalOf l (segmentAt s p .l
 unfoldable pub visible : SegmentTable → Label → Slot → Bool
 visible s l p = filled s p && Label.dominatesOf l (segmentAt s p .label)
 
-abbrev pub permitted : SegmentTable → TenantId → Label → Action → Bool
-permitted s t l (Open x) = true
-permitted s t l (Size x) = writable s t l (x .slot)
-permitted s t l (Post x) = writable s t l (x .slot)
-permitted s t l (Look x) = visible s l (x .slot)
-permitted s t l (Close x) = writable s t l (x .slot)
+-- ---- the table
 
--- the slot that a call is about: for an open, the lowest empty one of its tenant's own
-abbrev pub slotFor : SegmentTable → TenantId → Action → Option Slot
-slotFor s t (Open x) = lowestEmpty s t
-slotFor s t (Size x) = some (x .slot)
-slotFor s t (Post x) = some (x .slot)
-slotFor s t (Look x) = some (x .slot)
-slotFor s t (Close x) = some (x .slot)
+-- what one call is: a row of document 01's table, with what the checks ask of it
+pub record CallRow : Type 0 where
+  -- 22: whether pages are 1 to 1,048,576, the slot at most 63
+  pub numbersValid : Bool
+  -- the slot that the call names; an open names none
+  pub named : Option Slot
+  -- 13: what the subject needs of that slot
+  pub permitted : SegmentTable → TenantId → Label → Bool
+  -- 12: whether its pages would then be at most the ceiling
+  pub pagesFit : SegmentTable → TenantId → Bool
+  -- what the slot holds after the call, of what it held and the subject's label
+  pub written : Segment → Label → Segment
+  -- what a grant answers, of the slot and what it held
+  pub answered : Slot → Segment → Grant
+  -- the slot that is looked at
+  pub lookedAt : Option Slot
 
--- 12: its pages would then be over the ceiling
-abbrev pub pagesFit : SegmentTable → TenantId → Action → Bool
-pagesFit s t (Open x) = leb (pagesOf s t + x .pages) (ceilingAt s t)
-pagesFit s t (Size x) = leb (pagesOf s t - pagesAt s (x .slot) + x .pages) (ceilingAt s t)
-pagesFit s t (Post x) = true
-pagesFit s t (Look x) = true
-pagesFit s t (Close x) = true
-
--- ---- the grants
-
--- what a slot holds after a call about it that found x there
-abbrev pub written : Segment → Label → Action → Segment
-written x l (Open y) = segmentOf l (y .pages) 0
-written x l (Size y) = segmentOf (x .label) (y .pages) (x .version)
-written x l (Post y) = segmentOf (x .label) (x .pages) (y .version)
-written x l (Look y) = x
-written x l (Close y) = zeroSegment
-
--- what a call about slot p that found x there answers
-abbrev pub grantOf : Slot → Segment → Action → Grant
-grantOf p x (Open y) = opened p
-grantOf p x (Size y) = done
-grantOf p x (Post y) = done
-grantOf p x (Look y) = shown x
-grantOf p x (Close y) = done
+abbrev pub callRow : Action → CallRow
+callRow (Open x) =
+    record {
+      numbersValid = pagesValid (x .pages);
+      named = none;
+      permitted = λ s t l. true;
+      pagesFit = λ s t. leb (pagesOf s t + x .pages) (ceilingAt s t);
+      written = λ held l. segmentOf l (x .pages) 0;
+      answered = λ p held. opened p;
+      lookedAt = none;
+    }
+callRow (Size x) =
+    record {
+      numbersValid = slotValid (x .slot) && pagesValid (x .pages);
+      named = some (x .slot);
+      permitted = λ s t l. writable s t l (x .slot);
+      pagesFit = λ s t. leb (pagesOf s t - pagesAt s (x .slot) + x .pages) (ceilingAt s t);
+      written = λ held l. segmentOf (held .label) (x .pages) (held .version);
+      answered = λ p held. done;
+      lookedAt = none;
+    }
+callRow (Post x) =
+    record {
+      numbersValid = slotValid (x .slot);
+      named = some (x .slot);
+      permitted = λ s t l. writable s t l (x .slot);
+      pagesFit = λ s t. true;
+      written = λ held l. segmentOf (held .label) (held .pages) (x .version);
+      answered = λ p held. done;
+      lookedAt = none;
+    }
+callRow (Look x) =
+    record {
+      numbersValid = slotValid (x .slot);
+      named = some (x .slot);
+      permitted = λ s t l. visible s l (x .slot);
+      pagesFit = λ s t. true;
+      written = λ held l. held;
+      answered = λ p held. shown held;
+      lookedAt = some (x .slot);
+    }
+callRow (Close x) =
+    record {
+      numbersValid = slotValid (x .slot);
+      named = some (x .slot);
+      permitted = λ s t l. writable s t l (x .slot);
+      pagesFit = λ s t. true;
+      written = λ held l. zeroSegment;
+      answered = λ p held. done;
+      lookedAt = none;
+    }
 
 -- ---- the calls
 
--- the slot that a look names
-abbrev pub lookedAt : Action → Option Slot
-lookedAt (Open x) = none
-lookedAt (Size x) = none
-lookedAt (Post x) = none
-lookedAt (Look x) = some (x .slot)
-lookedAt (Close x) = none
+-- 22: tenant not admitted, invalid label, numbers out of bounds
+unfoldable pub callValid : SegmentTable → Call → Bool
+callValid s c = admitted s (c .tenant) && Label.validOf (c .label) && callRow (c .action) .numbersValid
 
-abbrev pub found : Option Slot → Bool
-found none = false
-found (some p) = true
+-- 1: label outside the tenant's clearance
+unfoldable pub cleared : SegmentTable → Call → Bool
+cleared s c = Tuple.containsOf (clearanceAt s (c .tenant)) (c .label)
 
-abbrev pub slotOr0 : Option Slot → Slot
-slotOr0 none = slot 0
-slotOr0 (some p) = p
+-- the slot that a call is about: the one that it names, else the lowest empty one of its tenant's own
+abbrev pub slotFor : SegmentTable → TenantId → Option Slot → Option Slot
+slotFor s t none = lowestEmpty s t
+slotFor s t (some p) = some p
 
-abbrev pub target : SegmentTable → Call → Slot
-target s c = slotOr0 (slotFor s (c .tenant) (c .action))
+-- what a grant does: the slot that it is about gets the segment; and what it answers
+pub record CallEffect : Type 0 where
+  pub slot : Slot
+  pub segment : Segment
+  pub grant : Grant
+
+abbrev pub effectOn : Slot → Segment → Label → Action → CallEffect
+effectOn p held l a = record { slot = p; segment = callRow a .written held l; grant = callRow a .answered p held }
+
+-- a check that there is a slot: what follows of the slot, else the refusal n
+abbrev pub requireSlot : {A : Type 0} → Option Slot → ℕ → (Slot → Answer A) → Answer A
+requireSlot none n rest = refused n none
+requireSlot (some p) n rest = rest p
 
 -- the checks that look into slots, and the grant
-unfoldable pub accessOf : SegmentTable → Call → Answer Grant
+unfoldable pub accessOf : SegmentTable → Call → Answer CallEffect
 accessOf s c =
-    require (permitted s (c .tenant) (c .label) (c .action)) 13
-    (require (found (slotFor s (c .tenant) (c .action))) 28
-    (require (pagesFit s (c .tenant) (c .action)) 12
-    (granted (grantOf (target s c) (segmentAt s (target s c)) (c .action)))))
+    require (callRow (c .action) .permitted s (c .tenant) (c .label)) 13
+    (requireSlot (slotFor s (c .tenant) (callRow (c .action) .named)) 28
+    (λ p. require (callRow (c .action) .pagesFit s (c .tenant)) 12
+    (granted (effectOn p (segmentAt s p) (c .label) (c .action)))))
 
 -- the checks, in document 01's order
-unfoldable pub answerOf : SegmentTable → Call → Answer Grant
-answerOf s c = require (sound s) 22 (require (callValid s c) 22 (require (cleared s c) 1 (accessOf s c)))
+unfoldable pub decisionOn : SegmentTable → Call → Answer CallEffect
+decisionOn s c = require (sound s) 22 (require (callValid s c) 22 (require (cleared s c) 1 (accessOf s c)))
 
--- a granted call changes the slot that it is about and nothing else
+abbrev pub answeredBy : Answer CallEffect → Answer Grant
+answeredBy (granted e) = granted (e .grant)
+answeredBy (refused n detail) = refused n detail
+
+-- a granted call changes the slot that it is about and nothing else; a refused one changes nothing
+abbrev pub tableBy : SegmentTable → Answer CallEffect → SegmentTable
+tableBy s (granted e) = withSegment s (e .slot) (e .segment)
+tableBy s (refused n detail) = s
+
 unfoldable pub stepOf : SegmentTable → Call → Step
-stepOf s c = leaving s (withSegment s (target s c) (written (segmentAt s (target s c)) (c .label) (c .action))) (answerOf s c)
+stepOf s c = record { table = tableBy s (decisionOn s c); answer = answeredBy (decisionOn s c) }
 
 -- what a change has beside an answer: the slot that a grant writes and what it gets; zeros beside a refusal
-abbrev pub changedSlot : Answer Grant → Slot → Slot
-changedSlot (granted g) p = p
-changedSlot (refused n detail) p = slot 0
+abbrev pub changedSlot : Answer CallEffect → Slot
+changedSlot (granted e) = e .slot
+changedSlot (refused n detail) = slot 0
 
-abbrev pub changedSegment : Answer Grant → Segment → Segment
-changedSegment (granted g) x = x
-changedSegment (refused n detail) x = zeroSegment
+abbrev pub changedSegment : Answer CallEffect → Segment
+changedSegment (granted e) = e .segment
+changedSegment (refused n detail) = zeroSegment
 
 -- the code's change is what the call does, whole
 pub record Decides (s : SegmentTable) (c : Call) (x : Change) : Type 0 where
-  pub slot : x .slot ≡ changedSlot (answerOf s c) (target s c)
-  pub segment : x .segment ≡ changedSegment (answerOf s c) (written (segmentAt s (target s c)) (c .label) (c .action))
-  pub answer : Answers (x .answer) (answerOf s c)
+  pub slot : x .slot ≡ changedSlot (decisionOn s c)
+  pub segment : x .segment ≡ changedSegment (decisionOn s c)
+  pub answer : Answers (x .answer) (answeredBy (decisionOn s c))

@@ -11,13 +11,11 @@ use Rattle.label.specs.Label
 use Rattle.label.specs.declared.Label.{Label}
 use Rattle.range.specs.Tuple
 use Rattle.range.specs.declared.tuple.RegionRange.{RegionRange}
-use Rattle.segments.specs.Calls.{callValid, cleared}
+use Rattle.segments.specs.Calls.{callRow, callValid, cleared, slotValid}
 use Rattle.segments.specs.Replies.{Grant, done, unlabeledAnswer}
-use Rattle.segments.specs.Segments.{ceilingAt, segmentAt, slot, slots, tenantAt, tenantId, tenants}
+use Rattle.segments.specs.Segments.{ceilingAt, segmentAt, slot, slots, tenantAt, tenantId, tenants, zeroSegment}
 use Rattle.segments.specs.Slots.{ceilingsOf, owns}
 use Rattle.segments.specs.Sound.{slotSound, sound, tenantSound, underCeiling, zeros}
-use Rattle.segments.specs.declared.Action.{Action}
-use Rattle.segments.specs.declared.Action.the-variants.{Open, Size, Post, Look, Close}
 use Rattle.segments.specs.declared.Call.{Call}
 use Rattle.segments.specs.declared.CallOutcome.{CallOutcome}
 use Rattle.segments.specs.declared.Reply.{Reply}
@@ -96,20 +94,21 @@ ceilingsKept s = every (λ t. underCeiling s (tenantId t)) tenants
 
 -- ---- what the state has for a call
 
--- the slot that an action names; an open names none, and has the first here
-abbrev pub namedSlot : Action → Slot
-namedSlot (Open x) = slot 0
-namedSlot (Size x) = x .slot
-namedSlot (Post x) = x .slot
-namedSlot (Look x) = x .slot
-namedSlot (Close x) = x .slot
+-- whether the slot that a call names is one of the state's
+abbrev pub namedValid : Option Slot → Bool
+namedValid none = true
+namedValid (some p) = slotValid p
+
+-- what is in the slot that a call names; zeros where it names none
+abbrev pub namedSegment : SegmentTable → Option Slot → Segment
+namedSegment s none = zeroSegment
+namedSegment s (some p) = segmentAt s p
 
 -- v has the record of the call's tenant and the segment in that slot
 pub record Viewed (s : SegmentTable) (c : Call) (v : View) : Type 0 where
   pub tenant-in : c .tenant .0 < tenants
-  pub slot-in : namedSlot (c .action) .0 < slots
   pub tenant : v .tenant ≡ tenantAt s (c .tenant)
-  pub segment : v .segment ≡ segmentAt s (namedSlot (c .action))
+  pub segment : v .segment ≡ namedSegment s (callRow (c .action) .named)
 
 -- ---- the checks that every call starts with
 

@@ -2,10 +2,9 @@
 -- place, a version its edition.
 use mathlib.Core.Bool.{Bool, _&&_}
 use mathlib.Core.List.{List, []}
-use mathlib.Core.Path.{_≡_}
 use Prim.Native.Nat.{ℕ}
 use lib.Dec.{leb}
-use lib.ListN.{getD, length, replicate, set}
+use lib.ListN.{getD, replicate, set}
 use Rattle.label.specs.Label
 use Rattle.label.specs.declared.Label.{Label}
 use Rattle.range.specs.Tuple
@@ -86,8 +85,3 @@ withTenant s t x = tableOf (s .pool) (set (s .tenants) (t .0) x) (s .segments)
 
 abbrev pub withSegment : SegmentTable → Slot → Segment → SegmentTable
 withSegment s p x = tableOf (s .pool) (s .tenants) (set (s .segments) (p .0) x)
-
--- what every value of the code's type SegmentTable has (`segments::lengths` proves it)
-pub record Lengths (s : SegmentTable) : Type 0 where
-  pub tenants-are : length (s .tenants) ≡ tenants
-  pub segments-are : length (s .segments) ≡ slots

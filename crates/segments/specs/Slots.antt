@@ -10,15 +10,15 @@ use Rattle.segments.specs.declared.Slot.{Slot}
 use Rattle.segments.specs.declared.TenantId.{TenantId}
 
 -- tenant t owns slots 8t to 8t+7: the first, and how many. Nothing else knows this.
-unfoldable pub firstSlot : SegmentTable → TenantId → ℕ
-firstSlot s t = 8 * (t .0)
+unfoldable pub firstSlot : SegmentTable → TenantId → Slot
+firstSlot s t = slot (8 * (t .0))
 
 unfoldable pub slotCount : SegmentTable → TenantId → ℕ
 slotCount s t = 8
 
 -- whether slot p is tenant t's own
 unfoldable pub owns : SegmentTable → TenantId → Slot → Bool
-owns s t p = ltb (t .0) tenants && leb (firstSlot s t) (p .0) && ltb (p .0) (firstSlot s t + slotCount s t)
+owns s t p = ltb (t .0) tenants && leb (firstSlot s t .0) (p .0) && ltb (p .0) (firstSlot s t .0 + slotCount s t)
 
 -- a filled slot has at least 1 page
 unfoldable pub filled : SegmentTable → Slot → Bool
@@ -33,11 +33,11 @@ asSlot (some p) = some (slot p)
 
 -- the lowest empty slot of t's own, if there is one
 unfoldable pub lowestEmpty : SegmentTable → TenantId → Option Slot
-lowestEmpty s t = asSlot (firstFrom (emptyAt s) (firstSlot s t) (slotCount s t))
+lowestEmpty s t = asSlot (firstFrom (emptyAt s) (firstSlot s t .0) (slotCount s t))
 
 -- a tenant's open pages: the sum of the pages at its slots
 unfoldable pub pagesOf : SegmentTable → TenantId → ℕ
-pagesOf s t = sumFrom (λ p. pagesAt s (slot p)) (firstSlot s t) (slotCount s t)
+pagesOf s t = sumFrom (λ p. pagesAt s (slot p)) (firstSlot s t .0) (slotCount s t)
 
 -- the sum of the ceilings
 unfoldable pub ceilingsOf : SegmentTable → ℕ

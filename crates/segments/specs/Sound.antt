@@ -1,6 +1,7 @@
 -- Document 01, "The board": when a state is sound.
 use mathlib.Core.Bool.{Bool, cond, not, _&&_}
 use lib.Dec.{eqb, leb, ltb}
+use lib.ListN.{length}
 use Rattle.common.specs.Index.{someBelow, every}
 use Rattle.label.specs.Label
 use Rattle.range.specs.Tuple
@@ -36,9 +37,14 @@ slotSound s p = cond (filled s p) (someBelow (λ t. clearedBy s p (tenantId t)) 
 unfoldable pub underCeiling : SegmentTable → TenantId → Bool
 underCeiling s t = leb (pagesOf s t) (ceilingAt s t)
 
+-- a record for each tenant and a segment for each slot, as every state has that a program can hold
+abbrev pub wellSized : SegmentTable → Bool
+wellSized s = eqb (length (s .tenants)) tenants && eqb (length (s .segments)) slots
+
 unfoldable pub sound : SegmentTable → Bool
 sound s =
-    pagesValid (s .pool)
+    wellSized s
+    && pagesValid (s .pool)
     && every (λ t. tenantSound (tenantAt s (tenantId t))) tenants
     && every (λ p. slotSound s (slot p)) slots
     && leb (ceilingsOf s) (s .pool)

@@ -35,8 +35,8 @@ ghost use Rattle.common.specs.Answer as answers;
 ghost use Rattle.common.specs.Answer.{outcomeOf};
 ghost use Rattle.label.specs.Label as labels;
 ghost use Rattle.segments.specs.Calls as rules;
-ghost use Rattle.segments.specs.Calls.{Decides, callOf, closeCall, lookCall, numbersValid, openCall, postCall, sizeCall, slotValid, stepOf};
-ghost use Rattle.segments.specs.Parts.{Started, Viewed, fitsIn, freeOf, leftOf, namedSlot, startOf};
+ghost use Rattle.segments.specs.Calls.{Decides, callOf, callRow, closeCall, lookCall, openCall, postCall, sizeCall, slotFor, slotValid, stepOf};
+ghost use Rattle.segments.specs.Parts.{Started, Viewed, fitsIn, freeOf, leftOf, namedSegment, namedValid, startOf};
 ghost use Rattle.segments.specs.Replies.{Answers, Results, applied, done, refusedWith};
 ghost use Rattle.segments.specs.Segments.{segmentAt, slots, tenantAt, tenants};
 ghost use Rattle.segments.specs.Slots.{pagesOf};
@@ -59,7 +59,7 @@ fn slot_valid(slot: Slot) -> bool
 
 // Whether the numbers that an action carries are in bounds.
 fn numbers_valid(action: Action) -> bool
-    ensures { λ r. ⌜ r ≡ numbersValid action ⌝ }
+    ensures { λ r. ⌜ r ≡ callRow action .numbersValid ⌝ }
 {
     match action {
         Action::Open(x) => state::pages_valid(x.pages),
@@ -70,28 +70,45 @@ fn numbers_valid(action: Action) -> bool
     }
 }
 
-// The slot that an action names. An open names none, and has the first here.
-fn named(action: Action) -> Slot
-    ensures { λ r. ⌜ r ≡ namedSlot action ⌝ }
+// The slot that an action names. An open names none.
+fn named(action: Action) -> Free
+    ensures { λ r. ⌜ freeOf r ≡ callRow action .named ⌝ }
 {
     match action {
-        Action::Open(_) => Slot(0),
-        Action::Size(x) => Slot(x.slot.0),
-        Action::Post(x) => Slot(x.slot.0),
-        Action::Look(x) => Slot(x.slot.0),
-        Action::Close(x) => Slot(x.slot.0),
+        Action::Open(_) => Free::Nothing,
+        Action::Size(x) => Free::At(Slot(x.slot.0)),
+        Action::Post(x) => Free::At(Slot(x.slot.0)),
+        Action::Look(x) => Free::At(Slot(x.slot.0)),
+        Action::Close(x) => Free::At(Slot(x.slot.0)),
+    }
+}
+
+// Whether a slot that is named is one of the state's.
+fn named_valid(slot: Free) -> bool
+    ensures { λ r. ⌜ r ≡ namedValid (freeOf slot) ⌝ }
+{
+    match slot {
+        Free::At(p) => slot_valid(p),
+        Free::Nothing => true,
     }
 }
 
 // What the state has for a call: its tenant's record, and what is in the slot that it names. They are taken out together and once, since each
 // function that takes something out of the state is handed a copy of it.
-fn view_of(table: SegmentTable, tenant: TenantId, slot: Slot) -> View
-    requires { ⌜ (tenant .0 < tenants) × (slot .0 < slots) ⌝ }
-    ensures { λ r. ⌜ (r .tenant ≡ tenantAt table tenant) × (r .segment ≡ segmentAt table slot) ⌝ }
+fn view_of(table: SegmentTable, tenant: TenantId, slot: Free) -> View
+    requires { ⌜ (tenant .0 < tenants) × (namedValid (freeOf slot) ≡ true) ⌝ }
+    ensures { λ r. ⌜ (r .tenant ≡ tenantAt table tenant) × (r .segment ≡ namedSegment table (freeOf slot)) ⌝ }
 {
-    View {
-        tenant: table.tenants[tenant.0 as usize],
-        segment: table.segments[slot.0 as usize],
+    let record = table.tenants[tenant.0 as usize];
+    match slot {
+        Free::At(p) => View {
+            tenant: record,
+            segment: table.segments[p.0 as usize],
+        },
+        Free::Nothing => View {
+            tenant: record,
+            segment: state::zero_segment(),
+        },
     }
 }
 
@@ -176,7 +193,7 @@ fn has_room(table: SegmentTable, tenant: TenantId, ceiling: u64, replaced: u64, 
 // Whether the subject may do that to the slot that it names. An open names none.
 fn permitted(table: SegmentTable, call: Call, v: View) -> bool
     requires { ⌜ Viewed table call v ⌝ }
-    ensures { λ r. ⌜ r ≡ rules.permitted table (call .tenant) (call .label) (call .action) ⌝ }
+    ensures { λ r. ⌜ r ≡ callRow (call .action) .permitted table (call .tenant) (call .label) ⌝ }
 {
     let tenant = call.tenant;
     let label = call.label;
@@ -191,19 +208,14 @@ fn permitted(table: SegmentTable, call: Call, v: View) -> bool
     }
 }
 
-// The slot that the call is about, if there is one: for an open, the tenant's lowest empty one.
-fn slot_for(table: SegmentTable, call: Call) -> Free
-    requires { ⌜ call .tenant .0 < tenants ⌝ }
-    ensures { λ r. ⌜ freeOf r ≡ rules.slotFor table (call .tenant) (call .action) ⌝ }
+// The slot that a call is about, if there is one: the one that it names, else the tenant's lowest empty one.
+fn slot_for(table: SegmentTable, tenant: TenantId, slot: Free) -> Free
+    requires { ⌜ tenant .0 < tenants ⌝ }
+    ensures { λ r. ⌜ freeOf r ≡ slotFor table tenant (freeOf slot) ⌝ }
 {
-    let tenant = call.tenant;
-    let action = call.action;
-    match action {
-        Action::Open(_) => slots::lowest_empty(table, tenant),
-        Action::Size(x) => Free::At(Slot(x.slot.0)),
-        Action::Post(x) => Free::At(Slot(x.slot.0)),
-        Action::Look(x) => Free::At(Slot(x.slot.0)),
-        Action::Close(x) => Free::At(Slot(x.slot.0)),
+    match slot {
+        Free::At(p) => Free::At(p),
+        Free::Nothing => slots::lowest_empty(table, tenant),
     }
 }
 
@@ -211,8 +223,8 @@ fn slot_for(table: SegmentTable, call: Call) -> Free
 fn pages_fit(table: SegmentTable, call: Call, v: View) -> bool
     requires { ⌜ Started table call ⌝ }
     requires { ⌜ Viewed table call v ⌝ }
-    requires { ⌜ rules.permitted table (call .tenant) (call .label) (call .action) ≡ true ⌝ }
-    ensures { λ r. ⌜ r ≡ rules.pagesFit table (call .tenant) (call .action) ⌝ }
+    requires { ⌜ callRow (call .action) .permitted table (call .tenant) (call .label) ≡ true ⌝ }
+    ensures { λ r. ⌜ r ≡ callRow (call .action) .pagesFit table (call .tenant) ⌝ }
 {
     let tenant = call.tenant;
     let action = call.action;
@@ -228,7 +240,7 @@ fn pages_fit(table: SegmentTable, call: Call, v: View) -> bool
 
 // What the slot holds after the call.
 fn written(segment: Segment, label: Label, action: Action) -> Segment
-    ensures { λ r. ⌜ r ≡ rules.written segment label action ⌝ }
+    ensures { λ r. ⌜ r ≡ callRow action .written segment label ⌝ }
 {
     let kept = segment.label;
     match action {
@@ -254,7 +266,7 @@ fn written(segment: Segment, label: Label, action: Action) -> Segment
 
 // What a granted call answers: the slot of an open, what a look found, or that it is done.
 fn granted(slot: Slot, segment: Segment, action: Action) -> CallAnswer
-    ensures { λ r. ⌜ Answers r (answers.granted (rules.grantOf slot segment action)) ⌝ }
+    ensures { λ r. ⌜ Answers r (answers.granted (callRow action .answered slot segment)) ⌝ }
 {
     let shown = segment.label;
     match action {
@@ -292,18 +304,18 @@ fn started(table: SegmentTable, call: Call, v: View) -> Change
     if !permitted(table, call, v) {
         return refused(Errno::Access);
     }
-    let free = slot_for(table, call);
+    let tenant = call.tenant;
+    let action = call.action;
+    let free = slot_for(table, tenant, named(action));
     let room = pages_fit(table, call, v);
-    if !slots::found(free) {
+    let Free::At(slot) = free else {
         return refused(Errno::NoSpace);
-    }
+    };
     if !room {
         return refused(Errno::NoMem);
     }
-    let slot = slots::slot_or_0(free);
     let segment = v.segment;
     let label = call.label;
-    let action = call.action;
     Change {
         slot,
         segment: written(segment, label, action),
@@ -336,7 +348,7 @@ pub fn decide(table: SegmentTable, call: Call) -> Change
     let tenant = call.tenant;
     let action = call.action;
     let slot = named(action);
-    if !((tenant.0 < TENANTS as u64) & slot_valid(slot)) {
+    if !((tenant.0 < TENANTS as u64) & named_valid(slot)) {
         return refused(Errno::Invalid);
     }
     checked(table, call, view_of(table, tenant, slot))

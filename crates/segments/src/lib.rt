@@ -10,7 +10,6 @@ use range::tuple::Tuple;
 ghost use mathlib.Core.Path.{_≡_};
 ghost use Rattle.segments.specs.Parts as parts;
 ghost use Rattle.segments.specs.Replies.{isRefusal, unlabeledAnswer};
-ghost use Rattle.segments.specs.Segments.{Lengths};
 
 // How many tenants, and how many slots, a machine has.
 pub const TENANTS: usize = 8;
@@ -154,8 +153,3 @@ pub(crate) fn unlabeled(table: SegmentTable, reply: Reply) -> CallOutcome
         answer: no_label(reply),
     }
 }
-
-// Every state has the lengths of its type.
-fn lengths(s: SegmentTable)
-    ensures { λ _. ⌜ Lengths s ⌝ }
-{}

@@ -5,12 +5,11 @@ use crate::TENANTS;
 use crate::TenantId;
 ghost use mathlib.Core.Path.{_≡_};
 ghost use Prim.Native.Nat.{_<_};
-ghost use Rattle.segments.specs.Calls as calls;
 ghost use Rattle.segments.specs.Parts.{Owned, fitsIn, freeOf, isOwned, keptIn, leftOf, ownerOr, remainingOf};
 ghost use Rattle.segments.specs.Segments.{slots, tenants};
 ghost use Rattle.segments.specs.Slots as rules;
 
-// The lowest empty slot of a tenant's own.
+// A slot that is named or found, or none.
 pub(crate) enum Free {
     At(Slot),
     Nothing,
@@ -29,11 +28,11 @@ pub(crate) enum Remaining {
 }
 
 // The first slot of t's own. This function and the next alone know which slots a tenant owns: t owns 8t to 8t+7.
-pub(crate) fn first_slot(s: SegmentTable, t: TenantId) -> u64
+pub(crate) fn first_slot(s: SegmentTable, t: TenantId) -> Slot
     requires { ⌜ t .0 < tenants ⌝ }
     ensures { λ r. ⌜ r ≡ rules.firstSlot s t ⌝ }
 {
-    8 * t.0
+    Slot(8 * t.0)
 }
 
 // How many slots t owns.
@@ -49,8 +48,8 @@ pub(crate) fn owns(s: SegmentTable, t: TenantId, p: Slot) -> bool
 {
     if t.0 < TENANTS as u64 {
         let first = first_slot(s, t);
-        let end = first + slot_count(s, t);
-        return (first <= p.0) & (p.0 < end);
+        let end = first.0 + slot_count(s, t);
+        return (first.0 <= p.0) & (p.0 < end);
     }
     false
 }
@@ -98,33 +97,13 @@ pub(crate) fn lowest_empty(s: SegmentTable, t: TenantId) -> Free
     let count = slot_count(s, t);
     let mut k: u64 = 0;
     while k < count {
-        let pages = s.segments[(first + k) as usize].pages;
+        let pages = s.segments[(first.0 + k) as usize].pages;
         if pages == 0 {
-            return Free::At(Slot(first + k));
+            return Free::At(Slot(first.0 + k));
         }
         k += 1;
     }
     Free::Nothing
-}
-
-// Whether an empty slot was found.
-pub(crate) fn found(free: Free) -> bool
-    ensures { λ r. ⌜ r ≡ calls.found (freeOf free) ⌝ }
-{
-    match free {
-        Free::At(_) => true,
-        Free::Nothing => false,
-    }
-}
-
-// The slot that was found; 0 where none was.
-pub(crate) fn slot_or_0(free: Free) -> Slot
-    ensures { λ r. ⌜ r ≡ calls.slotOr0 (freeOf free) ⌝ }
-{
-    match free {
-        Free::At(p) => p,
-        Free::Nothing => Slot(0),
-    }
 }
 
 // What is left of a limit when t's pages are taken from it. It counts down, so that no sum wraps, whatever the state holds.
@@ -137,7 +116,7 @@ pub(crate) fn pages_left(s: SegmentTable, t: TenantId, limit: u64) -> Remaining
     let mut left = limit;
     let mut i: u64 = 0;
     while i < count {
-        let pages = s.segments[(first + i) as usize].pages;
+        let pages = s.segments[(first.0 + i) as usize].pages;
         if left < pages {
             return Remaining::Exceeded;
         }

@@ -6,9 +6,9 @@ use lib.Dec.{ltb}
 use Rattle.common.specs.declared.errno.Errno.the-variants.{Invalid}
 use Rattle.common.proofs.BoolLaws.{first-true, second-true, told-false, told-true}
 use Prim.Native.Nat.{_<_}
-use Rattle.segments.specs.Calls.{slotValid}
-use Rattle.segments.specs.Parts.{namedSlot}
-use Rattle.segments.specs.Segments.{slots, tenants}
+use Rattle.segments.specs.Calls.{callRow}
+use Rattle.segments.specs.Parts.{namedValid}
+use Rattle.segments.specs.Segments.{tenants}
 use Rattle.segments.specs.Sound.{sound}
 use Rattle.segments.proofs.ResultsLaws.{decides-refused, out-of-bounds, unsound}
 use Rattle.segments.proofs.calls.decide.Statement.{statement}
@@ -18,11 +18,11 @@ is-sound : (c : tie.Else1) → sound (c .before .before .args .table) ≡ true
 is-sound c = told-true (c .before .is-sound .ensures) (c .if1 .left)
 
 -- the test of the bounds
-bounds : (c : tie.After-slot-valid) → let a = c .before .before .before .before .before .before .args .call in
-    (ltb (a .tenant .0) tenants && c .slot-valid .result) ≡ (ltb (a .tenant .0) tenants && slotValid (namedSlot (a .action)))
+bounds : (c : tie.After-named-valid) → let a = c .before .before .before .before .before .before .args .call in
+    (ltb (a .tenant .0) tenants && c .named-valid .result) ≡ (ltb (a .tenant .0) tenants && namedValid (callRow (a .action) .named))
 bounds c =
     let t : Bool = ltb (c .before .before .before .before .before .before .args .call .tenant .0) tenants in
-    ap (λ (b : Bool). t && b) (c .slot-valid .ensures ∙ ap slotValid (c .before .before .named .ensures))
+    ap (λ (b : Bool). t && b) (c .named-valid .ensures ∙ ap namedValid (c .before .before .named .ensures))
 
 returns : tie.Need-returns
 returns c = decides-refused _ _ Invalid (c .refused .ensures) (unsound _ _ (told-false (c .before .before .is-sound .ensures) (c .before .if1 .taken)))
@@ -34,12 +34,12 @@ returns-2 c =
     let e = v .before .before .before .before in
     decides-refused _ _ Invalid (c .refused2 .ensures) (out-of-bounds _ _ (is-sound e) (told-false (bounds v) (t .if2 .taken)))
 
-inside : (c : tie.Else2) → let a = c .before .before .before .before .before .before .before .args .call in (a .tenant .0 < tenants) × (namedSlot (a .action) .0 < slots)
+inside : (c : tie.Else2) → let a = c .before .before .before .before .before .before .before .args .call in (a .tenant .0 < tenants) × (namedValid (callRow (a .action) .named) ≡ true)
 inside c =
     let a = c .before .before .before .before .before .before .before .args .call in
     let e = told-true (bounds (c .before)) (c .if2 .left) in
     let t : Bool = ltb (a .tenant .0) tenants in
-    (ltb-true (a .tenant .0) tenants (first-true t (slotValid (namedSlot (a .action))) e), ltb-true (namedSlot (a .action) .0) slots (second-true t (slotValid (namedSlot (a .action))) e))
+    (ltb-true (a .tenant .0) tenants (first-true t (namedValid (callRow (a .action) .named)) e), second-true t (namedValid (callRow (a .action) .named)) e)
 
 view-of-requires : tie.Need-view-of-requires
 view-of-requires c κs = let h = inside c in (h .0, rw (c .before .before .before .named .ensures) (h .1))
@@ -49,7 +49,7 @@ checked-requires c κs =
     let e = c .before in
     let n = e .before .before .before in
     let h = inside e in
-    (is-sound (n .before .before), record { tenant-in = h .0; slot-in = h .1; tenant = c .view-of .ensures .0; segment = rw (← n .named .ensures) (c .view-of .ensures .1) })
+    (is-sound (n .before .before), record { tenant-in = h .0; tenant = c .view-of .ensures .0; segment = rw (← n .named .ensures) (c .view-of .ensures .1) })
 
 returns-3 : tie.Need-returns-3
 returns-3 c = c .checked .ensures

@@ -3,19 +3,10 @@ use Rattle.segments.proofs.calls.slot_for.Statement.{statement}
 use Rattle.segments.proofs.calls.slot_for.Tie as tie
 
 returns : tie.Need-returns
-returns c = rw (c .lowest-empty .ensures, c .before .enum-told .given .1)
+returns c = rw (c .before .slot .given .1)
 
 returns-2 : tie.Need-returns-2
-returns-2 c = rw (c .before .action .given .1)
-
-returns-3 : tie.Need-returns-3
-returns-3 c = rw (c .before .action2 .given .1)
-
-returns-4 : tie.Need-returns-4
-returns-4 c = rw (c .before .action3 .given .1)
-
-returns-5 : tie.Need-returns-5
-returns-5 c = rw (c .before .action4 .given .1)
+returns-2 c = rw (c .lowest-empty .ensures, c .before .enum-told .given .1)
 
 pub slot-for-spec : {M : Type 1} → statement M
-slot-for-spec = tie.close (tie.spec (search needs) (search needs) (search needs) (search needs) (search needs) (search needs) returns returns-2 returns-3 returns-4 returns-5)
+slot-for-spec = tie.close (tie.spec (search needs) (search needs) (search needs) returns returns-2)

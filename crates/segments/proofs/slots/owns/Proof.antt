@@ -6,12 +6,13 @@ use Rattle.segments.proofs.slots.owns.Tie as tie
 
 add-end : tie.Need-add-end
 add-end c =
-    let b = bound-by _ _ _ _ (c .before .first-slot .ensures) (c .slot-count .ensures) (c .before .before .if1 .taken) in
+    let n = c .before in
+    let b = bound-by _ _ _ _ (n .before .first-slot .ensures) (n .slot-count .ensures) (n .before .before .if1 .taken) in
     omega arith
 
 returns : tie.Need-returns
 returns c =
-    let n = c .before .before in
+    let n = c .before .before .before .before in
     let t = n .before .before in
     let a = t .before .before .args in
     owns-inside (a .s) (a .t) _ _ (n .before .first-slot .ensures) (n .slot-count .ensures) (a .p) (t .if1 .taken)

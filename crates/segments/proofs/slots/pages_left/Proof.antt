@@ -12,17 +12,17 @@ use Rattle.segments.proofs.slots.pages_left.Statement.{statement}
 use Rattle.segments.proofs.slots.pages_left.Tie as tie
 
 abbrev Inv-loop : tie.InvT-loop
-Inv-loop limit s first count left₀ i₀ left i = Taken (λ p. pagesAt s (slot p)) first count limit i left
+Inv-loop limit s first count left₀ i₀ left i = Taken (λ p. pagesAt s (slot p)) (first .0) count limit i left
 
 abbrev μ-loop : tie.MeasureT-loop
 μ-loop limit s first count left₀ i₀ left i = count - i
 
 -- what the functions before the loop tell of the slots that are read
-bound : (c : tie.After-slot-count Inv-loop μ-loop) → c .before .first-slot .result + c .slot-count .result ≤ slots
+bound : (c : tie.After-slot-count Inv-loop μ-loop) → c .before .first-slot .result .0 + c .slot-count .result ≤ slots
 bound c = bound-by _ _ _ _ (c .before .first-slot .ensures) (c .slot-count .ensures) (c .before .before .pre)
 
 total : (c : tie.After-slot-count Inv-loop μ-loop) → let a = c .before .before .args in
-    leftOf (a .limit) (sumFrom (λ p. pagesAt (a .t1) (slot p)) (c .before .first-slot .result) (c .slot-count .result)) ≡ leftOf (a .limit) (pagesOf (a .t1) (a .t))
+    leftOf (a .limit) (sumFrom (λ p. pagesAt (a .t1) (slot p)) (c .before .first-slot .result .0) (c .slot-count .result)) ≡ leftOf (a .limit) (pagesOf (a .t1) (a .t))
 total c =
     let a = c .before .before .args in
     ap (leftOf (a .limit)) (pages-by (a .t1) (a .t) _ _ (c .before .first-slot .ensures) (c .slot-count .ensures))
@@ -31,19 +31,19 @@ loop-holds : tie.Need-loop-holds Inv-loop μ-loop
 loop-holds c = take-none _ _ _ _
 
 add-pages : tie.Need-add-pages Inv-loop μ-loop
-add-pages c = let b = bound (c .before .before) in omega arith
+add-pages c = let b = bound (c .before .before .before) in omega arith
 
 mul-pages : tie.Need-mul-pages Inv-loop μ-loop
-mul-pages c = let b = bound (c .before .before) in omega arith
+mul-pages c = let b = bound (c .before .before .before) in omega arith
 
 element-copy-out-pages : tie.Need-element-copy-out-pages Inv-loop μ-loop
-element-copy-out-pages c = let b = bound (c .before .before) in omega arith
+element-copy-out-pages c = let b = bound (c .before .before .before) in omega arith
 
 returns : tie.Need-returns Inv-loop μ-loop
-returns c = let h = c .before .before in sym (take-over _ _ _ _ _ _ (c .before .loop-test .taken) (c .if1 .taken) (h .loop .inv)) ∙ total (h .before)
+returns c = let h = c .before .before in sym (take-over _ _ _ _ _ _ (h .loop-test .taken) (c .if1 .taken) (h .before .loop .inv)) ∙ total (h .before .before)
 
 loop-again : tie.Need-loop-again Inv-loop μ-loop
-loop-again c = take-next _ _ _ _ _ _ (c .before .loop-test .taken) (c .if1 .left) (c .before .before .loop .inv)
+loop-again c = let h = c .before .before in take-next _ _ _ _ _ _ (h .loop-test .taken) (c .if1 .left) (h .before .loop .inv)
 
 returns-2 : tie.Need-returns-2 Inv-loop μ-loop
 returns-2 c = let h = c .before in sym (take-all _ _ _ _ _ _ (c .loop-test .left) (h .loop .inv)) ∙ total (h .before)

@@ -1,13 +1,24 @@
 use borrow.Author.Needs.{needs}
-use mathlib.Core.Bool.{_&&_, and-false, and-true}
-use mathlib.Core.Path.{sym, _∙_}
+use mathlib.Core.Bool.{true, _&&_, and-false, and-true}
+use mathlib.Core.Path.{_≡_, sym, _∙_}
+use borrow.Author.Tests.{eq-eqb}
+use lib.ListN.{length}
+use Rattle.common.proofs.BoolLaws.{both}
+use Rattle.common.proofs.IndexLaws.{length-mapped}
 use Rattle.segments.specs.Parts.{tenantsSound}
-use Rattle.segments.specs.Segments.{pagesValid}
+use Rattle.segments.specs.Segments.{pagesValid, slots, tenants}
 use Rattle.segments.specs.Slots.{ceilingsOf}
-use Rattle.segments.specs.Sound.{sound}
+use Rattle.segments.specs.Sound.{sound, wellSized}
 use Rattle.segments.proofs.LimitLaws.{kept-exact}
 use Rattle.segments.proofs.state.sound.Statement.{statement}
 use Rattle.segments.proofs.state.sound.Tie as tie
+
+-- every state has the lengths of its type
+sized : (c : tie.Start) → wellSized (c .args .s) ≡ true
+sized c =
+    let m : length (c .args .s .tenants) ≡ tenants = search (needs, length-mapped) in
+    let n : length (c .args .s .segments) ≡ slots = search (needs, length-mapped) in
+    both (eq-eqb _ _ m) (eq-eqb _ _ n)
 
 returns : tie.Need-returns
 unfolding sound
@@ -19,6 +30,7 @@ returns c =
     let t = v .before in
     let s = t .before .before .args .s in
     rw (
+      sized (t .before .before),
       sym (t .before .slots-sound .ensures) ∙ t .if1 .taken,
       and-true (pagesValid (s .pool) && tenantsSound s),
       v .pages-valid .ensures,
@@ -29,7 +41,7 @@ returns c =
 
 returns-2 : tie.Need-returns-2
 unfolding sound
-returns-2 c = let s = c .before .before .args .s in rw (sym (c .before .slots-sound .ensures) ∙ c .if1 .left, and-false (pagesValid (s .pool) && tenantsSound s))
+returns-2 c = let s = c .before .before .args .s in rw (sized (c .before .before), sym (c .before .slots-sound .ensures) ∙ c .if1 .left, and-false (pagesValid (s .pool) && tenantsSound s))
 
 pub sound-spec : {M : Type 1} → statement M
 sound-spec =
