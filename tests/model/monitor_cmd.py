@@ -4,7 +4,7 @@
 import functools
 
 import protocol
-from monitor import FILE_KINDS, PRIVILEGES, TYPES, Credentials, Object, Request, decide, named
+from monitor import FILE, FILE_KINDS, PRIVILEGES, TYPES, Credentials, Object, Request, decide, named
 from protocol import LEFT_OUT, Command
 from rules import INVALID, Caller, Label, Range, Refusal, Tuple
 
@@ -20,8 +20,10 @@ def check(privileges, object_type, file_kind, intents, attribute_type, caller_ov
           object_tuple, caller_label):
     caller = Caller(caller_label, below(2, caller_override) == 1)
     held = named(below(2 ** len(PRIVILEGES), privileges), PRIVILEGES)
-    thing = Object(TYPES[below(len(TYPES), object_type)], FILE_KINDS[below(len(FILE_KINDS), file_kind)],
-                   object_label, object_tuple)
+    type_name = TYPES[below(len(TYPES), object_type)]
+    # The kind counts only for files: elsewhere it may be any number.
+    kind_name = FILE_KINDS[below(len(FILE_KINDS), file_kind)] if type_name == FILE else None
+    thing = Object(type_name, kind_name, object_label, object_tuple)
     return decide(Request(caller, Credentials(label, bounds, frozenset(held)), thing, intents, attribute_type))
 
 

@@ -396,7 +396,10 @@ def out_of_bounds():
             yield case(f"{what} {number}, and the rest is refused too", check(**denied_too({field: number}), caller=BLIND))
     yield case("all four, and every operand bad",
                check(8, 6, 3, 0, 0, b"\n", b"# comment\n", b"--\n", b"20\n", DASH, caller_override=2))
-    yield case("the file kind does not count for a fifo, but names nothing", check(object_type=FIFO, file_kind=3))
+    for object_type, number in itertools.product(TYPES, OUT_OF_BOUNDS["file_kind"]):
+        yield case(f"file kind {number} of a {object_type}", check(object_type=object_type, file_kind=number))
+    for intent in (EXECUTE, SEARCH):
+        yield case(f"{intent} on a fifo of file kind 3", check(object_type=FIFO, file_kind=3, intents=asking(intent)))
     yield case("the greatest numbers there are", check(7, 5, 2, caller_override=1))
 
 

@@ -489,10 +489,18 @@ class MonitorLines(unittest.TestCase):
         return monitor_cmd.answers(b"".join(lines)).decode().splitlines()
 
     def test_numbers_out_of_bounds_take_the_operands(self):
-        for line in (b"check 8 0 0 2 0 0\n", b"check 0 6 0 2 0 0\n", b"check 0 0 3 2 0 0\n", b"check 0 1 3 2 0 0\n",
+        for line in (b"check 8 0 0 2 0 0\n", b"check 0 6 0 2 0 0\n", b"check 0 6 3 2 0 0\n", b"check 0 0 3 2 0 0\n",
                      b"check 0 0 0 2 0 2\n", b"check 0 0 0 2 0 4294967297\n", b"check 0 0 0 2 0 18446744073709551615\n"):
             self.assertEqual(self.answers(line, *self.GOOD[1:], *self.GOOD), ["error 22", "0"])
         self.assertEqual(self.answers(b"check 7 5 2 2 9 1\n", *self.GOOD[1:], *self.GOOD), ["0", "0"])
+
+    def test_file_kind_counts_only_for_files(self):
+        """Of another type it may be any number."""
+        for kind in (3, 255, 2 ** 32, 2 ** 64 - 1):
+            self.assertEqual(self.answers(b"check 0 0 %d 2 0 0\n" % kind, *self.GOOD[1:]), ["error 22"])
+            for object_type in range(1, 6):
+                line = b"check 0 %d %d 2 0 0\n" % (object_type, kind)
+                self.assertEqual(self.answers(line, *self.GOOD[1:], *self.GOOD), ["0", "0"])
 
     def test_wrong_count_of_numbers_takes_none(self):
         for line in (b"check 0 0 0 2 0\n", b"check 0 0 0 2 0 0 0\n", b"check 0 0 0 2 0 0 0 0\n"):

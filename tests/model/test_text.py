@@ -483,7 +483,10 @@ class Lines(unittest.TestCase):
         self.assertEqual(self.after_small(bad, self.GOOD, b"range 0 0\n", write(RANGE), b"read-label\nx\n",
                                           b"read-range\n\n"), ["error 22 1"] * 5)
         self.assertEqual(self.after_small(bad, b"label 2 0\n", write(LABEL), b"range 0 0\n", write(LABEL), b"read-label\n",
-                                          b"x" * TEXT_BUFFER, b"\n", b"read-label\nlow"), ["error 22 1", *["error 22"] * 4])
+                                          b"x" * TEXT_BUFFER, b"\n", b"read-label\nlow"),
+                         ["error 22 1", "error 22", *["error 22 1"] * 3])
+        for request, answer in ((b"label 0 0\n", "error 22 1"), (b"range 0 2\n", "error 22"), (b"read-range\n", "error 22 1")):
+            self.assertEqual(self.after_small(bad, request), ["error 22 1", answer])
         self.assertEqual(self.after_small(bad, b"table 1\n", b"capacity 9\n", b"subject 1\n", write(LABEL), self.GOOD,
                                           self.TABLE, b"\n", self.GOOD),
                          ["error 22 1", "error 22", "ok", "ok", "error 22 1", "table 2", "low:east"])

@@ -5,8 +5,8 @@ import itertools
 
 import protocol
 import text
-from protocol import Command, whole
-from rules import INVALID, Caller, Label, Range, require
+from protocol import Command, hex_operands, whole
+from rules import INVALID, Caller, Label, Range, Refusal, require
 from text import FORMS, VARIANTS, Table
 
 TABLE_BUFFER = 65_536
@@ -21,6 +21,16 @@ def text_operand(lines, _):
     line = whole(next(lines, None), TEXT_BUFFER)
     require(line is not None, INVALID)
     return [line[:-1]]
+
+
+def looked_at_later(take):
+    """An operand that is taken like others, but for the call to look at: it gets the refusal of a bad one."""
+    def operand(lines, command):
+        try:
+            return take(lines, command)
+        except Refusal as refusal:
+            return [refusal]
+    return operand
 
 
 def table_operand(lines, _):
@@ -59,33 +69,43 @@ def take_capacity(console, capacity):
     return "ok"
 
 
-def label_text(console, form, variant, label):
+def under(table, operand):
+    """The operand, where the table is good and it is good too. Document 01 has a bad table before everything else."""
+    table.entries()
+    if isinstance(operand, Refusal):
+        raise operand
+    return operand
+
+
+def label_text(console, form, variant, operand):
     require(form in FORMS and variant in VARIANTS, INVALID)
+    label = under(console.table, operand)
     return text.write_label(console.table, label, console.subject, form, variant, console.capacity).decode()
 
 
-def range_text(console, form, variant, bounds):
+def range_text(console, form, variant, operand):
     require(form in FORMS and variant in VARIANTS, INVALID)
+    bounds = under(console.table, operand)
     status, written = text.write_range(console.table, bounds, console.subject, form, variant, console.capacity)
     return f"{status} {written.decode()}"
 
 
-def label_read(console, given):
-    return text.read_label(console.table, given, console.subject)
+def label_read(console, operand):
+    return text.read_label(console.table, under(console.table, operand), console.subject)
 
 
-def range_read(console, given):
-    return text.read_range(console.table, given, console.subject)
+def range_read(console, operand):
+    return text.read_range(console.table, under(console.table, operand), console.subject)
 
 
 COMMANDS = {
     b"table": Command(0, [(Table,)], take_table, table_operand),
     b"subject": Command(1, [(Label,)], take_subject),
     b"capacity": Command(1, [()], take_capacity),
-    b"label": Command(2, [(Label,)], label_text),
-    b"range": Command(2, [(Range,)], range_text),
-    b"read-label": Command(0, [(bytes,)], label_read, text_operand),
-    b"read-range": Command(0, [(bytes,)], range_read, text_operand),
+    b"label": Command(2, [(Label,)], label_text, looked_at_later(hex_operands)),
+    b"range": Command(2, [(Range,)], range_text, looked_at_later(hex_operands)),
+    b"read-label": Command(0, [(bytes,)], label_read, looked_at_later(text_operand)),
+    b"read-range": Command(0, [(bytes,)], range_read, looked_at_later(text_operand)),
 }
 
 

@@ -97,14 +97,14 @@ def example():
 # Refusals. Each part of a request is chosen from a list, and each choice has the checks that it fails, so that a request
 # fails what its parts do and gets the answer of the first of that.
 
-CHECKS = {"operand": b"error 22\n", "table": b"error 22 2\n", "sight": b"error 13\n", "name": b"error 2\n",
-          "room": b"error 7 ", "text": b"error 22\n"}  # in their order, each with how the refusal begins
+CHECKS = {"number": b"error 22\n", "table": b"error 22 2\n", "operand": b"error 22\n", "sight": b"error 13\n",
+          "name": b"error 2\n", "room": b"error 7 ", "text": b"error 22\n"}  # in their order, each with how the refusal begins
 TABLES = [("", table(*ENTRIES), set()), ("a bad table", table(LOW, EAST, of_category(1, b"low"), TUPLE), {"table"})]
 ROOM = [("", capacity(MOST_CAPACITY), set()), ("no room", capacity(0), {"room"})]
 NO_ROOM_NEEDED = [("", capacity(0), set())]
 IN_SIGHT, BY_OVERRIDE = ("", subject(TOP), set()), ("read override", subject(label(0), 1), set())
 OUT_OF_SIGHT, LOW_END = ("out of sight", subject(label(19, 7))), ("the low end alone in sight", subject(label(20, 0)))
-NUMBERS = [("", (0, 0), set()), ("", (1, 1), set()), ("form 2", (2, 0), {"operand"}), ("variant 2", (1, 2), {"operand"})]
+NUMBERS = [("", (0, 0), set()), ("", (1, 1), set()), ("form 2", (2, 0), {"number"}), ("variant 2", (1, 2), {"number"})]
 NO_NUMBERS = [("", (), set())]
 
 
@@ -301,9 +301,10 @@ def bad_table_kept():
     yield case("a bad table takes the place of a good one", SMALL, table(LOW, EAST, LOW), KEPT, written(RANGE),
                *map(read_anywhere, (b"low", b"x")))
     yield case("subject and capacity are taken under it", subject(label(20)), capacity(3), KEPT)
-    yield case("bad numbers and operands come before it", PROGRAM.request(b"label", b"x\n"),
-               PROGRAM.request(b"range", LABEL), written(LABEL, 2, 0), written(RANGE, 0, 2), read_label(b"x" * TEXT_BUFFER),
-               read_range(b"x" * TEXT_BUFFER))
+    yield case("bad operands come after it", PROGRAM.request(b"label", b"x\n"), PROGRAM.request(b"range", LABEL),
+               read_label(b"x" * TEXT_BUFFER), read_range(b"x" * TEXT_BUFFER))
+    yield case("bad numbers come before it, and before bad operands", written(LABEL, 2, 0), written(RANGE, 0, 2),
+               PROGRAM.request(b"label", b"x\n", numbers=(2, 0)), PROGRAM.request(b"range", LABEL, numbers=(0, 2)))
     yield case("it stays after a bad command line", b"table 0\n", b"table \n", KEPT)
     yield case("a good one takes its place", table(LOW, EAST), *map(written, (label(20), label(20, 7))), read_label(b"low"))
     yield case("bad ones and one with no line", *(table(*lines) + KEPT for lines in ([b"x\n"], [LOW, b"x\n"], [])))
@@ -489,6 +490,14 @@ def texts_at_the_end():
     yield "the longest range with no LF at the end", table(*FULL) + SEES_ALL + read_range(LONGEST_TEXTS[1])[:-1]
 
 
+def cut_off_under_a_bad_table():
+    """Requests that the end of the input cuts off before or in their operand, after a bad table."""
+    bad = SMALL + table(LOW, b"x\n")
+    for command in (b"label 0 0\n", b"range 0 0\n", b"read-label\n", b"read-range\n", b"label 2 0\n", b"range 0 2\n", b"subject 0\n"):
+        for what, operand in (("no operand", b""), ("no last LF", write(LABEL)[:-1])):
+            yield f"a bad table, then {command.decode().strip()} with {what}", bad + command + operand
+
+
 def long_texts():
     text = LONGEST_TEXTS[1]
     yield "the longest range, and one byte less and more", table(*FULL) + SEES_ALL + b"".join(
@@ -522,7 +531,7 @@ def long_tables():
 
 def longer_runs():
     yield "requests before the first table", b"".join(at_the_start())
-    yield from itertools.chain(tables_at_the_end(), texts_at_the_end(), long_texts(), long_tables())
+    yield from itertools.chain(tables_at_the_end(), texts_at_the_end(), cut_off_under_a_bad_table(), long_texts(), long_tables())
     for seed in range(2, 5):
         yield f"long random run {seed}", random_tables(random.Random(seed), 200)
     yield "random tables of some hundred entries", random_tables(random.Random(5), 8, MOST_ENTRIES)

@@ -1,8 +1,7 @@
 -- What the monitor is asked, as C has it.
-use mathlib.Core.Bool.{Bool, not, _&&_, _||_}
+use mathlib.Core.Bool.{Bool, _&&_}
 use Prim.Native.Nat.{ℕ}
-use lib.Dec.{eqb, leb}
-use Rattle.monitor.specs.Numbers.{objectClassOf, fileKindOf}
+use Rattle.monitor.specs.Numbers.{typeNamed}
 use Rattle.monitor.specs.declared.Credentials as coreCredentials
 use Rattle.monitor.specs.declared.Object as coreObject
 use Rattle.monitor.specs.declared.Request as coreRequest
@@ -26,18 +25,14 @@ credentialsOf c = record {
   };
 }
 
--- six classes; three kinds, which count for a file only
+-- the two numbers name a class and a kind, and the flags are some that there are
 abbrev pub objectFormed : CObject → Bool
-objectFormed o =
-    leb (o .class) 5
-    && (not (eqb (o .class) 0) || leb (o .kind) 2)
-    && Flag.formedOf (o .«has_label»)
-    && Flag.formedOf (o .«has_tuple»)
+objectFormed o = typeNamed (o .class) (o .kind) .named && Flag.formedOf (o .«has_label») && Flag.formedOf (o .«has_tuple»)
 
 abbrev pub objectOf : CObject → coreObject.Object
 objectOf o = record {
-  class = objectClassOf (o .class);
-  kind = fileKindOf (o .kind);
+  class = typeNamed (o .class) (o .kind) .class;
+  kind = typeNamed (o .class) (o .kind) .kind;
   present = record { label = Flag.decodedOf (o .«has_label»); tuple = Flag.decodedOf (o .«has_tuple») };
   label = o .label;
   tuple = o .tuple;

@@ -54,7 +54,8 @@ pub fn decode_credentials(c: CCredentials) -> monitor::Credentials
 pub fn object_formed(o: CObject) -> bool
     ensures { λ r. ⌜ r ≡ objectFormed o ⌝ }
 {
-    (o.class <= 5) & ((o.class != 0) | (o.kind <= 2)) & (o.has_label <= 1) & (o.has_tuple <= 1)
+    let asked = numbers::type_of(o.class, o.kind);
+    asked.named & (o.has_label <= 1) & (o.has_tuple <= 1)
 }
 
 pub fn decode_object(o: CObject) -> monitor::Object
@@ -62,9 +63,12 @@ pub fn decode_object(o: CObject) -> monitor::Object
 {
     let label = o.label;
     let tuple = o.tuple;
+    let t = numbers::type_of(o.class, o.kind);
+    let class = t.class;
+    let kind = t.kind;
     monitor::Object {
-        class: numbers::class_of(o.class),
-        kind: numbers::kind_of(o.kind),
+        class,
+        kind,
         present: Presence {
             label: o.has_label == 1,
             tuple: o.has_tuple == 1,

@@ -6,7 +6,6 @@ use label::caller::Caller;
 use monitor::Credentials;
 use monitor::Object;
 use monitor::Presence;
-use monitor::Privileges;
 use monitor::Request;
 use monitor::numbers;
 use range::Range;
@@ -40,10 +39,12 @@ pub(crate) struct Draft {
     pub caller: Label,
 }
 
-// A request with its numbers and no operand yet: privileges, class, kind and override have to be some that there are.
+// A request with its numbers and no operand yet: privileges, class, a file's kind and override have to be some that there are.
 pub(crate) fn of_numbers(numbers: [u64; MAX_NUMBERS]) -> Draft {
+    let p = numbers::privileges_of(numbers[0]);
+    let t = numbers::type_of(numbers[1], numbers[2]);
     Draft {
-        good: (numbers[0] <= 7) & (numbers[1] <= 5) & (numbers[2] <= 2) & (numbers[5] <= 1),
+        good: p.named & t.named & (numbers[5] <= 1),
         numbers,
         subject: label::zero(),
         range: range::zero(),
@@ -55,14 +56,6 @@ pub(crate) fn of_numbers(numbers: [u64; MAX_NUMBERS]) -> Draft {
         tuple: tuple::empty(),
         caller: label::zero(),
     }
-}
-
-// Whether an operand is left out: its line is `-`.
-fn left_out(line: &[u8]) -> bool {
-    if line.len() != 2 {
-        return false;
-    }
-    (line[0] == b'-') & (line[1] == b'\n')
 }
 
 fn with_range(mut d: Draft, line: &[u8]) -> Draft {
@@ -103,9 +96,9 @@ fn with_tuple(mut d: Draft, line: &[u8]) -> Draft {
     d
 }
 
-// The draft with one more operand line, where `due` of them were still to come.
+// The draft with one more operand line, where `due` of them were still to come. The object's two may be left out: their line is then `-`.
 pub(crate) fn with_operand(d: Draft, due: usize, line: &[u8]) -> Draft {
-    if ((due == LABEL_DUE) | (due == TUPLE_DUE)) & left_out(line) {
+    if ((due == LABEL_DUE) | (due == TUPLE_DUE)) & octets::same(line, b"-\n") {
         return d;
     }
     if due == RANGE_DUE {
@@ -117,14 +110,6 @@ pub(crate) fn with_operand(d: Draft, due: usize, line: &[u8]) -> Draft {
     with_label(d, due, line)
 }
 
-fn privileges_of(n: u64) -> Privileges {
-    Privileges {
-        read: n % 2 == 1,
-        write: n / 2 % 2 == 1,
-        relabel: n / 4 % 2 == 1,
-    }
-}
-
 // The request, once all of it is there.
 pub(crate) fn of_draft(d: Draft) -> Request {
     let numbers = d.numbers;
@@ -134,15 +119,20 @@ pub(crate) fn of_draft(d: Draft) -> Request {
     let label = d.label;
     let tuple = d.tuple;
     let caller = d.caller;
+    let p = numbers::privileges_of(numbers[0]);
+    let privileges = p.privileges;
+    let t = numbers::type_of(numbers[1], numbers[2]);
+    let class = t.class;
+    let kind = t.kind;
     Request {
         credentials: Credentials {
             label: subject,
             range,
-            privileges: privileges_of(numbers[0]),
+            privileges,
         },
         object: Object {
-            class: numbers::class_of(numbers[1]),
-            kind: numbers::kind_of(numbers[2]),
+            class,
+            kind,
             present,
             label,
             tuple,

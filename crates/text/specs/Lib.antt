@@ -1,4 +1,5 @@
 pub mod Subject
 pub mod Write
 pub mod Read
+pub mod Numbers
 pub mod Internal

@@ -1,6 +1,7 @@
 // Labels and ranges as text, by the names of an alias table. Each function tests the table that it is lent, then the rest of what it is handed; a
 // refusal writes nothing. `more` says that the table is cut off, and more follows.
 mod name;
+pub mod numbers;
 pub mod read;
 mod tested;
 pub mod write;

@@ -1,13 +1,12 @@
-// What a request does once its operand is there: the operand and the numbers are tested, and where one is bad no call is made.
+// What a request does once its operand is there: the numbers, the table and the operand are tested in that order, and where one is bad no call is
+// made. A bad operand is also one that the end of the input cut off: it comes as no bytes at all.
 use crate::answer;
 use crate::kept::Kept;
 use crate::kept::MAX_CAPACITY;
 use common::answer::Outcome;
 use common::answer::granted;
 use label::caller::Caller;
-use text::Form;
-use text::Style;
-use text::Variant;
+use text::numbers;
 use text::read;
 use text::write;
 ghost use Rattle.io.specs.Counts.{Counts};
@@ -21,6 +20,16 @@ pub(crate) fn check_table(k: Kept, table: &[u8]) {
             let l = t.lines;
             answer::print_count(l.count);
         }
+        Outcome::Refused(e) => answer::print_refusal(e),
+    }
+}
+
+// Refuses a bad operand, or the table where that is bad too: document 01 has it before everything else.
+fn refuse_operand(k: Kept, table: &[u8]) {
+    let t = alias::check(octets::front(table, k.length), k.more);
+    let outcome = t.outcome;
+    match outcome {
+        Outcome::Granted => answer::print_invalid(),
         Outcome::Refused(e) => answer::print_refusal(e),
     }
 }
@@ -53,32 +62,6 @@ pub(crate) fn take_capacity(mut k: Kept, n: u64) -> Kept {
     k
 }
 
-// Whether there are a form and a variant of these numbers.
-fn is_style(form: u64, variant: u64) -> bool {
-    (form <= 1) & (variant <= 1)
-}
-
-fn form_of(n: u64) -> Form {
-    if n == 0 {
-        return Form::Definition;
-    }
-    Form::Alias
-}
-
-fn variant_of(n: u64) -> Variant {
-    if n == 0 {
-        return Variant::Names;
-    }
-    Variant::Abbreviations
-}
-
-fn style_of(form: u64, variant: u64) -> Style {
-    Style {
-        form: form_of(form),
-        variant: variant_of(variant),
-    }
-}
-
 // How many bytes of the buffer a text may take.
 fn room(k: Kept, out: &[u8]) -> usize
     ensures { λ r. ⌜ Counts r (now (out .entry)) ⌝ }
@@ -97,21 +80,23 @@ pub(crate) fn write_label(
 ) {
     let operand = hexline::read_label(line);
     let outcome = operand.outcome;
-    if is_style(form, variant) & granted(outcome) {
+    let style = numbers::style_of(form, variant);
+    if !style.named {
+        answer::print_invalid();
+    } else if granted(outcome) {
         let names = octets::front(table, k.length);
-        let style = style_of(form, variant);
         let n = room(k, out);
         let written = write::write_label(
             names,
             k.more,
             k.subject,
-            style,
+            style.style,
             operand.label,
             &mut out[..n],
         );
         answer::print_text(written, out);
     } else {
-        answer::print_invalid();
+        refuse_operand(k, table);
     }
 }
 
@@ -125,15 +110,17 @@ pub(crate) fn write_range(
 ) {
     let operand = hexline::read_range(line);
     let outcome = operand.outcome;
-    if is_style(form, variant) & granted(outcome) {
+    let style = numbers::style_of(form, variant);
+    if !style.named {
+        answer::print_invalid();
+    } else if granted(outcome) {
         let names = octets::front(table, k.length);
-        let style = style_of(form, variant);
         let n = room(k, out);
         let r = write::write_range(
             names,
             k.more,
             k.subject,
-            style,
+            style.style,
             operand.range,
             &mut out[..n],
         );
@@ -141,7 +128,7 @@ pub(crate) fn write_range(
         answer::print_status(written, r.status);
         answer::print_text(written, out);
     } else {
-        answer::print_invalid();
+        refuse_operand(k, table);
     }
 }
 
@@ -152,7 +139,7 @@ pub(crate) fn read_label(k: Kept, line: &[u8], table: &[u8]) {
         let names = octets::front(table, k.length);
         answer::print_label(read::read_label(names, k.more, k.subject, text));
     } else {
-        answer::print_invalid();
+        refuse_operand(k, table);
     }
 }
 
@@ -162,6 +149,6 @@ pub(crate) fn read_range(k: Kept, line: &[u8], table: &[u8]) {
         let names = octets::front(table, k.length);
         answer::print_range(read::read_range(names, k.more, k.subject, text));
     } else {
-        answer::print_invalid();
+        refuse_operand(k, table);
     }
 }

@@ -105,13 +105,14 @@ pub(crate) fn take_piece(
     }
 }
 
-// The end of the input: it ends a table, and a request that lacks its operand is refused.
-pub(crate) fn finish(s: Session, table: &[u8]) {
+// The end of the input: it ends a table, and a request that lacks its operand has a bad one.
+pub(crate) fn finish(s: Session, table: &[u8], out: &mut [u8]) {
     let r = s.request;
     let operand = request::operand_of(r);
     match operand {
         Operand::Nothing => {}
-        Operand::Lines => call::check_table(s.kept, table),
-        _ => answer::print_invalid(),
+        _ => {
+            respond(s.kept, r, b"", table, out);
+        }
     }
 }
