@@ -234,7 +234,7 @@ frame-back body h =
       rw (r .1, n) (take-at body (checkByte body ∷ []) (length body) refl),
     )
 
-framed-parts : (line : List ℕ) → framedOf line ≡ true → (spelledOf line ≡ true) × (1 ≤ length (bytesOf line)) × (sumOf (bytesOf line) % 256 ≡ 0)
+pub framed-parts : (line : List ℕ) → framedOf line ≡ true → (spelledOf line ≡ true) × (1 ≤ length (bytesOf line)) × (sumOf (bytesOf line) % 256 ≡ 0)
 unfolding framedOf
 framed-parts line e =
     let t = three-true (spelledOf line) (leb 1 (length (bytesOf line))) (eqb (sumOf (bytesOf line) % 256) 0) e in

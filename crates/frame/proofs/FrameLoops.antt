@@ -1,6 +1,6 @@
 -- What the functions of `frame` need at each turn of a loop and where they end: facts about the definitions that go by the index.
 --
-use mathlib.Core.Bool.{Bool, true, false, _&&_, and-assoc, and-false, and-true}
+use mathlib.Core.Bool.{Bool, true, false, cond, _&&_, and-assoc, and-false, and-true, true≢false}
 use mathlib.Core.List.{List, [], _∷_, _++_, append-assoc, append-nil}
 use mathlib.Core.Logic.{⊎-elim}
 use mathlib.Core.Path.{_≡_, refl, sym, ap, ap₂, _∙_}
@@ -9,15 +9,16 @@ use native.Mathlib.Nat.{add-zero, mod-eq-of-lt}
 use native.Mathlib.Numerals.{add-one}
 use native.Mathlib.Omega.{arith}
 use lib.Dec.{eqb, leb}
-use lib.ListN.{getD, length, set, take, length-append, length-take, List·getD-eq-default}
-use lib.Seq.{getD-take, length-take-le, take-all, take-suc, take-suc-set}
+use lib.ListN.{drop, getD, length, set, take, length-append, length-take, List·getD-eq-default}
+use lib.Seq.{getD-take, length-take-le, take-all, take-at, take-suc, take-suc-set}
+use borrow.Author.Tests.{le-leb, leb-true, lt-leb}
 use Rattle.common.specs.Buffer.{overlay}
 use Rattle.common.specs.Index.{every, tabulate}
 use Rattle.common.proofs.BoolLaws.{exactly-both, three-true}
 use Rattle.common.proofs.BufferLaws.{overlay-length, overlay-step}
 use Rattle.common.proofs.IndexLaws.{every-all, every-at, every-same, le-or-lt, tabulate-at, tabulate-is, tabulate-length}
-use Rattle.frame.specs.Frame.{bodyFrom, bodyOf, bytesOf, checkByte, digitOf, digitsOf, frameOf, framedOf, isDigit, spelledOf, sumOf, digitValue}
-use Rattle.frame.proofs.FrameLaws.{body-length, bytes-at, bytes-length, digits-append, digits-length, sum-take, value-small}
+use Rattle.frame.specs.Frame.{bodyFrom, bodyOf, bytesOf, checkByte, decodedIn, digitOf, digitsOf, frameOf, framedOf, isDigit, soundBody, spelledOf, sumOf, digitValue}
+use Rattle.frame.proofs.FrameLaws.{body-length, bytes-at, bytes-length, digits-append, digits-length, framed-parts, sum-append, sum-one, sum-take, value-small}
 
 -- ---- whether a line is spelled in digits
 
@@ -85,12 +86,20 @@ spelled-at (a ∷ b ∷ rest) (suc i) e h =
 pub sum-next : (bs : List ℕ) (i s : ℕ) → i < length bs → s % 256 ≡ sumOf (take i bs) % 256 → (s + getD bs i 0) % 256 ≡ sumOf (take (i + 1) bs) % 256
 sum-next bs i s h e = rw add-one (let t = sum-take bs i h in omega arith)
 
--- a sum that wraps at 2 ^ 16
-pub wrapped : (n : ℕ) → n % 65536 % 256 ≡ n % 256
-wrapped n = omega arith
-
 pub sum-done : (bs : List ℕ) (i s : ℕ) → length bs ≤ i → s ≡ sumOf (take i bs) % 256 → s ≡ sumOf bs % 256
 sum-done bs i s h e = e ∙ ap (λ (l : List ℕ). sumOf l % 256) (take-all i bs h)
+
+-- the same where one more byte counts, and the sum wraps at 2 ^ 16
+pub sum-none : (bs : List ℕ) (check : ℕ) → check % 256 ≡ (sumOf (take 0 bs) + check) % 256
+unfolding sumOf
+sum-none bs check = omega arith
+
+pub sum-on : (bs : List ℕ) (i s check : ℕ) → i < length bs → s % 256 ≡ (sumOf (take i bs) + check) % 256
+    → (s + getD bs i 0) % 65536 % 256 ≡ (sumOf (take (i + 1) bs) + check) % 256
+sum-on bs i s check h e = rw add-one (let t = sum-take bs i h in omega arith)
+
+pub sum-up : (bs : List ℕ) (i s check : ℕ) → length bs ≤ i → s % 256 ≡ (sumOf (take i bs) + check) % 256 → eqb (s % 256) 0 ≡ eqb ((sumOf bs + check) % 256) 0
+sum-up bs i s check h e = ap (λ (n : ℕ). eqb n 0) (e ∙ ap (λ (l : List ℕ). (sumOf l + check) % 256) (take-all i bs h))
 
 -- ---- the body's bytes are the line's, but for the last
 
@@ -167,15 +176,131 @@ block-is line a h = tabulate-same _ _ 16 byte
         (block-value line a (2 * k + 1) (2 * (a + k) + 1) (omega arith) (omega arith))
         ∙ sym (body-at line (a + k) (omega arith) ∙ bytes-at line (a + k) (omega arith))
 
+-- ---- bytes filled in from the front
+
+pub front-next : (bs out : List ℕ) (i v : ℕ) → i < length bs → i < length out → take i out ≡ take i bs → v ≡ getD bs i 0 → take (i + 1) (set out i v) ≡ take (i + 1) bs
+front-next bs out i v h room inv e =
+    ap (λ (n : ℕ). take n (set out i v)) (add-one i) ∙ take-suc-set out i v room ∙ ap₂ (λ (l : List ℕ) (b : ℕ). l ++ (b ∷ [])) inv e
+    ∙ sym (ap (λ (n : ℕ). take n bs) (add-one i) ∙ take-suc bs i 0 h)
+
+-- the byte of two digits that were told apart
+pub pair-byte : (line : List ℕ) (i p : ℕ) {v : ℕ} → i < length line / 2 → p % 256 ≡ getD line (2 * i) 0 → p / 256 ≡ getD line (2 * i + 1) 0
+    → v ≡ digitValue (p % 256) * 16 + digitValue (p / 256) → v ≡ getD (bytesOf line) i 0
+pair-byte line i p h a b e = e ∙ ap₂ (λ (x y : ℕ). digitValue x * 16 + digitValue y) a b ∙ sym (bytes-at line i h)
+
 -- ---- whether a line is a frame
 
 pub framed-of : (line : List ℕ) (s : ℕ) → spelledOf line ≡ true → s ≡ sumOf (bytesOf line) % 256 → (leb 1 (length line / 2) && eqb s 0) ≡ framedOf line
 unfolding framedOf
 framed-of line s e f = rw (e, bytes-length line, f)
 
+framed-spelled : (line : List ℕ) → framedOf line ≡ true → spelledOf line ≡ true
+framed-spelled line e = framed-parts line e .0
+
 pub unframed : (line : List ℕ) → spelledOf line ≡ false → false ≡ framedOf line
 unfolding framedOf
 unframed line e = rw e
+
+-- ---- a line decoded in a buffer
+
+module _ (line : List ℕ) where
+  -- all bytes of a line: those of its body, and one more
+  body-and : 1 ≤ length line / 2 → bytesOf line ≡ bodyOf line ++ (getD (bytesOf line) (length line / 2 - 1) 0 ∷ [])
+  unfolding bodyOf
+  body-and h =
+      let n = bytes-length line in
+      let e : length (bytesOf line) - 1 ≡ length line / 2 - 1 = omega arith in
+      let k : suc (length line / 2 - 1) ≡ length line / 2 = omega arith in
+      sym (take-all (suc (length line / 2 - 1)) (bytesOf line) (omega arith)) ∙ take-suc (bytesOf line) (length line / 2 - 1) 0 (omega arith)
+      ∙ ap (λ (m : ℕ). take m (bytesOf line) ++ (getD (bytesOf line) (length line / 2 - 1) 0 ∷ [])) (sym e)
+
+  pub framed-by : (n : ℕ) → n + 1 ≡ length line / 2 → spelledOf line ≡ true → eqb ((sumOf (bodyOf line) + getD (bytesOf line) n 0) % 256) 0 ≡ framedOf line
+  framed-by n h e =
+      let m : n ≡ length line / 2 - 1 = omega arith in
+      let s = ap sumOf (body-and (omega arith)) ∙ sum-append (bodyOf line) _ ∙ ap (λ (x : ℕ). sumOf (bodyOf line) + x) (sum-one (getD (bytesOf line) (length line / 2 - 1) 0)) in
+      let t = framed-of line (sumOf (bytesOf line) % 256) e refl in
+      let l : leb 1 (length line / 2) ≡ true = le-leb 1 (length line / 2) (omega arith) in
+      rw m (ap (λ (x : ℕ). eqb (x % 256) 0) (sym s) ∙ (rw l at t))
+
+  pub body-taken : (n : ℕ) → n + 1 ≡ length line / 2 → take n (bytesOf line) ≡ bodyOf line
+  unfolding bodyOf
+  body-taken n h =
+      let l = bytes-length line in
+      let e : n ≡ length (bytesOf line) - 1 = omega arith in
+      ap (λ (m : ℕ). take m (bytesOf line)) e
+
+  -- where nothing is decoded
+  module _ (out : List ℕ) where
+    abbrev pub Nothing : Type 0
+    Nothing = (0 ≡ length (soundBody line (length out))) × (out ≡ decodedIn line out)
+
+    pub no-bytes : length line / 2 ≡ 0 → Nothing
+    unfolding soundBody decodedIn
+    no-bytes h =
+        let e : bodyOf line ≡ [] = length-zero (bodyOf line) (let l = body-length line in omega arith) in
+        rw e (go (framedOf line && leb 0 (length out)), same (spelledOf line && leb 0 (length out)))
+      where
+        nil : List ℕ
+        nil = []
+
+        length-zero : (l : List ℕ) → length l ≡ 0 → l ≡ []
+        length-zero [] h = refl
+        length-zero (x ∷ l) h = absurd (omega arith)
+
+        go : (f : Bool) → 0 ≡ length (cond f nil nil)
+        go true = refl
+        go false = refl
+
+        same : (f : Bool) → out ≡ cond f (overlay nil out) out
+        same true = refl
+        same false = refl
+
+    pub no-room : length out < length (bodyOf line) → Nothing
+    unfolding soundBody decodedIn
+    no-room h = rw (lt-leb (length (bodyOf line)) (length out) h, and-false (framedOf line), and-false (spelledOf line)) (refl, refl)
+
+    pub no-spelling : spelledOf line ≡ false → Nothing
+    unfolding soundBody decodedIn
+    no-spelling e = rw (sym (unframed line e), e) (refl, refl)
+
+    -- where the body is
+    pub decoded-in : length (bodyOf line) ≤ length out → spelledOf line ≡ true → overlay (bodyOf line) out ≡ decodedIn line out
+    unfolding decodedIn
+    decoded-in h e = rw (e, le-leb (length (bodyOf line)) (length out) h)
+
+    pub decoded-length : length (bodyOf line) ≤ length out → framedOf line ≡ true → length (bodyOf line) ≡ length (soundBody line (length out))
+    unfolding soundBody
+    decoded-length h e = rw (e, le-leb (length (bodyOf line)) (length out) h)
+
+    pub decoded-none : framedOf line ≡ false → 0 ≡ length (soundBody line (length out))
+    unfolding soundBody
+    decoded-none e = rw e
+
+    -- a frame that has room is decoded whole
+    pub decoded-whole : framedOf line ≡ true → length (bodyOf line) ≤ length out → (soundBody line (length out) ≡ bodyOf line) × (decodedIn line out ≡ overlay (bodyOf line) out)
+    unfolding soundBody decodedIn
+    decoded-whole e h = rw (e, framed-spelled line e, le-leb (length (bodyOf line)) (length out) h) (refl, refl)
+
+-- what is decoded has room
+pub sound-short : (line : List ℕ) (room : ℕ) → length (soundBody line room) ≤ room
+unfolding soundBody
+sound-short line room = go (framedOf line) (leb (length (bodyOf line)) room) refl
+  where
+    go : (f l : Bool) → leb (length (bodyOf line)) room ≡ l → length (cond (f && l) (bodyOf line) []) ≤ room
+    go true true e = leb-true (length (bodyOf line)) room e
+    go true false e = omega arith
+    go false l e = omega arith
+
+-- the front of the buffer is what is decoded
+pub decoded-front : (line out : List ℕ) (n : ℕ) → n ≡ length (soundBody line (length out)) → take n (decodedIn line out) ≡ soundBody line (length out)
+unfolding soundBody decodedIn
+decoded-front line out n e = go (framedOf line) (spelledOf line) (leb (length (bodyOf line)) (length out)) (framed-spelled line) e
+  where
+    go : (f s l : Bool) → (f ≡ true → s ≡ true) → n ≡ length (cond (f && l) (bodyOf line) []) → take n (cond (s && l) (overlay (bodyOf line) out) out) ≡ cond (f && l) (bodyOf line) []
+    go true true true h e = take-at (bodyOf line) (drop (length (bodyOf line)) out) n (sym e)
+    go true true false h e = rw e
+    go true false l h e = absurd (true≢false (sym (h refl)))
+    go false s l h e = rw e
 
 -- ---- digits at the front of a buffer
 

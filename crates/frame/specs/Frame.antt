@@ -5,6 +5,7 @@ use Prim.Native.Nat.{ℕ, _+_, _*_, _-_, _/_, _%_}
 use lib.Dec.{eqb, leb, ltb}
 use lib.ListN.{getD, length, take}
 use Rattle.common.specs.Answer.{Answer, granted, require}
+use Rattle.common.specs.Buffer.{overlay}
 use Rattle.common.specs.Index.{tabulate}
 
 -- ---- digits: lower-case hex
@@ -67,6 +68,14 @@ framedOf line = spelledOf line && leb 1 (length (bytesOf line)) && eqb (sumOf (b
 -- all bytes but the last
 unfoldable pub bodyOf : List ℕ → List ℕ
 bodyOf line = take (length (bytesOf line) - 1) (bytesOf line)
+
+-- the body of a line that is a frame, where it has so many bytes at most, and no bytes otherwise: of no bytes nothing is read
+unfoldable pub soundBody : List ℕ → ℕ → List ℕ
+soundBody line room = cond (framedOf line && leb (length (bodyOf line)) room) (bodyOf line) []
+
+-- what a buffer holds in which a line is decoded: the body at its front where the line is spelled and its body fits, else what it held
+unfoldable pub decodedIn : List ℕ → List ℕ → List ℕ
+decodedIn line out = cond (spelledOf line && leb (length (bodyOf line)) (length out)) (overlay (bodyOf line) out) out
 
 -- n bytes of a line's body from index i on, with 0 past its end
 unfoldable pub bodyFrom : List ℕ → ℕ → ℕ → List ℕ

@@ -7,10 +7,11 @@ ghost use mathlib.Core.Bool.{true};
 ghost use mathlib.Core.List.{_++_};
 ghost use mathlib.Core.Path.{_≡_};
 ghost use Prim.Native.Nat.{_+_, _*_, _-_, _<_, _≤_, _/_, _%_};
+ghost use lib.Dec.{eqb};
 ghost use lib.ListN.{getD, length, set, take};
 ghost use Rattle.common.specs.Buffer.{WrittenTo, overlay};
 ghost use Rattle.common.specs.Index.{every, tabulate};
-ghost use Rattle.frame.specs.Frame.{bodyFrom, bodyOf, bytesOf, digitOf, digitsOf, frameAnswerOf, framedOf, isDigit, spelledOf, sumOf, digitValue};
+ghost use Rattle.frame.specs.Frame.{bodyFrom, bodyOf, bytesOf, decodedIn, digitOf, digitsOf, frameAnswerOf, framedOf, isDigit, soundBody, spelledOf, sumOf, digitValue};
 
 // A longer body is not written.
 pub const MAX_BODY: usize = 65536;
@@ -246,28 +247,113 @@ fn pair_value(p: u16) -> u16
     (h % 16 * 16 + l % 16) + 9 * (h / 64 * 16 + l / 64)
 }
 
-// The sum of the bytes of a line that is spelled, modulo 256.
-fn sum(line: &[u8]) -> u16
-    requires { ⌜ spelledOf (now line) ≡ true ⌝ }
-    ensures { λ r. ⌜ r ≡ sumOf (bytesOf (now (line .entry))) % 256 ⌝ }
+// Byte i of a line that is spelled, the last one, which makes the sum, among them.
+fn spelled_byte(line: &[u8], i: usize) -> u8
+    requires { ⌜ (spelledOf (now line) ≡ true) × (i < length (now line) / 2) ⌝ }
+    ensures { λ r. ⌜ r ≡ getD (bytesOf (now (line .entry))) i 0 ⌝ }
 {
-    let mut s: u16 = 0;
-    let mut i = 0;
-    while i < line.len() / 2 {
-        s = num::wrapping_add_u16(s, pair_value(pair(line, i)));
-        i += 1;
-    }
-    s % 256
+    pair_value(pair(line, i)) as u8
 }
 
-// Whether a line is the frame of some body.
-pub fn framed(line: &[u8]) -> bool
-    ensures { λ r. ⌜ r ≡ framedOf (now (line .entry)) ⌝ }
+// Bytes of a line that is spelled, from index i on, in all of block.
+fn spelled_block(line: &[u8], i: usize, block: &mut [u8])
+    requires { ⌜ (spelledOf (now line) ≡ true) × (i + length (now block) ≤ length (now line) / 2) ⌝ }
+    ensures { λ _. ⌜ now (block .exit) ≡ tabulate (λ k. getD (bytesOf (now (line .entry))) (i + k) 0) (length (now (block .entry))) ⌝ }
 {
-    if !spelled(line) {
-        return false;
+    let mut k = 0;
+    while k < block.len() {
+        block[k] = spelled_byte(line, i + k);
+        k += 1;
     }
-    (1 <= line.len() / 2) & (sum(line) == 0)
+}
+
+// A block of the bytes of a line that is spelled, at index i of out, where those before it are there already. It is made in an array of its own,
+// which the compiler knows to be apart from the line.
+fn fill_block(line: &[u8], out: &mut [u8], i: usize)
+    requires { ⌜ (spelledOf (now line) ≡ true) × (length (now out) ≤ length (now line) / 2) × (i + 16 ≤ length (now out)) × (take i (now out) ≡ take i (bytesOf (now line))) ⌝ }
+    ensures { λ _. ⌜ take (i + 16) (now (out .exit)) ≡ take (i + 16) (bytesOf (now (line .entry))) ⌝ }
+    ensures { λ _. ⌜ length (now (out .exit)) ≡ length (now (out .entry)) ⌝ }
+{
+    let mut block = [0u8; BLOCK];
+    spelled_block(line, i, &mut block);
+    let mut k = 0;
+    while k < BLOCK {
+        out[i + k] = block[k];
+        k += 1;
+    }
+}
+
+// Fills the front of out with blocks of the bytes of a line that is spelled; the index past them.
+fn fill_blocks(line: &[u8], out: &mut [u8]) -> usize
+    requires { ⌜ (spelledOf (now line) ≡ true) × (length (now out) ≤ length (now line) / 2) ⌝ }
+    ensures { λ r. ⌜ (r ≤ length (now (out .entry))) × (take r (now (out .exit)) ≡ take r (bytesOf (now (line .entry)))) ⌝ }
+    ensures { λ _. ⌜ length (now (out .exit)) ≡ length (now (out .entry)) ⌝ }
+{
+    let mut i = 0;
+    while i + BLOCK <= out.len() {
+        fill_block(line, out, i);
+        i += BLOCK;
+    }
+    i
+}
+
+// Fills out with the first bytes of a line that is spelled.
+fn fill(line: &[u8], out: &mut [u8])
+    requires { ⌜ (spelledOf (now line) ≡ true) × (length (now out) ≤ length (now line) / 2) ⌝ }
+    ensures { λ _. ⌜ now (out .exit) ≡ take (length (now (out .entry))) (bytesOf (now (line .entry))) ⌝ }
+{
+    let mut i = fill_blocks(line, out);
+    while i < out.len() {
+        out[i] = spelled_byte(line, i);
+        i += 1;
+    }
+}
+
+// Whether the sum of the bytes and of one more is a multiple of 256.
+fn sums_up(bytes: &[u8], check: u8) -> bool
+    ensures { λ r. ⌜ r ≡ eqb ((sumOf (now (bytes .entry)) + check) % 256) 0 ⌝ }
+{
+    let mut s = check as u16;
+    let mut i = 0;
+    while i < bytes.len() {
+        s = num::wrapping_add_u16(s, bytes[i] as u16);
+        i += 1;
+    }
+    s % 256 == 0
+}
+
+// Decodes a line that is spelled, its body in all of out, and answers whether it is a frame.
+fn decode_spelled(line: &[u8], out: &mut [u8]) -> bool
+    requires { ⌜ (spelledOf (now line) ≡ true) × (length (now out) + 1 ≡ length (now line) / 2) ⌝ }
+    ensures { λ r. ⌜ r ≡ framedOf (now (line .entry)) ⌝ }
+    ensures { λ _. ⌜ now (out .exit) ≡ bodyOf (now (line .entry)) ⌝ }
+{
+    fill(line, out);
+    sums_up(out, spelled_byte(line, out.len()))
+}
+
+// Tests a line and decodes it, its body at the front of out: how many bytes that is, 0 where the line is no frame or has no room. Digits are
+// tested first; then bytes are made by arithmetic that is right for digits alone, and added up where they were put.
+pub fn decode(line: &[u8], out: &mut [u8]) -> usize
+    ensures { λ r. ⌜ r ≡ length (soundBody (now (line .entry)) (length (now (out .entry)))) ⌝ }
+    ensures { λ _. ⌜ now (out .exit) ≡ decodedIn (now (line .entry)) (now (out .entry)) ⌝ }
+{
+    let bytes = line.len() / 2;
+    if bytes == 0 {
+        return 0;
+    }
+    let n = bytes - 1;
+    if out.len() < n {
+        return 0;
+    }
+    if !spelled(line) {
+        return 0;
+    }
+    if decode_spelled(line, &mut out[..n]) {
+        n
+    } else {
+        0
+    }
 }
 
 // The two digits of b at index at.

@@ -1,6 +1,6 @@
 -- The laws of what a body of an alias entry is judged by: it is the form of the entry that stands in it, and that this is valid.
 use mathlib.Core.Bool.{Bool, true, false, cond, _&&_, _||_, and-true}
-use mathlib.Core.List.{List, _++_}
+use mathlib.Core.List.{List, []}
 use mathlib.Core.Logic.{⊎-elim}
 use mathlib.Core.Path.{_≡_, refl, sym, ap, ap₂, _∙_}
 use Prim.Native.Nat.{ℕ, zero, suc, _+_, _≤_, _<_}
@@ -14,21 +14,22 @@ use Rattle.common.specs.Answer.{isGranted, require, granted}
 use Rattle.common.specs.Buffer.{overlay}
 use Rattle.common.specs.Index.{every, tabulate}
 use Rattle.label.specs.Label
-use Rattle.common.proofs.BoolLaws.{first-true, same-truth, second-true}
+use Rattle.common.proofs.BoolLaws.{first-true, not-so, same-truth, second-true}
 use Rattle.common.proofs.BufferLaws.{overlay-length}
 use Rattle.common.proofs.IndexLaws.{every-all, every-at, le-or-lt, tabulate-at, tabulate-is, tabulate-length}
 use Rattle.label.proofs.LabelLaws.{equal-exact}
-use Rattle.frame.specs.Frame.{bodyFrom, bodyOf, framedOf}
+use Rattle.frame.specs.Frame.{bodyOf, decodedIn, framedOf, soundBody}
+use Rattle.frame.proofs.FrameLoops.{decoded-whole}
 use Rattle.hexline.specs.Accept.{TextsAt, judgedEntry, noEntry, spanPart, textOk, valueByteOk}
 use Rattle.hexline.specs.Body.{byteAt, labelAt, labelSize, lineWords}
-use Rattle.hexline.specs.Entry.{abbreviationSize, atMost, entryFrom, isLetter, isNameByte, labelFrom, layoutOf, nameByteAt, nameByteOk, nameOf, nameSize, past, spanBytes, textByte, textFrom, validOf, valueByClass, valueOk, valueSize}
+use Rattle.hexline.specs.Entry.{abbreviationSize, atMost, entryFrom, entrySize, isLetter, isNameByte, labelFrom, layoutOf, maxAbbreviation, maxName, nameByteAt, nameByteOk, nameOf, nameSize, past, spanBytes, textByte, textFrom, validOf, valueByClass, valueOk, valueSize}
 use Rattle.hexline.specs.Line.{abbreviationIn, contentsOf, entryForm, entryIn, nameIn, readEntryLine}
 use Rattle.hexline.specs.declared.accept.Judged.{Judged}
 use Rattle.hexline.specs.declared.entry.Entry.{Entry}
 use Rattle.hexline.specs.declared.entry.Layout.{Layout}
 use Rattle.hexline.specs.declared.entry.Span.{Span}
 use Rattle.hexline.proofs.EntryLaws.{text-byte}
-use Rattle.hexline.proofs.LineLaws.{entry-form-parts}
+use Rattle.hexline.proofs.LineLaws.{by-contents, entry-form-parts}
 use Rattle.hexline.proofs.StandingLaws.{abbreviation-stands, name-stands}
 
 pub every-more : (f : ℕ → Bool) (i : ℕ) → every f (i + 1) ≡ (every f i && f i)
@@ -106,31 +107,46 @@ name-at w bs i = go (eqb (byteAt bs i) 3)
     go true = omega arith
     go false = omega arith
 
-pub form-short : (bs : List ℕ) → entryForm 4 lineWords bs ≡ true → length bs ≤ 83
-form-short bs e =
-    let f = entry-form-parts 4 lineWords bs e in
-    omega (arith, f .name, f .abbreviation, f .size, abbreviation-at lineWords bs 1, name-at lineWords bs 1)
+pub form-room : (kind w : ℕ) (bs : List ℕ) → entryForm kind w bs ≡ true → length bs ≤ 1 + entrySize w
+form-room kind w bs e =
+    let f = entry-form-parts kind w bs e in
+    omega (arith, f .name, f .abbreviation, f .size, abbreviation-at w bs 1, name-at w bs 1)
+
+-- the parts of the entry lie in the body
+pub form-parts : (kind w : ℕ) (bs : List ℕ) {p : Layout} → p ≡ layoutOf w bs 1 → entryForm kind w bs ≡ true
+    → (2 + valueSize w (p .class) ≤ length bs) × (past (p .name) ≤ length bs) × (past (p .abbreviation) ≤ length bs)
+unfolding layoutOf
+form-parts kind w bs q e =
+    let f = entry-form-parts kind w bs e in
+    let l = layoutOf w bs 1 in
+    let v : l .name .at ≡ 2 + valueSize w (l .class) + 1 = refl in
+    let at = abbreviation-at w bs 1 in
+    rw q (omega (arith, f .size, at, v), omega (arith, f .size, at), omega (arith, f .size))
 
 -- what is tested of such a body
-abbrev pub judged : List ℕ → Bool
-judged bs =
-    valueByteOk (layoutOf lineWords bs 1 .class) (byteAt bs 2) && leb 1 (layoutOf lineWords bs 1 .name .length)
-    && textOk (take (layoutOf lineWords bs 1 .name .length) (drop (layoutOf lineWords bs 1 .name .at) bs))
-    && textOk (drop (layoutOf lineWords bs 1 .abbreviation .at) bs)
+abbrev pub judged : ℕ → List ℕ → Bool
+judged w bs =
+    valueByteOk (layoutOf w bs 1 .class) (byteAt bs 2) && leb 1 (layoutOf w bs 1 .name .length)
+    && textOk (take (layoutOf w bs 1 .name .length) (drop (layoutOf w bs 1 .name .at) bs))
+    && textOk (drop (layoutOf w bs 1 .abbreviation .at) bs)
 
-pub body-judged : (bs : List ℕ) → byteAt bs 2 < 256 → entryForm 4 lineWords bs ≡ true → validOf (entryIn lineWords bs) ≡ judged bs
+pub body-judged : (kind w : ℕ) (bs : List ℕ) → byteAt bs 2 < 256 → entryForm kind w bs ≡ true → validOf (entryIn w bs) ≡ judged w bs
 unfolding validOf entryFrom
-body-judged bs small e =
-    let f = entry-form-parts 4 lineWords bs e in
-    let p = layoutOf lineWords bs 1 in
+body-judged kind w bs small e =
+    let f = entry-form-parts kind w bs e in
+    let p = layoutOf w bs 1 in
     let n = p .name in
     let a = p .abbreviation in
-    let at = abbreviation-at lineWords bs 1 in
+    let at = abbreviation-at w bs 1 in
     let d = length-drop (a .at) bs in
-    ap₂ _&&_ (ap₂ _&&_ (ap (λ (v : Bool). v && leb 1 (n .length)) (value-judged lineWords bs (p .class) 2 small (f .low) (f .high)))
+    ap₂ _&&_ (ap₂ _&&_ (ap (λ (v : Bool). v && leb 1 (n .length)) (value-judged w bs (p .class) 2 small (f .low) (f .high)))
     (text-judged nameSize bs (n .at) (n .length) (omega (arith, f .name)) (omega (arith, f .size))))
     (text-judged abbreviationSize bs (a .at) (a .length) (omega (arith, f .abbreviation)) (omega (arith, f .size))
     ∙ ap textOk (take-all (a .length) (drop (a .at) bs) (omega (arith, f .size))))
+
+-- of no bytes nothing is read
+pub no-entry : (kind w : ℕ) → entryForm kind w [] ≡ false
+no-entry kind w = not-so (entryForm kind w []) (λ e. absurd (omega (arith, form-parts kind w [] refl e .0)))
 
 -- ---- a line
 
@@ -151,18 +167,27 @@ accepted-form line e =
 
 -- the body of an accepted line has at most 83 bytes
 pub accepted-short : (line : List ℕ) → isGranted (readEntryLine line) ≡ true → length (bodyOf line) ≤ 83
-accepted-short line e = form-short (bodyOf line) (accepted-form line e)
+accepted-short line e = form-room 4 lineWords (bodyOf line) (accepted-form line e)
 
--- the bytes of its body at the front of a buffer
-pub decoded : (line out copied : List ℕ) (n : ℕ) → n ≡ length (bodyOf line) → n ≤ length out → copied ≡ bodyFrom line 0 (length (take n out))
-    → (copied ++ drop n out) ≡ overlay (bodyOf line) out
-unfolding bodyFrom
-decoded line out copied n e h c =
-    let whole : tabulate (λ k. byteAt (bodyOf line) (0 + k)) (length (bodyOf line)) ≡ bodyOf line = sym
-    (tabulate-is (λ k. byteAt (bodyOf line) (0 + k)) (bodyOf line) (length (bodyOf line)) 0 refl (λ i l. ap (byteAt (bodyOf line)) (omega arith))) in
-    ap₂ (λ (t : List ℕ) (m : ℕ). t ++ drop m out) (c ∙ ap (bodyFrom line 0) (length-take-le n out h ∙ e) ∙ whole) e
+-- such a line is judged by what is decoded
+pub accepted-by : (line : List ℕ) → let bs = soundBody line 83 in isGranted (readEntryLine line) ≡ (entryForm 4 lineWords bs && validOf (entryIn lineWords bs))
+unfolding contentsOf
+accepted-by line =
+    ap isGranted (by-contents (entryForm 4 lineWords) (entryIn lineWords) validOf line 83 (no-entry 4 lineWords) (form-room 4 lineWords))
+    ∙ go (entryForm 4 lineWords (soundBody line 83) && validOf (entryIn lineWords (soundBody line 83))) (entryIn lineWords (soundBody line 83))
+  where
+    go : (v : Bool) (x : Entry) → isGranted (require v 22 (granted x)) ≡ v
+    go true x = refl
+    go false x = refl
 
-pub front-decoded : (bs out : List ℕ) (n : ℕ) → n ≡ length bs → take n (overlay bs out) ≡ bs
+accepted-framed : (line : List ℕ) → isGranted (readEntryLine line) ≡ true → framedOf line ≡ true
+accepted-framed line e = first-true (framedOf line) (entryForm 4 lineWords (bodyOf line) && validOf (entryIn lineWords (bodyOf line))) (sym (accepted-as line) ∙ e)
+
+pub accepted-whole : (line : List ℕ) → isGranted (readEntryLine line) ≡ true
+    → (soundBody line 83 ≡ bodyOf line) × (decodedIn line (replicate 83 0) ≡ overlay (bodyOf line) (replicate 83 0))
+accepted-whole line e = decoded-whole line (replicate 83 0) (accepted-framed line e) (accepted-short line e)
+
+front-decoded : (bs out : List ℕ) (n : ℕ) → n ≡ length bs → take n (overlay bs out) ≡ bs
 front-decoded bs out n e = take-at bs (drop (length bs) out) n (sym e)
 
 -- the bytes of a buffer at a span, where a body is at its front

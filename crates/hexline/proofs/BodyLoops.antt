@@ -1,7 +1,7 @@
 -- What the functions of `body` need at each turn of a loop.
 use mathlib.Core.Bool.{cond}
 use mathlib.Core.List.{List, _∷_, [], _++_, append-assoc, append-nil}
-use mathlib.Core.Path.{_≡_, refl, sym, ap, _∙_}
+use mathlib.Core.Path.{_≡_, refl, sym, ap, ap₂, _∙_}
 use Prim.Native.Nat.{ℕ, _+_, _*_, _/_, _%_, _^_, _≤_, _<_}
 use native.Mathlib.Nat.{add-zero, lt-of-lt-of-le, pow-le-pow-right, zero-lt-suc}
 use native.Mathlib.Numerals.{add-one}
@@ -10,13 +10,14 @@ use lib.Dec.{ltb}
 use lib.ListN.{length, set, take, length-append, length-set}
 use lib.Seq.{length-take-le, take-at, take-length, take-suc-set}
 use Rattle.common.specs.Index.{tabulate}
+use Rattle.label.specs.Label.{labelOf}
 use Rattle.label.specs.Words.{wordAt, words as setWords}
 use Rattle.common.proofs.IndexLaws.{tabulate-at, tabulate-length}
 use Rattle.label.specs.declared.Label.{Label}
 use Rattle.frame.specs.Frame.{bodyFrom, bodyOf}
 use Rattle.frame.proofs.FrameLaws.{Bytes}
 use Rattle.frame.proofs.FrameLoops.{store-next, store-none, tabulate-more, tabulate-same}
-use Rattle.hexline.specs.Body.{BodyAppended, byteAt, categoryByte, labelBytes, labelSize, baseNumber, wordFrom}
+use Rattle.hexline.specs.Body.{BodyAppended, byteAt, categoryByte, labelAt, labelBytes, labelSize, baseNumber, wordFrom}
 use Rattle.hexline.proofs.BodyLaws.{word-byte}
 use Rattle.hexline.proofs.NumberLaws.{number-bound, number-moved}
 
@@ -108,3 +109,9 @@ copied-word line at w j h =
     ap (λ (n : ℕ). cond (ltb j w) n 0)
     (number-moved 256 (byteAt (bodyFrom line at (labelSize setWords))) (byteAt (bodyOf line)) (1 + 8 * j) (at + 1 + 8 * j) 8
     (λ k l. copied-byte line at (1 + 8 * j + k) (omega arith) ∙ ap (byteAt (bodyOf line)) (omega arith)))
+
+-- together they are the label
+pub copied-label : (line : List ℕ) (at w : ℕ) → labelAt w (bodyFrom line at (labelSize setWords)) 0 ≡ labelAt w (bodyOf line) at
+unfolding labelAt
+copied-label line at w =
+    ap₂ labelOf (copied-hierarchy line at) (tabulate-same _ _ setWords (λ j h. copied-word line at w j h))

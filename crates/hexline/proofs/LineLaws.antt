@@ -1,54 +1,79 @@
 -- The laws of lines by their kind, and the ways in which their readers and writers end.
-use mathlib.Core.Bool.{Bool, true, false, not, _&&_, true≢false}
-use mathlib.Core.List.{List}
+use mathlib.Core.Bool.{Bool, true, false, cond, not, _&&_, and-false, true≢false}
+use mathlib.Core.List.{List, []}
 use mathlib.Core.Logic.{_↔_}
 use mathlib.Core.Option.{none}
 use mathlib.Core.Path.{_≡_, refl, sym, ap, _∙_}
-use Prim.Native.Nat.{ℕ, _+_, _*_, _≤_, _<_}
+use Prim.Native.Nat.{ℕ, zero, suc, _+_, _*_, _≤_, _<_}
 use native.Mathlib.Omega.{arith}
 use lib.Dec.{eqb, leb, ltb}
 use lib.ListN.{length}
-use borrow.Author.Tests.{eq-eqb, eqb-true, le-leb, leb-true, ltb-true, not-false, not-true}
-use Rattle.common.specs.Answer.{Answered, granted, isGranted, refused, require}
+use borrow.Author.Tests.{eq-eqb, eqb-true, le-leb, leb-false, leb-true, lt-leb, ltb-true, not-false, not-true}
+use Rattle.common.specs.Answer.{Answer, Answered, granted, isGranted, refused, require}
 use Rattle.common.specs.Buffer.{WrittenTo}
 use Rattle.label.specs.Region.{regions}
+use Rattle.label.specs.Words.{bit}
+use Rattle.common.specs.declared.answer.Outcome.{Outcome}
 use Rattle.common.specs.declared.answer.Outcome.the-variants.{Granted, Refused}
 use Rattle.common.specs.declared.answer.Written.{Written}
 use Rattle.common.specs.declared.answer.Written.the-variants.{Refused as RefusedWrite}
 use Rattle.common.specs.declared.errno.Errno.the-variants.{Invalid}
-use Rattle.common.proofs.AnswerLaws.{answers-grant, answers-refusal, grant-passed, grant-told, passed, stopped}
+use Rattle.common.proofs.AnswerLaws.{answers-grant, answers-refusal, answers-same, grant-passed, grant-told, passed, stopped}
 use Rattle.common.proofs.BufferLaws.{writes-nothing}
 use Rattle.common.proofs.BoolLaws.{both, first-true, not-so, second-true, three-true}
-use Rattle.frame.specs.Frame.{bodyOf, frameAnswerOf, frameOf, framedOf, maxBody, readBody}
+use Rattle.frame.specs.Frame.{bodyOf, frameAnswerOf, frameOf, framedOf, maxBody, readBody, soundBody}
 use Rattle.frame.proofs.FrameLaws.{Bytes, frame-length, reads-back, reads-exactly}
-use Rattle.hexline.specs.Body.{byteAt, rangeSize}
+use Rattle.frame.proofs.FrameLoops.{sound-short}
+use Rattle.hexline.specs.Body.{byteAt, lineWords, rangeSize}
 use Rattle.hexline.specs.Entry.{layoutOf, maxAbbreviation, maxName, past}
 use Rattle.hexline.specs.Regions.{presentBelow}
-use Rattle.hexline.specs.Line.{contentsOf, entryForm, bodyForm, lineKindOf, lineOf, tupleForm}
+use Rattle.hexline.specs.Line.{contentsOf, entryForm, bodyForm, kindIn, kindNumbered, lineKindOf, lineOf, longestBody, tupleForm}
 
--- ---- how a reader ends
+-- ---- how a reader of a body ends
 
-module _ {A : Type 0} (form : List ℕ → Bool) (contents : List ℕ → A) (valid : A → Bool) (line : List ℕ) (z : A) where
-  as-one-test : readBody (contentsOf form contents valid) line
-      ≡ require (framedOf line && form (bodyOf line) && valid (contents (bodyOf line))) 22 (granted (contents (bodyOf line)))
+module _ {A : Type 0} (form : List ℕ → Bool) (contents : List ℕ → A) (valid : A → Bool) (bs : List ℕ) (z : A) where
+  pub body-refused : {o : Outcome} {value : A} → (form bs && valid (contents bs)) ≡ false → (o ≡ Refused Invalid) × (value ≡ z) → Answered o value z (contentsOf form contents valid bs)
   unfolding contentsOf
-  as-one-test = go (framedOf line)
+  body-refused e r = rw (r .0) (answers-refusal Invalid _ z _ (stopped _ 22 _ e) (r .1))
+
+  pub body-formless : {o : Outcome} {value : A} → form bs ≡ false → (o ≡ Refused Invalid) × (value ≡ z) → Answered o value z (contentsOf form contents valid bs)
+  body-formless e = body-refused (rw e)
+
+  pub body-invalid : {o : Outcome} {value x : A} → x ≡ contents bs → valid x ≡ false → (o ≡ Refused Invalid) × (value ≡ z) → Answered o value z (contentsOf form contents valid bs)
+  body-invalid h e = body-refused (ap (λ (x : A). form bs && valid x) (sym h) ∙ ap (λ (v : Bool). form bs && v) e ∙ and-false (form bs))
+
+  pub body-granted : {x : A} → (form bs && valid (contents bs)) ≡ true → x ≡ contents bs → Answered Granted x z (contentsOf form contents valid bs)
+  unfolding contentsOf
+  body-granted e h = answers-grant _ z _ _ (passed _ 22 _ e) h
+
+  pub body-read : {x : A} → form bs ≡ true → x ≡ contents bs → valid x ≡ true → Answered Granted x z (contentsOf form contents valid bs)
+  body-read f h e = body-granted (both f (ap valid (sym h) ∙ e)) h
+
+-- a line is read by its body, decoded in a buffer that has room for all bodies of which something is read
+module _ {A : Type 0} (read : List ℕ → Answer A) (line : List ℕ) (room : ℕ) where
+  pub by-body : read [] ≡ refused 22 none → ((bs : List ℕ) → room < length bs → read bs ≡ refused 22 none) → readBody read line ≡ read (soundBody line room)
+  unfolding soundBody
+  by-body empty long = go (framedOf line) (leb (length (bodyOf line)) room) refl
     where
-      go : (f : Bool) → require f 22 (require (form (bodyOf line) && valid (contents (bodyOf line))) 22 (granted (contents (bodyOf line))))
-          ≡ require (f && form (bodyOf line) && valid (contents (bodyOf line))) 22 (granted (contents (bodyOf line)))
-      go true = refl
-      go false = refl
+      go : (f l : Bool) → leb (length (bodyOf line)) room ≡ l → require f 22 (read (bodyOf line)) ≡ read (cond (f && l) (bodyOf line) [])
+      go true true e = refl
+      go true false e = long (bodyOf line) (leb-false (length (bodyOf line)) room e) ∙ sym empty
+      go false l e = sym empty
 
-  -- x is what stands in the line, and f, g and v are the reader's tests
-  module _ {x : A} {f g v : Bool} (p : f ≡ framedOf line) (q : g ≡ form (bodyOf line)) (e : x ≡ contents (bodyOf line)) (r : v ≡ valid x) where
-    tested : (framedOf line && form (bodyOf line) && valid (contents (bodyOf line))) ≡ (f && g && v)
-    tested = rw (p, q, r, e)
+module _ {A : Type 0} (form : List ℕ → Bool) (contents : List ℕ → A) (valid : A → Bool) (line : List ℕ) (room : ℕ) where
+  formless : (bs : List ℕ) → form bs ≡ false → contentsOf form contents valid bs ≡ refused 22 none
+  unfolding contentsOf
+  formless bs e = rw e
 
-    pub accepts : (f && g && v) ≡ true → Answered Granted x z (readBody (contentsOf form contents valid) line)
-    accepts t = answers-grant x z (contents (bodyOf line)) _ (as-one-test ∙ passed _ 22 _ (tested ∙ t)) e
+  pub by-contents : form [] ≡ false → ((bs : List ℕ) → form bs ≡ true → length bs ≤ room)
+      → readBody (contentsOf form contents valid) line ≡ contentsOf form contents valid (soundBody line room)
+  by-contents empty short =
+      by-body (contentsOf form contents valid) line room (formless [] empty) (λ bs l. formless bs (not-so (form bs) (λ h. absurd (omega (arith, short bs h)))))
 
-    pub refuses : {value : A} → (f && g && v) ≡ false → value ≡ z → Answered (Refused Invalid) value z (readBody (contentsOf form contents valid) line)
-    refuses {value} t h = answers-refusal Invalid value z _ (as-one-test ∙ stopped _ 22 _ (tested ∙ t)) h
+  -- n bytes of the buffer are what is decoded
+  pub line-read : {o : Outcome} {value z : A} (bs : List ℕ) → bs ≡ soundBody line room → form [] ≡ false → ((bs : List ℕ) → form bs ≡ true → length bs ≤ room)
+      → Answered o value z (contentsOf form contents valid bs) → Answered o value z (readBody (contentsOf form contents valid) line)
+  line-read bs e empty short r = answers-same r (by-contents empty short ∙ ap (contentsOf form contents valid) (sym e))
 
 -- ---- what a reader grants
 
@@ -122,6 +147,9 @@ pub form-length : (bs : List ℕ) (n kind : ℕ) → bodyForm bs n kind ≡ true
 unfolding bodyForm
 form-length bs n kind e = eqb-true (length bs) n (first-true (eqb (length bs) n) (eqb (byteAt bs 0) kind) e)
 
+pub form-empty : (n kind : ℕ) → bodyForm [] (1 + n) kind ≡ false
+form-empty n kind = not-so (bodyForm [] (1 + n) kind) (λ e. absurd (omega (arith, form-length [] (1 + n) kind e)))
+
 pub form-kind : (bs : List ℕ) (n kind : ℕ) → bodyForm bs n kind ≡ true → byteAt bs 0 ≡ kind
 unfolding bodyForm
 form-kind bs n kind e = eqb-true (byteAt bs 0) kind (second-true (eqb (length bs) n) (eqb (byteAt bs 0) kind) e)
@@ -133,6 +161,22 @@ tuple-form-parts kind w bs e =
     let n = presentBelow (byteAt bs 1) regions * rangeSize w + 2 in
     let f = second-true (ltb (byteAt bs 1) 8) (bodyForm bs n kind) e in
     (ltb-true (byteAt bs 1) 8 (first-true (ltb (byteAt bs 1) 8) (bodyForm bs n kind) e), form-length bs n kind f, form-kind bs n kind f)
+
+-- the body of a tuple is no longer than the longest, and not empty
+below-most : (p n : ℕ) → presentBelow p n ≤ n
+unfolding presentBelow
+below-most p zero = omega arith
+below-most p (suc n) = go (bit p n) (below-most p n)
+  where
+    go : (b : Bool) → presentBelow p n ≤ n → presentBelow p n + cond b 1 0 ≤ suc n
+    go true h = omega arith
+    go false h = omega arith
+
+pub tuple-room : (bs : List ℕ) → tupleForm 3 lineWords bs ≡ true → length bs ≤ longestBody lineWords
+tuple-room bs e = omega (arith, tuple-form-parts 3 lineWords bs e .1, below-most (byteAt bs 1) regions)
+
+pub no-tuple : tupleForm 3 lineWords [] ≡ false
+no-tuple = not-so (tupleForm 3 lineWords []) (λ e. absurd (omega (arith, tuple-form-parts 3 lineWords [] e .1)))
 
 pub record EntryForm (kind w : ℕ) (bs : List ℕ) : Type 0 where
   pub name : layoutOf w bs 1 .name .length ≤ maxName
@@ -179,14 +223,15 @@ module _ {valid test : Bool} (e : test ≡ valid) where
 
 -- ---- the kind of a line
 
-pub kind-is : (line : List ℕ) (n : ℕ) → framedOf line ≡ true → byteAt (bodyOf line) 0 ≡ n → 1 ≤ n → n ≤ 4 → lineKindOf line ≡ granted n
-kind-is line n f e l h = rw (f, e, le-leb 1 n l, le-leb n 4 h)
+pub no-kind : (kind : ℕ) → (kind ≡ 1 → ⊥) → (kind ≡ 2 → ⊥) → (kind ≡ 3 → ⊥) → (kind ≡ 4 → ⊥) → kindNumbered kind ≡ refused 22 none
+no-kind kind a b c d = stopped (leb 1 kind && leb kind 4) 22 _ (not-so (leb 1 kind && leb kind 4) (λ e.
+    none-of kind (leb-true 1 kind (first-true (leb 1 kind) (leb kind 4) e)) (leb-true kind 4 (second-true (leb 1 kind) (leb kind 4) e)) a b c d))
+  where
+    none-of : (k : ℕ) → 1 ≤ k → k ≤ 4 → (k ≡ 1 → ⊥) → (k ≡ 2 → ⊥) → (k ≡ 3 → ⊥) → (k ≡ 4 → ⊥) → ⊥
+    none-of k l h a b c d = omega arith
 
-pub kind-none : (line : List ℕ) → (framedOf line ≡ true → 1 ≤ byteAt (bodyOf line) 0 → byteAt (bodyOf line) 0 ≤ 4 → ⊥) → lineKindOf line ≡ refused 22 none
-kind-none line h =
-    let k = byteAt (bodyOf line) 0 in
-    let no : (framedOf line && leb 1 k && leb k 4) ≡ false =
-    not-so (framedOf line && leb 1 k && leb k 4)
-    (λ e. let both-e = first-true (framedOf line && leb 1 k) (leb k 4) e in
-    h (first-true (framedOf line) (leb 1 k) both-e) (leb-true 1 k (second-true (framedOf line) (leb 1 k) both-e)) (leb-true k 4 (second-true (framedOf line && leb 1 k) (leb k 4) e))) in
-    rw no
+pub kind-told : (line : List ℕ) → kindNumbered (byteAt (soundBody line (longestBody lineWords)) 0) ≡ lineKindOf line
+kind-told line =
+    let most = longestBody lineWords in
+    sym (by-body kindIn line most refl (λ bs l. stopped _ 22 _ (lt-leb (length bs) most l))
+    ∙ passed _ 22 _ (le-leb (length (soundBody line most)) most (sound-short line most)))

@@ -16,7 +16,7 @@ use Rattle.range.specs.declared.tuple.Tuple.{Tuple}
 use Rattle.hexline.specs.Body.{byteAt, labelAt, labelBytes, labelSize, lineWords, rangeAt, rangeBytes, rangeSize}
 use Rattle.hexline.specs.Entry
 use Rattle.hexline.specs.Entry.{abbreviationSize, atMost, entryBytes, entryFrom, layoutOf, maxAbbreviation, maxName, nameSize, past}
-use Rattle.frame.specs.Frame.{bodyOf, frameOf, framedOf, readBody}
+use Rattle.frame.specs.Frame.{bodyOf, frameOf, readBody}
 use Rattle.hexline.specs.Regions.{presenceOf, presentBelow, regionsBytes, tupleAt}
 use Rattle.hexline.specs.declared.entry.Entry.{Entry}
 use Rattle.hexline.specs.declared.entry.Span.{Span}
@@ -136,6 +136,18 @@ kindAnswerOf OfTuple = granted 3
 kindAnswerOf OfEntry = granted 4
 kindAnswerOf (Refused e) = refusedBy e
 
--- the kind that a line says it has: a line that is no frame, or has another kind, is refused with 22
+-- no kind's body is longer than that of a tuple with all its ranges
+abbrev pub longestBody : ℕ → ℕ
+longestBody w = 2 + regions * rangeSize w
+
+-- a number that is no kind's is refused with 22
+abbrev pub kindNumbered : ℕ → Answer ℕ
+kindNumbered kind = require (leb 1 kind && leb kind 4) 22 (granted kind)
+
+-- what a body says: one that is longer than the longest is no body of any kind
+abbrev pub kindIn : List ℕ → Answer ℕ
+kindIn bs = require (leb (length bs) (longestBody lineWords)) 22 (kindNumbered (byteAt bs 0))
+
+-- the kind that a line says it has: a line that is no frame is refused with 22 too
 abbrev pub lineKindOf : List ℕ → Answer ℕ
-lineKindOf line = require (framedOf line && leb 1 (byteAt (bodyOf line) 0) && leb (byteAt (bodyOf line) 0) 4) 22 (granted (byteAt (bodyOf line) 0))
+lineKindOf = readBody kindIn

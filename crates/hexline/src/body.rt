@@ -10,14 +10,15 @@ ghost use Rattle.common.specs.Index.{tabulate};
 ghost use Rattle.label.specs.Label as labels;
 ghost use Rattle.label.specs.Words.{words as setWords};
 ghost use Rattle.range.specs.Range as ranges;
-ghost use Rattle.frame.specs.Frame.{bodyOf};
 ghost use Rattle.hexline.specs.Body.{BodyAppended, byteAt, labelAt, labelBytes, labelSize, baseNumber, rangeAt, rangeBytes, rangeSize, wordFrom};
 
 // How many words a set has in lines of kinds 01 to 04.
 pub(crate) const LINE_WORDS: usize = 4;
 
-// How many bytes a label takes with all words of its set.
-const LABEL_BYTES: usize = 1 + 8 * WORDS;
+// How many bytes a label and a range have there.
+pub(crate) const LABEL_BYTES: usize = 1 + 8 * LINE_WORDS;
+
+pub(crate) const RANGE_BYTES: usize = 2 * LABEL_BYTES;
 
 // The eight bytes of a word at index at, the lowest first. With the word at hand, and not the set, they are stored at once.
 fn put_word(out: &mut [u8], at: usize, w: u64)
@@ -71,44 +72,52 @@ fn word_at(bytes: &[u8], at: usize) -> u64
     w
 }
 
-// Word j of the set in a label's bytes.
-fn set_word(bytes: &[u8], j: usize, words: usize) -> u64
-    requires { ⌜ labelSize (j + 1) ≤ length (now bytes) ⌝ }
-    ensures { λ r. ⌜ r ≡ wordFrom words (now (bytes .entry)) 1 j ⌝ }
+// Byte i of a body, and 0 past its end.
+pub(crate) fn byte(body: &[u8], i: usize) -> u8
+    ensures { λ r. ⌜ r ≡ byteAt (now (body .entry)) i ⌝ }
 {
-    if j < words {
-        return word_at(bytes, 1 + 8 * j);
+    if i < body.len() {
+        return body[i];
     }
     0
 }
 
-// The label at index at of a line's body. Its bytes are copied at once, with one test of the line's length.
-pub(crate) fn label_at(line: &[u8], at: usize, words: usize) -> Label
-    requires { ⌜ at + labelSize words < 2 ^ 64 ⌝ }
-    ensures { λ r. ⌜ r ≡ labelAt words (bodyOf (now (line .entry))) at ⌝ }
+// Word j of the set of a label at index at.
+fn set_word(body: &[u8], at: usize, j: usize, words: usize) -> u64
+    requires { ⌜ at + labelSize words ≤ length (now body) ⌝ }
+    ensures { λ r. ⌜ r ≡ wordFrom words (now (body .entry)) (at + 1) j ⌝ }
 {
-    let mut bytes = [0u8; LABEL_BYTES];
-    frame::copy(line, at, &mut bytes);
+    if j < words {
+        return word_at(body, at + 1 + 8 * j);
+    }
+    0
+}
+
+// The label at index at of a body.
+pub(crate) fn label_at(body: &[u8], at: usize, words: usize) -> Label
+    requires { ⌜ at + labelSize words ≤ length (now body) ⌝ }
+    ensures { λ r. ⌜ r ≡ labelAt words (now (body .entry)) at ⌝ }
+{
     let mut categories = [0u64; WORDS];
     let mut j = 0;
     while j < WORDS {
-        categories[j] = set_word(&bytes, j, words);
+        categories[j] = set_word(body, at, j, words);
         j += 1;
     }
     Label {
-        hierarchy: bytes[0] as u64,
+        hierarchy: body[at] as u64,
         categories,
     }
 }
 
-// The range at index at of a line's body.
-pub(crate) fn range_at(line: &[u8], at: usize, words: usize) -> Range
-    requires { ⌜ at + rangeSize words < 2 ^ 64 ⌝ }
-    ensures { λ r. ⌜ r ≡ rangeAt words (bodyOf (now (line .entry))) at ⌝ }
+// The range at index at of a body.
+pub(crate) fn range_at(body: &[u8], at: usize, words: usize) -> Range
+    requires { ⌜ at + rangeSize words ≤ length (now body) ⌝ }
+    ensures { λ r. ⌜ r ≡ rangeAt words (now (body .entry)) at ⌝ }
 {
     let size = 1 + 8 * words;
     Range {
-        low: label_at(line, at, words),
-        high: label_at(line, at + size, words),
+        low: label_at(body, at, words),
+        high: label_at(body, at + size, words),
     }
 }

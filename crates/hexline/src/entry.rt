@@ -1,5 +1,6 @@
 // Alias entries, and their bytes in a body. An entry holds its name and abbreviation in arrays of their own with lengths, so that it can be
 // handed over by value; bytes past a length are zeros, and so is the label where the class has none.
+use crate::body::byte;
 use crate::body::label_at;
 use crate::body::put_label;
 use common::answer::Outcome;
@@ -12,9 +13,8 @@ ghost use mathlib.Core.Bool.{true};
 ghost use lib.ListN.{length, take};
 ghost use Rattle.common.specs.Index.{every};
 ghost use Rattle.label.specs.Words.{words as setWords};
-ghost use Rattle.frame.specs.Frame.{bodyOf};
 ghost use Rattle.hexline.specs.Body.{BodyAppended, byteAt, labelSize};
-ghost use Rattle.hexline.specs.Entry.{TypedEntry, valueClass, entryBytes, entryFrom, entrySize, isLetter, isNameByte, labelFrom, layoutOf, maxAbbreviation, maxName, nameByteAt, nameByteOk, nameOf, spanOf, textByte, textBytes, textFrom, validOf, valueBytes, valueByClass, valueOk, valueSize, zeroEntry};
+ghost use Rattle.hexline.specs.Entry.{TypedEntry, valueClass, entryBytes, entryFrom, entrySize, isLetter, isNameByte, labelFrom, layoutOf, maxAbbreviation, maxName, nameByteAt, nameByteOk, nameOf, past, spanOf, textByte, textBytes, textFrom, validOf, valueBytes, valueByClass, valueOk, valueSize, zeroEntry};
 
 pub const MAX_NAME: usize = 31;
 
@@ -232,7 +232,7 @@ pub(crate) struct Layout {
     pub abbreviation: Span,
 }
 
-// How many bytes a value of a class has. The second clause of this and the next three follows, and is stated for callers.
+// How many bytes a value of a class has. The second clause of this and the next two follows, and is stated for callers.
 pub(crate) fn value_size(class: u8, words: usize) -> usize
     requires { ⌜ words ≤ setWords ⌝ }
     ensures { λ r. ⌜ r ≡ valueSize words class ⌝ }
@@ -241,35 +241,27 @@ pub(crate) fn value_size(class: u8, words: usize) -> usize
     if class == 3 { 1 + 8 * words } else { 1 }
 }
 
-// A byte of a line's body as a length.
-fn length_at(line: &[u8], i: usize) -> usize
-    ensures { λ r. ⌜ r ≡ byteAt (bodyOf (now (line .entry))) i ⌝ }
-    ensures { λ r. ⌜ r < 256 ⌝ }
-{
-    frame::byte(line, i) as usize
-}
-
 // The text whose length is at index at.
-fn span_at(line: &[u8], at: usize) -> Span
+fn span_in(body: &[u8], at: usize) -> Span
     requires { ⌜ at < 1024 ⌝ }
-    ensures { λ r. ⌜ r ≡ spanOf (bodyOf (now (line .entry))) at ⌝ }
+    ensures { λ r. ⌜ r ≡ spanOf (now (body .entry)) at ⌝ }
     ensures { λ r. ⌜ (r .at ≡ at + 1) × (r .length < 256) ⌝ }
 {
     Span {
         at: at + 1,
-        length: length_at(line, at),
+        length: byte(body, at) as usize,
     }
 }
 
-// The layout of the entry whose class is at index at.
-pub(crate) fn layout_at(line: &[u8], at: usize, words: usize) -> Layout
-    requires { ⌜ (words ≤ setWords) × (at < 256) ⌝ }
-    ensures { λ r. ⌜ r ≡ layoutOf words (bodyOf (now (line .entry))) at ⌝ }
-    ensures { λ r. ⌜ (r .name .at < 512) × (r .abbreviation .at < 768) × (r .abbreviation .length < 256) ⌝ }
+// The layout of the entry in a body.
+pub(crate) fn layout_in(body: &[u8], words: usize) -> Layout
+    requires { ⌜ words ≤ setWords ⌝ }
+    ensures { λ r. ⌜ r ≡ layoutOf words (now (body .entry)) 1 ⌝ }
+    ensures { λ r. ⌜ (r .name .at < 512) × (r .name .length < 256) × (r .abbreviation .at < 768) × (r .abbreviation .length < 256) ⌝ }
 {
-    let class = frame::byte(line, at);
-    let name = span_at(line, at + 1 + value_size(class, words));
-    let abbreviation = span_at(line, name.at + name.length);
+    let class = byte(body, 1);
+    let name = span_in(body, 2 + value_size(class, words));
+    let abbreviation = span_in(body, name.at + name.length);
     Layout {
         class,
         name,
@@ -290,53 +282,53 @@ pub(crate) fn value_from(class: u8, b: u8) -> Value
 }
 
 // The label of an entry of a class, its value at index at.
-pub(crate) fn label_from(line: &[u8], class: u8, at: usize, words: usize) -> Label
-    requires { ⌜ at + labelSize words < 2 ^ 64 ⌝ }
-    ensures { λ r. ⌜ r ≡ labelFrom words (bodyOf (now (line .entry))) class at ⌝ }
+fn label_from(body: &[u8], class: u8, at: usize, words: usize) -> Label
+    requires { ⌜ at + valueSize words class ≤ length (now body) ⌝ }
+    ensures { λ r. ⌜ r ≡ labelFrom words (now (body .entry)) class at ⌝ }
 {
     if class == 3 {
-        return label_at(line, at, words);
+        return label_at(body, at, words);
     }
     label::zero()
 }
 
 // Byte k of a text of n bytes that begins at index at, and 0 past its end.
-fn text_byte(line: &[u8], at: usize, n: usize, k: usize) -> u8
-    requires { ⌜ at + k < 2 ^ 64 ⌝ }
-    ensures { λ r. ⌜ r ≡ textByte (bodyOf (now (line .entry))) at n k ⌝ }
+fn text_byte(body: &[u8], at: usize, n: usize, k: usize) -> u8
+    requires { ⌜ at + n ≤ length (now body) ⌝ }
+    ensures { λ r. ⌜ r ≡ textByte (now (body .entry)) at n k ⌝ }
 {
     if k < n {
-        return frame::byte(line, at + k);
+        return body[at + k];
     }
     0
 }
 
 // Such a text in all of out.
-fn copy_text(line: &[u8], at: usize, n: usize, out: &mut [u8])
-    requires { ⌜ (at < 1024) × (length (now out) < 1024) ⌝ }
-    ensures { λ _. ⌜ now (out .exit) ≡ textFrom (length (now (out .entry))) (bodyOf (now (line .entry))) at n ⌝ }
+fn copy_text(body: &[u8], at: usize, n: usize, out: &mut [u8])
+    requires { ⌜ at + n ≤ length (now body) ⌝ }
+    ensures { λ _. ⌜ now (out .exit) ≡ textFrom (length (now (out .entry))) (now (body .entry)) at n ⌝ }
 {
     let mut k = 0;
     while k < out.len() {
-        out[k] = text_byte(line, at, n, k);
+        out[k] = text_byte(body, at, n, k);
         k += 1;
     }
 }
 
 // The entry of a layout, its value at index at.
-pub(crate) fn entry_from(line: &[u8], at: usize, p: Layout, words: usize) -> Entry
-    requires { ⌜ (at + labelSize words < 2 ^ 64) × (p .name .at < 1024) × (p .abbreviation .at < 1024) ⌝ }
-    ensures { λ r. ⌜ r ≡ entryFrom words (bodyOf (now (line .entry))) at p ⌝ }
+pub(crate) fn entry_from(body: &[u8], at: usize, p: Layout, words: usize) -> Entry
+    requires { ⌜ (at + valueSize words (p .class) ≤ length (now body)) × (past (p .name) ≤ length (now body)) × (past (p .abbreviation) ≤ length (now body)) ⌝ }
+    ensures { λ r. ⌜ r ≡ entryFrom words (now (body .entry)) at p ⌝ }
 {
     let name = p.name;
     let abbreviation = p.abbreviation;
     let mut n = [0u8; NAME_BYTES];
-    copy_text(line, name.at, name.length, &mut n);
+    copy_text(body, name.at, name.length, &mut n);
     let mut a = [0u8; ABBREVIATION_BYTES];
-    copy_text(line, abbreviation.at, abbreviation.length, &mut a);
+    copy_text(body, abbreviation.at, abbreviation.length, &mut a);
     Entry {
-        value: value_from(p.class, frame::byte(line, at)),
-        label: label_from(line, p.class, at, words),
+        value: value_from(p.class, byte(body, at)),
+        label: label_from(body, p.class, at, words),
         name: Name {
             bytes: n,
             length: name.length,

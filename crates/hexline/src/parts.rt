@@ -1,18 +1,25 @@
 // The parts of the alias entry that stands in a line, read where they stand: for a table of lines that were tested, which is then walked without
 // making entries. These functions are total: in any bytes something stands.
 use crate::body::LINE_WORDS;
+use crate::body::label_at;
 use crate::entry::ABBREVIATION_BYTES;
+use crate::entry::Layout;
 use crate::entry::NAME_BYTES;
 use crate::entry::Span;
 use crate::entry::Value;
-use crate::entry::label_from;
-use crate::entry::layout_at;
 use crate::entry::value_from;
+use crate::entry::value_size;
 use label::Label;
+use label::words::WORDS;
 ghost use mathlib.Core.Path.{_≡_};
 ghost use Prim.Native.Nat.{_+_, _<_, _≤_};
-ghost use Rattle.hexline.specs.Entry.{abbreviationSize, atMost, nameSize};
+ghost use Rattle.frame.specs.Frame.{bodyOf};
+ghost use Rattle.hexline.specs.Body.{byteAt, lineWords};
+ghost use Rattle.hexline.specs.Entry.{abbreviationSize, atMost, layoutOf, nameSize, spanOf};
 ghost use Rattle.hexline.specs.Line.{abbreviationIn, nameIn, standingIn};
+
+// How many bytes a label takes with all words of its set.
+const LABEL_BYTES: usize = 1 + 8 * WORDS;
 
 // Where the texts of an entry stand in its line's body.
 pub struct TextSpans {
@@ -28,6 +35,41 @@ fn at_most(most: usize, s: Span) -> Span
     Span { at: s.at, length }
 }
 
+// A byte of a line's body as a length.
+fn length_at(line: &[u8], i: usize) -> usize
+    ensures { λ r. ⌜ r ≡ byteAt (bodyOf (now (line .entry))) i ⌝ }
+    ensures { λ r. ⌜ r < 256 ⌝ }
+{
+    frame::byte(line, i) as usize
+}
+
+// The text whose length is at index at of a line's body.
+fn span_at(line: &[u8], at: usize) -> Span
+    requires { ⌜ at < 1024 ⌝ }
+    ensures { λ r. ⌜ r ≡ spanOf (bodyOf (now (line .entry))) at ⌝ }
+    ensures { λ r. ⌜ (r .at ≡ at + 1) × (r .length < 256) ⌝ }
+{
+    Span {
+        at: at + 1,
+        length: length_at(line, at),
+    }
+}
+
+// The layout of the entry in a line's body.
+fn layout_at(line: &[u8]) -> Layout
+    ensures { λ r. ⌜ r ≡ layoutOf lineWords (bodyOf (now (line .entry))) 1 ⌝ }
+    ensures { λ r. ⌜ (r .name .at < 512) × (r .abbreviation .at < 768) × (r .abbreviation .length < 256) ⌝ }
+{
+    let class = frame::byte(line, 1);
+    let name = span_at(line, 2 + value_size(class, LINE_WORDS));
+    let abbreviation = span_at(line, name.at + name.length);
+    Layout {
+        class,
+        name,
+        abbreviation,
+    }
+}
+
 // What the entry stands for; of a whole label, `label` has the label.
 pub fn value(line: &[u8]) -> Value
     ensures { λ r. ⌜ r ≡ standingIn (now (line .entry)) .value ⌝ }
@@ -39,7 +81,12 @@ pub fn value(line: &[u8]) -> Value
 pub fn label(line: &[u8]) -> Label
     ensures { λ r. ⌜ r ≡ standingIn (now (line .entry)) .label ⌝ }
 {
-    label_from(line, frame::byte(line, 1), 2, LINE_WORDS)
+    if frame::byte(line, 1) == 3 {
+        let mut bytes = [0u8; LABEL_BYTES];
+        frame::copy(line, 2, &mut bytes);
+        return label_at(&bytes, 0, LINE_WORDS);
+    }
+    label::zero()
 }
 
 // Where the name stands in the line's body. The second clause follows, and is stated for callers.
@@ -47,7 +94,7 @@ pub fn name(line: &[u8]) -> Span
     ensures { λ r. ⌜ r ≡ nameIn (now (line .entry)) ⌝ }
     ensures { λ r. ⌜ r .at + r .length < 1024 ⌝ }
 {
-    let p = layout_at(line, 1, LINE_WORDS);
+    let p = layout_at(line);
     at_most(NAME_BYTES, p.name)
 }
 
@@ -56,7 +103,7 @@ pub fn abbreviation(line: &[u8]) -> Span
     ensures { λ r. ⌜ r ≡ abbreviationIn (now (line .entry)) ⌝ }
     ensures { λ r. ⌜ r .at + r .length < 1024 ⌝ }
 {
-    let p = layout_at(line, 1, LINE_WORDS);
+    let p = layout_at(line);
     at_most(ABBREVIATION_BYTES, p.abbreviation)
 }
 
@@ -65,7 +112,7 @@ pub fn texts(line: &[u8]) -> TextSpans
     ensures { λ r. ⌜ (r .name ≡ nameIn (now (line .entry))) × (r .abbreviation ≡ abbreviationIn (now (line .entry))) ⌝ }
     ensures { λ r. ⌜ (r .name .at + r .name .length < 1024) × (r .name .length ≤ nameSize) × (r .abbreviation .at + r .abbreviation .length < 1024) × (r .abbreviation .length ≤ abbreviationSize) ⌝ }
 {
-    let p = layout_at(line, 1, LINE_WORDS);
+    let p = layout_at(line);
     TextSpans {
         name: at_most(NAME_BYTES, p.name),
         abbreviation: at_most(ABBREVIATION_BYTES, p.abbreviation),

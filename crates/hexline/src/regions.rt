@@ -13,7 +13,6 @@ ghost use Rattle.label.specs.Region.{regions};
 ghost use Rattle.label.specs.Words.{bit, words as setWords};
 ghost use Rattle.range.specs.Range as ranges;
 ghost use Rattle.range.specs.Tuple as tuples;
-ghost use Rattle.frame.specs.Frame.{bodyOf};
 ghost use Rattle.hexline.specs.Body.{BodyAppended, rangeSize};
 ghost use Rattle.hexline.specs.Regions.{presenceOf, presentAt, presentBelow, regionAt, regionBytes, regionsBytes, tupleAt};
 
@@ -92,30 +91,30 @@ pub(crate) fn present_below(p: u8, n: usize) -> usize
     k
 }
 
-// Region r of the tuple whose byte of presence is p and whose ranges begin at index at of a line's body.
-fn region_at(line: &[u8], p: u8, at: usize, r: usize, words: usize) -> RegionRange
-    requires { ⌜ (words ≤ setWords) × (r < regions) × (at + regions * rangeSize words < 2 ^ 64) ⌝ }
-    ensures { λ e. ⌜ e ≡ regionAt words (bodyOf (now (line .entry))) p at r ⌝ }
+// Region r of the tuple whose byte of presence is p and whose ranges begin at index at of a body.
+fn region_at(body: &[u8], p: u8, at: usize, r: usize, words: usize) -> RegionRange
+    requires { ⌜ (r < regions) × (words ≤ setWords) × (at + presentBelow p regions * rangeSize words ≤ length (now body)) ⌝ }
+    ensures { λ e. ⌜ e ≡ regionAt words (now (body .entry)) p at r ⌝ }
 {
     if has_region(p, r) {
         let size = (1 + 8 * words) + (1 + 8 * words);
         return RegionRange {
             present: 1,
-            range: range_at(line, at + present_below(p, r) * size, words),
+            range: range_at(body, at + present_below(p, r) * size, words),
         };
     }
     tuple::no_range()
 }
 
-// The tuple whose byte of presence is p and whose ranges begin at index at of a line's body.
-pub(crate) fn tuple_at(line: &[u8], p: u8, at: usize, words: usize) -> Tuple
-    requires { ⌜ (words ≤ setWords) × (at + regions * rangeSize words < 2 ^ 64) ⌝ }
-    ensures { λ t. ⌜ t ≡ tupleAt words (bodyOf (now (line .entry))) p at ⌝ }
+// The tuple whose byte of presence is p and whose ranges begin at index at of a body.
+pub(crate) fn tuple_at(body: &[u8], p: u8, at: usize, words: usize) -> Tuple
+    requires { ⌜ (words ≤ setWords) × (at + presentBelow p regions * rangeSize words ≤ length (now body)) ⌝ }
+    ensures { λ t. ⌜ t ≡ tupleAt words (now (body .entry)) p at ⌝ }
 {
     let mut ranges = [tuple::no_range(); REGIONS];
     let mut r = 0;
     while r < REGIONS {
-        ranges[r] = region_at(line, p, at, r, words);
+        ranges[r] = region_at(body, p, at, r, words);
         r += 1;
     }
     Tuple { ranges }

@@ -5,7 +5,7 @@ use Rattle.hexline.proofs.has_form.Tie as tie
 
 returns : tie.Need-returns
 unfolding bodyForm
-returns c = rw (c .before .body-length .ensures, c .byte .ensures)
+returns c = rw (c .byte .ensures)
 
 pub has-form-spec : {M : Type 1} → statement M
-has-form-spec = tie.close (tie.spec (search needs) (search needs) returns)
+has-form-spec = tie.close (tie.spec (search needs) returns)

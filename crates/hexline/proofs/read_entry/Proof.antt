@@ -1,35 +1,26 @@
 use borrow.Author.Needs.{needs}
+use mathlib.Core.List.{List}
 use mathlib.Core.Path.{_≡_, ap, _∙_}
-use Rattle.frame.specs.Frame.{bodyOf}
+use Prim.Native.Nat.{_+_}
+use native.Mathlib.Omega.{arith}
+use lib.ListN.{replicate, take}
+use Rattle.hexline.specs.Entry.{entrySize, validOf}
+use Rattle.frame.proofs.FrameLoops.{decoded-front}
 use Rattle.hexline.specs.Body.{lineWords}
-use Rattle.hexline.specs.Entry.{entryFrom, validOf, zeroEntry}
 use Rattle.hexline.specs.Line.{entryForm, entryIn}
-use Rattle.hexline.proofs.LineLaws.{accepts, refuses}
+use Rattle.hexline.proofs.AcceptLaws.{form-room, no-entry}
+use Rattle.hexline.proofs.LineLaws.{line-read}
 use Rattle.hexline.proofs.read_entry.Statement.{statement}
 use Rattle.hexline.proofs.read_entry.Tie as tie
 
-has-entry-form-requires : tie.Need-has-entry-form-requires
-has-entry-form-requires c κs = (c .before .before .layout-at .ensures .0, search needs)
-
--- what stands in the line
-stands : (x : tie.After-entry-from) → x .entry-from .result ≡ entryIn lineWords (bodyOf (x .before .before .before .args .line .now))
-stands x = x .entry-from .ensures ∙ ap (entryFrom lineWords (bodyOf (x .before .before .before .args .line .now)) 2) (x .before .layout-at .ensures .0)
-
 returns : tie.Need-returns
 returns c =
-    let v = c .before in
-    let f = v .before in
-    let x = f .before .before in
-    accepts (entryForm 4 lineWords) (entryIn lineWords) validOf (x .before .before .before .args .line .now) zeroEntry (f .before .framed .ensures) (f .has-entry-form .ensures) (stands x) (v .valid .ensures) (c .if1 .taken)
-
-returns-2 : tie.Need-returns-2
-returns-2 c =
-    let v = c .before .before in
-    let f = v .before in
-    let x = f .before .before in
-    refuses (entryForm 4 lineWords) (entryIn lineWords) validOf (x .before .before .before .args .line .now) zeroEntry (f .before .framed .ensures) (f .has-entry-form .ensures) (stands x) (v .valid .ensures) (c .before .if1 .left) (c .zero .ensures)
+    let f = c .before in
+    let d = f .before .before .before in
+    let line = d .before .before .before .args .line .now in
+    line-read (entryForm 4 lineWords) (entryIn lineWords) validOf line (1 + entrySize lineWords) _
+    (f .front .ensures ∙ ap (take (d .decode .result)) (d .decode .ensures .1) ∙ decoded-front line (replicate (1 + entrySize lineWords) 0) (d .decode .result) (d .decode .ensures .0))
+    (no-entry 4 lineWords) (form-room 4 lineWords) (c .entry-of .ensures)
 
 pub read-entry-spec : {M : Type 1} → statement M
-read-entry-spec =
-    tie.close (tie.spec (search needs) (search needs) (search needs) has-entry-form-requires (search needs) returns (search needs)
-    returns-2)
+read-entry-spec = tie.close (tie.spec (search needs) (search needs) (search needs) (search needs) (search needs) returns)

@@ -1,27 +1,26 @@
 use borrow.Author.Needs.{needs}
-use Rattle.label.specs.Label.{validOf, zeroLabel}
-use Rattle.hexline.specs.Body.{lineWords}
+use mathlib.Core.List.{List}
+use mathlib.Core.Path.{_≡_, ap, _∙_}
+use Prim.Native.Nat.{_+_}
+use native.Mathlib.Omega.{arith}
+use lib.ListN.{replicate, take}
+use Rattle.label.specs.Label.{validOf}
+use Rattle.frame.proofs.FrameLoops.{decoded-front}
+use Rattle.hexline.specs.Body.{labelSize, lineWords}
 use Rattle.hexline.specs.Line.{labelForm, labelInBody}
-use Rattle.hexline.proofs.LineLaws.{accepts, refuses}
+use Rattle.hexline.proofs.LineLaws.{form-empty, form-length, line-read}
 use Rattle.hexline.proofs.read_label.Statement.{statement}
 use Rattle.hexline.proofs.read_label.Tie as tie
 
 returns : tie.Need-returns
 unfolding labelForm
 returns c =
-    let v = c .before in
-    let f = v .before in
-    let l = f .before .before in
-    accepts (labelForm 1 lineWords) (labelInBody lineWords) validOf (l .before .before .args .line .now) zeroLabel (f .before .framed .ensures) (f .has-form .ensures) (l .label-at .ensures) (v .valid .ensures) (c .if1 .taken)
-
-returns-2 : tie.Need-returns-2
-unfolding labelForm
-returns-2 c =
-    let v = c .before .before in
-    let f = v .before in
-    let l = f .before .before in
-    refuses (labelForm 1 lineWords) (labelInBody lineWords) validOf (l .before .before .args .line .now) zeroLabel (f .before .framed .ensures) (f .has-form .ensures) (l .label-at .ensures) (v .valid .ensures) (c .before .if1 .left) (c .zero .ensures)
+    let f = c .before in
+    let d = f .before .before .before in
+    let line = d .before .before .before .args .line .now in
+    line-read (labelForm 1 lineWords) (labelInBody lineWords) validOf line (1 + labelSize lineWords) _
+    (f .front .ensures ∙ ap (take (d .decode .result)) (d .decode .ensures .1) ∙ decoded-front line (replicate (1 + labelSize lineWords) 0) (d .decode .result) (d .decode .ensures .0))
+    (form-empty (labelSize lineWords) 1) (λ bs e. omega (arith, form-length bs (1 + labelSize lineWords) 1 e)) (c .label-of .ensures)
 
 pub read-label-spec : {M : Type 1} → statement M
-read-label-spec =
-    tie.close (tie.spec (search needs) (search needs) (search needs) (search needs) returns (search needs) returns-2)
+read-label-spec = tie.close (tie.spec (search needs) (search needs) (search needs) (search needs) (search needs) returns)

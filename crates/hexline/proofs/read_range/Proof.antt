@@ -1,27 +1,26 @@
 use borrow.Author.Needs.{needs}
-use Rattle.range.specs.Range.{validOf, zeroRange}
-use Rattle.hexline.specs.Body.{lineWords}
+use mathlib.Core.List.{List}
+use mathlib.Core.Path.{_≡_, ap, _∙_}
+use Prim.Native.Nat.{_+_}
+use native.Mathlib.Omega.{arith}
+use lib.ListN.{replicate, take}
+use Rattle.range.specs.Range.{validOf}
+use Rattle.frame.proofs.FrameLoops.{decoded-front}
+use Rattle.hexline.specs.Body.{rangeSize, lineWords}
 use Rattle.hexline.specs.Line.{rangeForm, rangeIn}
-use Rattle.hexline.proofs.LineLaws.{accepts, refuses}
+use Rattle.hexline.proofs.LineLaws.{form-empty, form-length, line-read}
 use Rattle.hexline.proofs.read_range.Statement.{statement}
 use Rattle.hexline.proofs.read_range.Tie as tie
 
 returns : tie.Need-returns
 unfolding rangeForm
 returns c =
-    let v = c .before in
-    let f = v .before in
-    let x = f .before .before in
-    accepts (rangeForm 2 lineWords) (rangeIn lineWords) validOf (x .before .before .args .line .now) zeroRange (f .before .framed .ensures) (f .has-form .ensures) (x .range-at .ensures) (v .valid .ensures) (c .if1 .taken)
-
-returns-2 : tie.Need-returns-2
-unfolding rangeForm
-returns-2 c =
-    let v = c .before .before in
-    let f = v .before in
-    let x = f .before .before in
-    refuses (rangeForm 2 lineWords) (rangeIn lineWords) validOf (x .before .before .args .line .now) zeroRange (f .before .framed .ensures) (f .has-form .ensures) (x .range-at .ensures) (v .valid .ensures) (c .before .if1 .left) (c .zero .ensures)
+    let f = c .before in
+    let d = f .before .before .before in
+    let line = d .before .before .before .args .line .now in
+    line-read (rangeForm 2 lineWords) (rangeIn lineWords) validOf line (1 + rangeSize lineWords) _
+    (f .front .ensures ∙ ap (take (d .decode .result)) (d .decode .ensures .1) ∙ decoded-front line (replicate (1 + rangeSize lineWords) 0) (d .decode .result) (d .decode .ensures .0))
+    (form-empty (rangeSize lineWords) 2) (λ bs e. omega (arith, form-length bs (1 + rangeSize lineWords) 2 e)) (c .range-of .ensures)
 
 pub read-range-spec : {M : Type 1} → statement M
-read-range-spec =
-    tie.close (tie.spec (search needs) (search needs) (search needs) (search needs) returns (search needs) returns-2)
+read-range-spec = tie.close (tie.spec (search needs) (search needs) (search needs) (search needs) (search needs) returns)

@@ -1,33 +1,23 @@
 use borrow.Author.Needs.{needs}
+use mathlib.Core.List.{List}
 use mathlib.Core.Path.{_≡_, ap, _∙_}
-use Prim.Native.Nat.{ℕ}
-use Rattle.range.specs.Tuple.{emptyTuple, validOf}
-use Rattle.frame.specs.Frame.{bodyOf}
+use lib.ListN.{replicate, take}
+use Rattle.range.specs.Tuple.{validOf}
+use Rattle.frame.proofs.FrameLoops.{decoded-front}
 use Rattle.hexline.specs.Body.{lineWords}
-use Rattle.hexline.specs.Line.{tupleForm, tupleIn}
-use Rattle.hexline.specs.Regions.{tupleAt}
-use Rattle.hexline.proofs.LineLaws.{accepts, refuses}
+use Rattle.hexline.specs.Line.{longestBody, tupleForm, tupleIn}
+use Rattle.hexline.proofs.LineLaws.{line-read, no-tuple, tuple-room}
 use Rattle.hexline.proofs.read_tuple.Statement.{statement}
 use Rattle.hexline.proofs.read_tuple.Tie as tie
 
--- what stands in the line
-stands : (t : tie.After-tuple-at) → t .tuple-at .result ≡ tupleIn lineWords (bodyOf (t .before .before .before .args .line .now))
-stands t = t .tuple-at .ensures ∙ ap (λ (p : ℕ). tupleAt lineWords (bodyOf (t .before .before .before .args .line .now)) p 2) (t .before .byte .ensures)
-
 returns : tie.Need-returns
 returns c =
-    let v = c .before in
-    let f = v .before in
-    let t = f .before .before in
-    accepts (tupleForm 3 lineWords) (tupleIn lineWords) validOf (t .before .before .before .args .line .now) emptyTuple (f .before .framed .ensures) (f .has-tuple-form .ensures) (stands t) (v .valid .ensures) (c .if1 .taken)
-
-returns-2 : tie.Need-returns-2
-returns-2 c =
-    let v = c .before .before in
-    let f = v .before in
-    let t = f .before .before in
-    refuses (tupleForm 3 lineWords) (tupleIn lineWords) validOf (t .before .before .before .args .line .now) emptyTuple (f .before .framed .ensures) (f .has-tuple-form .ensures) (stands t) (v .valid .ensures) (c .before .if1 .left) (c .empty .ensures)
+    let f = c .before in
+    let d = f .before .before .before in
+    let line = d .before .before .before .args .line .now in
+    line-read (tupleForm 3 lineWords) (tupleIn lineWords) validOf line (longestBody lineWords) _
+    (f .front .ensures ∙ ap (take (d .decode .result)) (d .decode .ensures .1) ∙ decoded-front line (replicate (longestBody lineWords) 0) (d .decode .result) (d .decode .ensures .0))
+    no-tuple tuple-room (c .tuple-of .ensures)
 
 pub read-tuple-spec : {M : Type 1} → statement M
-read-tuple-spec =
-    tie.close (tie.spec (search needs) (search needs) (search needs) (search needs) (search needs) returns (search needs) returns-2)
+read-tuple-spec = tie.close (tie.spec (search needs) (search needs) (search needs) (search needs) (search needs) returns)

@@ -7,7 +7,7 @@ use Rattle.hexline.proofs.accept.accepts.Statement.{statement}
 use Rattle.hexline.proofs.accept.accepts.Tie as tie
 
 formed-requires : tie.Need-formed-requires
-formed-requires c κs = (c .layout .ensures .0, search needs)
+formed-requires c κs = (c .layout-in .ensures .0, search needs)
 
 returns : tie.Need-returns
 returns c = rw (told-false (c .before .formed .ensures) (c .if1 .taken))
@@ -21,13 +21,14 @@ returns-2 c =
     let f = r .before in
     let e = f .before .before .before .before in
     let l = e .before .before in
-    let bs = l .before .before .args .body .now in
+    let a = l .before .before .args in
+    let bs = a .body .now in
     let form = told-true (e .before .formed .ensures) (e .if1 .left) in
     let fits : b .byte .result < 256 = search needs in
     let small : byteAt bs 2 < 256 = rw (b .byte .ensures) at fits in
     rw (
       form,
-      body-judged bs small form,
+      body-judged (a .kind) (a .words) bs small form,
       c .text-ok2 .ensures,
       t .text-ok .ensures,
       v .value-ok .ensures,
@@ -35,10 +36,10 @@ returns-2 c =
       r .rest2 .ensures,
       f .front .ensures,
       f .before .rest .ensures,
-      l .layout .ensures .0,
+      l .layout-in .ensures .0,
     )
 
 pub accepts-spec : {M : Type 1} → statement M
 accepts-spec =
-    tie.close (tie.spec (search needs) formed-requires returns (search needs) (search needs) (search needs) (search needs) (search needs) (search needs)
+    tie.close (tie.spec (λ c κs. search needs) formed-requires returns (search needs) (search needs) (search needs) (search needs) (search needs) (search needs)
     (search needs) returns-2)

@@ -13,4 +13,4 @@ unfolding wordFrom
 returns-2 c = rw (le-ltb _ _ (c .if1 .left))
 
 pub set-word-spec : {M : Type 1} → statement M
-set-word-spec = tie.close (tie.spec (search needs) (search needs) (search needs) returns returns-2)
+set-word-spec = tie.close (tie.spec (search needs) (search needs) (search needs) (search needs) returns returns-2)

@@ -4,22 +4,18 @@ use Prim.Native.Nat.{_-_}
 use native.Mathlib.Omega.{arith}
 use lib.ListN.{length}
 use Rattle.common.proofs.IndexLaws.{Filled, fill-all, fill-next, fill-none}
-use Rattle.frame.specs.Frame.{bodyOf}
 use Rattle.hexline.specs.Entry.{textByte, textFrom}
 use Rattle.hexline.proofs.entry.copy_text.Statement.{statement}
 use Rattle.hexline.proofs.entry.copy_text.Tie as tie
 
 abbrev Inv-loop : tie.InvT-loop
-Inv-loop line at n out₀ k₀ out k = Filled (textByte (bodyOf line) at n) (length out₀) out k
+Inv-loop body at n out₀ k₀ out k = Filled (textByte body at n) (length out₀) out k
 
 abbrev μ-loop : tie.MeasureT-loop
-μ-loop line at n out₀ k₀ out k = length out₀ - k
+μ-loop body at n out₀ k₀ out k = length out₀ - k
 
 loop-holds : tie.Need-loop-holds Inv-loop μ-loop
 loop-holds c = fill-none refl
-
-text-byte-requires : tie.Need-text-byte-requires Inv-loop μ-loop
-text-byte-requires c κs = let n = c .before .loop .inv .long in search needs
 
 loop-again : tie.Need-loop-again Inv-loop μ-loop
 loop-again c =
@@ -37,5 +33,5 @@ returns c =
 
 pub copy-text-spec : {M : Type 1} → statement M
 copy-text-spec =
-    tie.close (tie.spec Inv-loop μ-loop loop-holds text-byte-requires (search needs) (search needs) (search needs) loop-again same-length
+    tie.close (tie.spec Inv-loop μ-loop loop-holds (λ c κs. search needs) (search needs) (search needs) (search needs) loop-again same-length
     returns)

@@ -14,4 +14,4 @@ returns c =
 
 pub entry-from-spec : {M : Type 1} → statement M
 entry-from-spec =
-    tie.close (tie.spec (search needs) (search needs) (search needs) (search needs) (search needs) (search needs) (search needs) returns)
+    tie.close (tie.spec (search needs) (λ c κs. search needs) (search needs) (λ c κs. search needs) (search needs) (search needs) (λ c κs. search needs) returns)

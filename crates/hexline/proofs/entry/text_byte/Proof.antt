@@ -6,7 +6,7 @@ use Rattle.hexline.proofs.entry.text_byte.Tie as tie
 
 returns : tie.Need-returns
 unfolding textByte
-returns c = rw (lt-ltb _ _ (c .before .if1 .taken), c .byte .ensures)
+returns c = rw (lt-ltb _ _ (c .before .if1 .taken))
 
 returns-2 : tie.Need-returns-2
 unfolding textByte

@@ -1,12 +1,26 @@
 use borrow.Author.Needs.{needs}
-use Rattle.hexline.specs.Entry.{entryFrom, layoutOf}
+use mathlib.Core.List.{List}
+use mathlib.Core.Path.{_≡_, ap, sym, _∙_}
+use Prim.Native.Nat.{ℕ}
+use borrow.Author.Tests.{eq-eqb, ne-eqb}
+use Rattle.hexline.specs.Body.{labelAt, lineWords}
+use Rattle.hexline.specs.Entry.{entryFrom, labelFrom, layoutOf}
 use Rattle.hexline.specs.Line.{standingIn}
+use Rattle.hexline.proofs.BodyLoops.{copied-label}
 use Rattle.hexline.proofs.parts.label.Statement.{statement}
 use Rattle.hexline.proofs.parts.label.Tie as tie
 
 returns : tie.Need-returns
-unfolding standingIn entryFrom layoutOf
-returns c = rw (c .label-from .ensures, c .before .byte .ensures)
+unfolding standingIn entryFrom layoutOf labelFrom
+returns c =
+    let k = c .before .before .before in
+    let t = k .before .before in
+    let line = t .before .before .before .args .line .now in
+    rw (← t .before .byte .ensures, eq-eqb _ _ (t .if1 .taken)) (c .label-at .ensures ∙ ap (λ (bs : List ℕ). labelAt lineWords bs 0) (k .copy .ensures) ∙ copied-label line 2 lineWords)
+
+returns-2 : tie.Need-returns-2
+unfolding standingIn entryFrom layoutOf labelFrom
+returns-2 c = rw (← c .before .before .byte .ensures, ne-eqb _ _ (c .before .if1 .left), c .zero .ensures)
 
 pub label-spec : {M : Type 1} → statement M
-label-spec = tie.close (tie.spec (search needs) (search needs) returns)
+label-spec = tie.close (tie.spec (search needs) (search needs) (search needs) (search needs) (search needs) returns (search needs) returns-2)

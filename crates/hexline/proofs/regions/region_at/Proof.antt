@@ -1,28 +1,30 @@
 use borrow.Author.Needs.{needs}
+use mathlib.Core.Path.{sym, _∙_}
 use Prim.Native.Nat.{_+_, _*_, _≤_}
 use native.Mathlib.Omega.{arith}
 use Rattle.label.specs.Region.{regions}
 use Rattle.hexline.specs.Body.{rangeSize}
-use Rattle.hexline.specs.Regions.{regionAt}
-use Rattle.hexline.proofs.RegionsLaws.{one-more}
+use Rattle.hexline.specs.Regions.{presentBelow, regionAt}
+use Rattle.hexline.proofs.RegionsLaws.{present-room}
 use Rattle.hexline.proofs.regions.region_at.Statement.{statement}
 use Rattle.hexline.proofs.regions.region_at.Tie as tie
 
--- the range of the region ends before those of all regions would
-room : (c : tie.After-present-below)
-    → let w = c .before .before .before .before .args .words in c .present-below .result * rangeSize w + rangeSize w ≤ regions * rangeSize w
+-- the range of the region ends no later than those of all
+room : (c : tie.After-present-below) → let a = c .before .before .before .before .args in
+    c .present-below .result * rangeSize (a .words) + rangeSize (a .words) ≤ presentBelow (a .p) regions * rangeSize (a .words)
 room c =
-    let s = c .before .before .before .before in
-    let k = c .present-below .ensures .1 in one-more (c .present-below .result) regions (rangeSize (s .args .words)) (omega (arith, s .pre .1))
+    let h = c .before .before in
+    let s = h .before .before in
+    rw (c .present-below .ensures .0) (present-room (s .args .p) (s .args .r) regions (rangeSize (s .args .words)) (s .pre .0) (sym (h .has-region .ensures) ∙ c .before .if1 .taken))
 
 mul-range-at : tie.Need-mul-range-at
-mul-range-at c = let r = room c in record { fits = omega arith }
+mul-range-at c = let r = room c in record { fits = omega (arith, c .before .before .before .before .pre .2) }
 
 add-range-at : tie.Need-add-range-at
-add-range-at c = let r = room c in record { fits = omega arith }
+add-range-at c = let r = room c in record { fits = omega (arith, c .before .before .before .before .pre .2) }
 
 range-at-requires : tie.Need-range-at-requires
-range-at-requires c κs = let r = room c in omega arith
+range-at-requires c κs = let r = room c in omega (arith, c .before .before .before .before .pre .2)
 
 returns : tie.Need-returns
 unfolding regionAt

@@ -4,16 +4,15 @@ use Prim.Native.Nat.{_-_}
 use Rattle.label.specs.Region.{regions}
 use Rattle.common.proofs.IndexLaws.{Filled, fill-all, fill-next, fill-none}
 use Rattle.range.specs.Tuple.{tupleOf}
-use Rattle.frame.specs.Frame.{bodyOf}
 use Rattle.hexline.specs.Regions.{regionAt, tupleAt}
 use Rattle.hexline.proofs.regions.tuple_at.Statement.{statement}
 use Rattle.hexline.proofs.regions.tuple_at.Tie as tie
 
 abbrev Inv-loop : tie.InvT-loop
-Inv-loop line p at words ranges₀ r₀ ranges r = Filled (regionAt words (bodyOf line) p at) regions ranges r
+Inv-loop body p at words ranges₀ r₀ ranges r = Filled (regionAt words body p at) regions ranges r
 
 abbrev μ-loop : tie.MeasureT-loop
-μ-loop line p at words ranges₀ r₀ ranges r = regions - r
+μ-loop body p at words ranges₀ r₀ ranges r = regions - r
 
 loop-holds : tie.Need-loop-holds Inv-loop μ-loop
 loop-holds c = fill-none refl
@@ -28,5 +27,5 @@ returns c = ap tupleOf (fill-all (c .before .loop .inv) (c .loop-test .left))
 
 pub tuple-at-spec : {M : Type 1} → statement M
 tuple-at-spec =
-    tie.close (tie.spec Inv-loop μ-loop (search needs) loop-holds (search needs) (search needs) (search needs) (search needs)
+    tie.close (tie.spec Inv-loop μ-loop (search needs) loop-holds (λ c κs. search needs) (search needs) (search needs) (search needs)
     (search needs) loop-again returns)

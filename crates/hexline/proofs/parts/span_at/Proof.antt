@@ -1,6 +1,6 @@
 use borrow.Author.Needs.{needs}
-use Rattle.hexline.proofs.entry.span_at.Statement.{statement}
-use Rattle.hexline.proofs.entry.span_at.Tie as tie
+use Rattle.hexline.proofs.parts.span_at.Statement.{statement}
+use Rattle.hexline.proofs.parts.span_at.Tie as tie
 
 returns : tie.Need-returns
 returns c = (rw (c .length-at .ensures .0), search needs)

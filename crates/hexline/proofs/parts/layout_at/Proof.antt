@@ -1,7 +1,7 @@
 use borrow.Author.Needs.{needs}
 use Rattle.hexline.specs.Entry.{layoutOf}
-use Rattle.hexline.proofs.entry.layout_at.Statement.{statement}
-use Rattle.hexline.proofs.entry.layout_at.Tie as tie
+use Rattle.hexline.proofs.parts.layout_at.Statement.{statement}
+use Rattle.hexline.proofs.parts.layout_at.Tie as tie
 
 returns : tie.Need-returns
 unfolding layoutOf
@@ -11,4 +11,4 @@ returns c =
 
 pub layout-at-spec : {M : Type 1} → statement M
 layout-at-spec =
-    tie.close (tie.spec (search needs) (search needs) (search needs) (search needs) (search needs) (search needs) (search needs) returns)
+    tie.close (tie.spec (search needs) (search needs) (search needs) (search needs) (search needs) (search needs) returns)
