@@ -4,8 +4,8 @@ use Rattle.label.specs.Label.{dominatesOf, validOf}
 use Rattle.label.specs.declared.Label.{Label}
 use Rattle.label.specs.declared.caller.Caller.{Caller}
 
-abbrev pub callerOf : Label → Bool → Caller
-callerOf l override = record { label = l; «read_override» = override }
+abbrev pub callerWith : Label → Bool → Caller
+callerWith l override = record { label = l; «read_override» = override }
 
 -- a caller is bad when its label is invalid
 abbrev pub callerValid : Caller → Bool
