@@ -14,7 +14,7 @@ returns-2 : tie.Need-returns-2
 unfolding rangeFrom
 returns-2 c =
     let d = c .before in
-    let e = d .before .before .before .before in
+    let e = d .before .before in
     answers-grant _ zeroRange _ _
     (grant-next (e .before .before .label-seen .ensures) _ (e .enum-told .given .1) ∙ passed _ 22 _ (sym (d .dominates .ensures) ∙ c .if1 .taken)) refl
 
@@ -22,7 +22,7 @@ returns-3 : tie.Need-returns-3
 unfolding rangeFrom
 returns-3 c =
     let d = c .before .before in
-    let e = d .before .before .before .before in
+    let e = d .before .before in
     answers-same (c .no-range .ensures)
     (grant-next (e .before .before .label-seen .ensures) _ (e .enum-told .given .1) ∙ stopped _ 22 _ (sym (d .dominates .ensures) ∙ c .before .if1 .left))
 
