@@ -57,5 +57,5 @@ handedBack o = outcome (o .table) (replyAnswer (o .answer .reply)) (segmentBesid
 -- what a call hands back that makes this change, if it is no refusal and there is such a slot
 abbrev pub appliedTo : SegmentTable → Change → COutcome
 appliedTo s c =
-    outcome (cond (isRefusal (c .answer .reply) || leb core.slots (c .slot .0)) s (core.withSegment s (c .slot) (c .segment))) (replyAnswer (c .answer .reply))
+    outcome (cond (isRefusal (c .answer .reply) || leb core.slotTotal (c .slot .0)) s (core.withSegment s (c .slot) (c .segment))) (replyAnswer (c .answer .reply))
     (segmentBeside (c .answer .reply) (c .answer .label))

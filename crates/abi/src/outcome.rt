@@ -75,7 +75,7 @@ pub fn hand_back(o: segments::CallOutcome) -> COutcome
 
 // The state with another segment in a slot.
 fn with_segment(s: SegmentTable, p: Slot, x: Segment) -> SegmentTable
-    requires { ⌜ p .0 < core.slots ⌝ }
+    requires { ⌜ p .0 < core.slotTotal ⌝ }
     ensures { λ r. ⌜ r ≡ withSegment s p x ⌝ }
 {
     let mut next = s;
@@ -86,7 +86,7 @@ fn with_segment(s: SegmentTable, p: Slot, x: Segment) -> SegmentTable
 // What a call hands back that changes the state so; no slot that is not there is changed.
 pub fn apply(state: SegmentTable, change: Change) -> COutcome
     ensures { λ r. ⌜ r ≡ appliedTo state change ⌝ }
-    ensures { λ r. ⌜ (change .slot .0 < core.slots → r ≡ handedBack (applied state change)) ⌝ }
+    ensures { λ r. ⌜ (change .slot .0 < core.slotTotal → r ≡ handedBack (applied state change)) ⌝ }
 {
     let a = change.answer;
     let r = a.reply;

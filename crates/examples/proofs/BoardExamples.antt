@@ -67,5 +67,5 @@ others =
     ∷ []
 
 board-holds : played (emptyTable 0) (board ++ others) ≡ board ++ others
-unfolding every firstFrom sumFrom Label.validOf Label.dominatesOf Label.equalOf includesOf sameOf regionOf Range.validOf Range.containsOf Tuple.validAt Tuple.validOf Tuple.containsAt Tuple.containsOf Tuple.emptyOf Slots.firstSlot Slots.slotCount Slots.owns Slots.filled Slots.lowestEmpty Slots.pagesOf Slots.ceilingsOf Sound.admitted Sound.tenantSound Sound.clearedBy Sound.zeros Sound.slotSound Sound.underCeiling Sound.sound Operator.makeAnswer Operator.makeOf Operator.admitAnswer Operator.admitOf Operator.setCeilingAnswer Operator.setCeilingOf Calls.callValid Calls.cleared Calls.writable Calls.visible Calls.accessOf Calls.decisionOn Calls.stepOf
+unfolding every firstFrom sumFrom Label.validOf Label.dominatesOf Label.equalOf includesOf sameOf regionOf Range.validOf Range.containsOf Tuple.validAt Tuple.validOf Tuple.containsAt Tuple.containsOf Tuple.emptyOf Slots.firstSlot Slots.slotCount Slots.owns Slots.filled Slots.lowestEmpty Slots.pagesOf Slots.ceilingsOf Sound.admitted Sound.tenantSound Sound.clearedBy Sound.isZeroSegment Sound.slotSound Sound.underCeiling Sound.sound Operator.makeAnswer Operator.makeOf Operator.admitAnswer Operator.admitOf Operator.setCeilingAnswer Operator.setCeilingOf Calls.callValid Calls.cleared Calls.writable Calls.visible Calls.accessOf Calls.decisionOn Calls.stepOf
 board-holds = refl

@@ -48,7 +48,7 @@ unfolding Hold lengthOf every firstFrom lastBelow tabulate Label.validOf Label.d
 texts = (refl, (refl, (refl, tt)))
 
 board : Hold (drop 15 examples)
-unfolding Hold every firstFrom sumFrom Label.validOf Label.dominatesOf Label.equalOf includesOf sameOf regionOf Range.validOf Range.containsOf Tuple.validAt Tuple.validOf Tuple.containsAt Tuple.containsOf Tuple.emptyOf Slots.firstSlot Slots.slotCount Slots.owns Slots.filled Slots.lowestEmpty Slots.pagesOf Slots.ceilingsOf Sound.admitted Sound.tenantSound Sound.clearedBy Sound.zeros Sound.slotSound Sound.underCeiling Sound.sound Operator.makeAnswer Operator.makeOf Operator.admitAnswer Operator.admitOf Calls.callValid Calls.cleared Calls.writable Calls.accessOf Calls.decisionOn Calls.stepOf
+unfolding Hold every firstFrom sumFrom Label.validOf Label.dominatesOf Label.equalOf includesOf sameOf regionOf Range.validOf Range.containsOf Tuple.validAt Tuple.validOf Tuple.containsAt Tuple.containsOf Tuple.emptyOf Slots.firstSlot Slots.slotCount Slots.owns Slots.filled Slots.lowestEmpty Slots.pagesOf Slots.ceilingsOf Sound.admitted Sound.tenantSound Sound.clearedBy Sound.isZeroSegment Sound.slotSound Sound.underCeiling Sound.sound Operator.makeAnswer Operator.makeOf Operator.admitAnswer Operator.admitOf Calls.callValid Calls.cleared Calls.writable Calls.accessOf Calls.decisionOn Calls.stepOf
 board = (refl, tt)
 
 pub examples-hold : ExamplesHold

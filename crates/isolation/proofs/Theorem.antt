@@ -19,7 +19,7 @@ use Rattle.common.proofs.BoolLaws.{not-so}
 use Rattle.common.proofs.SearchLaws.{any-then, none-of}
 use Rattle.segments.specs.Calls.{callRow, stepOf, visible}
 use Rattle.segments.specs.Replies.{shown}
-use Rattle.segments.specs.Segments.{segmentAt, segmentOf, tenantId, tenants}
+use Rattle.segments.specs.Segments.{segmentAt, segmentOf, tenantId, tenantTotal}
 use Rattle.segments.specs.Slots.{owns}
 use Rattle.segments.specs.Sound.{sound}
 use Rattle.segments.specs.declared.Call.{Call}
@@ -127,20 +127,20 @@ unowned p (c ∷ cs) s h =
     ∙ untouched s (c .tenant) (c .label) (c .action) p (h (c .tenant))
 
 same-slots : (s : SegmentTable) (xs ys : List Call) → sound s ≡ true → Interleaving xs ys → (p : Slot) → segmentAt (run s xs) p ≡ segmentAt (run s ys) p
-same-slots s xs ys h i p = go (someBelow (λ t. owns s (tenantId t) p) tenants) refl
+same-slots s xs ys h i p = go (someBelow (λ t. owns s (tenantId t) p) tenantTotal) refl
   where
     after : (t : TenantId) (zs : List Call) → owns s t p ≡ true → segmentAt (run s zs) p ≡ segmentAt (run s (callsOf t zs)) p
     after t zs o =
         let k = run-alike t zs s s (alike-itself t s h) in
         k .own p (owns-kept (run s zs) s t p (run-reached zs s s (reached-itself s h) .records) ∙ o)
 
-    go : (b : Bool) → someBelow (λ t. owns s (tenantId t) p) tenants ≡ b → segmentAt (run s xs) p ≡ segmentAt (run s ys) p
+    go : (b : Bool) → someBelow (λ t. owns s (tenantId t) p) tenantTotal ≡ b → segmentAt (run s xs) p ≡ segmentAt (run s ys) p
     go true e =
-        any-then (λ t. owns s (tenantId t) p) tenants e
+        any-then (λ t. owns s (tenantId t) p) tenantTotal e
         (λ t m o. after (tenantId t) xs o ∙ ap (λ (zs : List Call). segmentAt (run s zs) p) (i (tenantId t)) ∙ sym (after (tenantId t) ys o))
     go false e =
         let nobody : (t : TenantId) → owns s t p ≡ false =
-        λ t. not-so _ (λ o. true≢false (sym o ∙ none-of (λ t. owns s (tenantId t) p) tenants (t .0) e (own-parts s t p o .tenant))) in
+        λ t. not-so _ (λ o. true≢false (sym o ∙ none-of (λ t. owns s (tenantId t) p) tenantTotal (t .0) e (own-parts s t p o .tenant))) in
         unowned p xs s nobody ∙ sym (unowned p ys s nobody)
 
 -- ---- what is answered

@@ -9,7 +9,7 @@ use lib.Dec.{eqb}
 use Rattle.common.specs.Answer.{Answer, refused}
 use Rattle.segments.specs.Calls.{callRow, stepOf, visible}
 use Rattle.segments.specs.Replies.{Grant}
-use Rattle.segments.specs.Segments.{ceilingAt, clearanceAt, segmentAt, tenants}
+use Rattle.segments.specs.Segments.{ceilingAt, clearanceAt, segmentAt, tenantTotal}
 use Rattle.segments.specs.Slots.{owns, pagesOf}
 use Rattle.segments.specs.Sound.{sound}
 use Rattle.segments.specs.declared.Call.{Call}
@@ -99,7 +99,7 @@ pub record Limited (s u : SegmentTable) : Type 0 where
   pub pool : u .pool ≡ s .pool
   pub clearances : (t : TenantId) → clearanceAt u t ≡ clearanceAt s t
   pub ceilings : (t : TenantId) → ceilingAt u t ≡ ceilingAt s t
-  pub pages : (t : TenantId) → t .0 < tenants → pagesOf u t ≤ ceilingAt u t
+  pub pages : (t : TenantId) → t .0 < tenantTotal → pagesOf u t ≤ ceilingAt u t
 
 unfoldable pub Each : {A : Type 0} → (A → Type 0) → List A → Type 0
 Each P [] = Unit {0}

@@ -17,7 +17,7 @@ use Rattle.common.proofs.SearchLaws.{first-same, sum-same}
 use Rattle.range.specs.Tuple
 use Rattle.segments.specs.Calls.{CallEffect, accessOf, answeredBy, callOf, callRow, callValid, cleared, decisionOn, effectOn, requireSlot, slotFor, slotValid, stepOf, tableBy, visible, writable}
 use Rattle.segments.specs.Replies.{Grant, shown}
-use Rattle.segments.specs.Segments.{ceilingAt, pagesAt, segmentAt, slot, slots, tenants, withSegment}
+use Rattle.segments.specs.Segments.{ceilingAt, pagesAt, segmentAt, slot, slotTotal, tenantTotal, withSegment}
 use Rattle.segments.specs.Slots.{asSlot, emptyAt, filled, firstSlot, lowestEmpty, owns, pagesOf, slotCount}
 use Rattle.segments.specs.Sound.{admitted, sound}
 use Rattle.segments.specs.declared.Action.{Action}
@@ -49,7 +49,7 @@ abbrev pub LooksAtOwn : SegmentTable → TenantId → Action → Type 0
 LooksAtOwn s t a = (p : Slot) → callRow a .lookedAt ≡ some p → owns s t p ≡ true
 
 -- such a call is about a slot of its caller's own
-pub target-own : (s : SegmentTable) (t : TenantId) (l : Label) (a : Action) (p : Slot) → t .0 < tenants → LooksAtOwn s t a
+pub target-own : (s : SegmentTable) (t : TenantId) (l : Label) (a : Action) (p : Slot) → t .0 < tenantTotal → LooksAtOwn s t a
     → callRow a .permitted s t l ≡ true → slotFor s t (callRow a .named) ≡ some p → owns s t p ≡ true
 target-own s t l (Open x) p h m e f = lowest-own s t p h f
 target-own s t l (Size x) p h m e f = writable-own s t l p (writable-at s t l (x .slot) p f e) .0
@@ -58,23 +58,23 @@ target-own s t l (Look x) p h m e f = m p f
 target-own s t l (Close x) p h m e f = writable-own s t l p (writable-at s t l (x .slot) p f e) .0
 
 -- a valid call's tenant is one
-pub valid-tenant : (s : SegmentTable) (t : TenantId) (l : Label) (a : Action) → callValid s (callOf t l a) ≡ true → t .0 < tenants
+pub valid-tenant : (s : SegmentTable) (t : TenantId) (l : Label) (a : Action) → callValid s (callOf t l a) ≡ true → t .0 < tenantTotal
 unfolding callValid admitted
 valid-tenant s t l a e =
-    ltb-true (t .0) tenants (first-true _ (leb 1 (ceilingAt s t)) (three-true (ltb (t .0) tenants && leb 1 (ceilingAt s t)) (Label.validOf l) (callRow a .numbersValid) e .0))
+    ltb-true (t .0) tenantTotal (first-true _ (leb 1 (ceilingAt s t)) (three-true (ltb (t .0) tenantTotal && leb 1 (ceilingAt s t)) (Label.validOf l) (callRow a .numbersValid) e .0))
 
 pub valid-numbers : (s : SegmentTable) (t : TenantId) (l : Label) (a : Action) → callValid s (callOf t l a) ≡ true → callRow a .numbersValid ≡ true
 unfolding callValid
 valid-numbers s t l a e = three-true (admitted s t) (Label.validOf l) (callRow a .numbersValid) e .2
 
-slot-in : (q p : Slot) → slotValid q ≡ true → some q ≡ some p → p .0 < slots
-slot-in q p v e = let r : q ≡ p = cc in rw (← r) (ltb-true (q .0) slots v)
+slot-in : (q p : Slot) → slotValid q ≡ true → some q ≡ some p → p .0 < slotTotal
+slot-in q p v e = let r : q ≡ p = cc in rw (← r) (ltb-true (q .0) slotTotal v)
 
 -- the slot that a valid call is about is one
-pub valid-slot : (s : SegmentTable) (t : TenantId) (l : Label) (a : Action) (p : Slot) → callValid s (callOf t l a) ≡ true → slotFor s t (callRow a .named) ≡ some p → p .0 < slots
+pub valid-slot : (s : SegmentTable) (t : TenantId) (l : Label) (a : Action) (p : Slot) → callValid s (callOf t l a) ≡ true → slotFor s t (callRow a .named) ≡ some p → p .0 < slotTotal
 valid-slot s t l a p e f = go a (valid-numbers s t l a e) f
   where
-    go : (a : Action) → callRow a .numbersValid ≡ true → slotFor s t (callRow a .named) ≡ some p → p .0 < slots
+    go : (a : Action) → callRow a .numbersValid ≡ true → slotFor s t (callRow a .named) ≡ some p → p .0 < slotTotal
     go (Open x) n f = own-slot s t p (lowest-own s t p (valid-tenant s t l a e) f)
     go (Size x) n f = slot-in (x .slot) p (first-true (slotValid (x .slot)) _ n) f
     go (Post x) n f = slot-in (x .slot) p n f
@@ -124,14 +124,14 @@ module _ (t : TenantId) (s u : SegmentTable) (k : Alike t s u) where
   ceiling-same : ceilingAt s t ≡ ceilingAt u t
   ceiling-same = ap (λ (x : Tenant). x .ceiling) (tenant-same s u t (k .records))
 
-  pages-same : t .0 < tenants → pagesOf s t ≡ pagesOf u t
+  pages-same : t .0 < tenantTotal → pagesOf s t ≡ pagesOf u t
   unfolding pagesOf
   pages-same h =
       sum-same (λ p. pagesAt s (slot p)) (λ p. pagesAt u (slot p)) (firstSlot s t .0) (slotCount s t)
       (λ j a b. ap (λ (x : Segment). x .pages) (k .own (slot j) (own-of s t (slot j) h a b)))
       ∙ ap₂ (sumFrom (λ p. pagesAt u (slot p))) (ap (λ (p : Slot). p .0) (first-kept s u t (k .records))) (count-kept s u t (k .records))
 
-  lowest-same : t .0 < tenants → lowestEmpty s t ≡ lowestEmpty u t
+  lowest-same : t .0 < tenantTotal → lowestEmpty s t ≡ lowestEmpty u t
   unfolding lowestEmpty filled
   lowest-same h =
       ap asSlot
@@ -156,11 +156,11 @@ module _ (t : TenantId) (s u : SegmentTable) (k : Alike t s u) where
   permitted-same l (Look x) m = visible-same s u l (x .slot) (k .own (x .slot) (m (x .slot) refl))
   permitted-same l (Close x) m = writable-same l (x .slot)
 
-  slot-for-same : t .0 < tenants → (o : Option Slot) → slotFor s t o ≡ slotFor u t o
+  slot-for-same : t .0 < tenantTotal → (o : Option Slot) → slotFor s t o ≡ slotFor u t o
   slot-for-same h none = lowest-same h
   slot-for-same h (some p) = refl
 
-  fit-same : t .0 < tenants → (l : Label) (a : Action) → callRow a .permitted s t l ≡ true → callRow a .pagesFit s t ≡ callRow a .pagesFit u t
+  fit-same : t .0 < tenantTotal → (l : Label) (a : Action) → callRow a .permitted s t l ≡ true → callRow a .pagesFit s t ≡ callRow a .pagesFit u t
   fit-same h l (Open x) e = ap₂ (λ (used limit : ℕ). leb (used + x .pages) limit) (pages-same h) ceiling-same
   fit-same h l (Size x) e =
       ap₂ (λ (used limit : ℕ). leb (used - pagesAt s (x .slot) + x .pages) limit) (pages-same h) ceiling-same
@@ -169,7 +169,7 @@ module _ (t : TenantId) (s u : SegmentTable) (k : Alike t s u) where
   fit-same h l (Look x) e = refl
   fit-same h l (Close x) e = refl
 
-  access-same : t .0 < tenants → (l : Label) (a : Action) → LooksAtOwn s t a → accessOf s (callOf t l a) ≡ accessOf u (callOf t l a)
+  access-same : t .0 < tenantTotal → (l : Label) (a : Action) → LooksAtOwn s t a → accessOf s (callOf t l a) ≡ accessOf u (callOf t l a)
   unfolding accessOf
   access-same h l a m =
       require-same _ _ 13 _ _ (permitted-same l a m)
@@ -180,7 +180,7 @@ module _ (t : TenantId) (s u : SegmentTable) (k : Alike t s u) where
   valid-same : (l : Label) (a : Action) → callValid s (callOf t l a) ≡ callValid u (callOf t l a)
   unfolding callValid admitted
   valid-same l a =
-      ap (λ (x : Tenant). (ltb (t .0) tenants && leb 1 (x .ceiling)) && Label.validOf l && callRow a .numbersValid) (tenant-same s u t (k .records))
+      ap (λ (x : Tenant). (ltb (t .0) tenantTotal && leb 1 (x .ceiling)) && Label.validOf l && callRow a .numbersValid) (tenant-same s u t (k .records))
 
   cleared-same : (l : Label) (a : Action) → cleared s (callOf t l a) ≡ cleared u (callOf t l a)
   unfolding cleared
@@ -212,6 +212,15 @@ next-refused s c n detail e = rw e
 pub next-granted : (s : SegmentTable) (c : Call) (x : CallEffect) → decisionOn s c ≡ granted x → stepOf s c .table ≡ withSegment s (x .slot) (x .segment)
 unfolding stepOf
 next-granted s c x e = rw e
+
+-- by what it answers: a refused call leaves the state as it was
+pub refused-next : (s : SegmentTable) (c : Call) (n : ℕ) (detail : Option ℕ) → stepOf s c .answer ≡ refused n detail → stepOf s c .table ≡ s
+unfolding stepOf
+refused-next s c n detail e = go (decisionOn s c) e
+  where
+    go : (x : Answer CallEffect) → answeredBy x ≡ refused n detail → tableBy s x ≡ s
+    go (granted x) e = absurd (true≢false (ap isGranted e))
+    go (refused m detail) e = refl
 
 -- what a granted call has passed, and what it does
 pub record Passed (s : SegmentTable) (t : TenantId) (l : Label) (a : Action) (x : CallEffect) : Type 0 where
@@ -332,7 +341,7 @@ untouched s t l a p h = by (effect s t l a)
 -- what a call makes of its caller's own slots depends on these and on what never changes
 module _ (t : TenantId) (s u : SegmentTable) (k : Alike t s u) where
   -- the same segment put into the same slot
-  written-same : (q : Slot) (x : Segment) (p : Slot) → q .0 < slots → segmentAt s p ≡ segmentAt u p → segmentAt (withSegment s q x) p ≡ segmentAt (withSegment u q x) p
+  written-same : (q : Slot) (x : Segment) (p : Slot) → q .0 < slotTotal → segmentAt s p ≡ segmentAt u p → segmentAt (withSegment s q x) p ≡ segmentAt (withSegment u q x) p
   written-same q x p h e =
       by-slot (λ (p : Slot). segmentAt s p ≡ segmentAt u p → segmentAt (withSegment s q x) p ≡ segmentAt (withSegment u q x) p) q p
       (λ e. segment-written s q x (sound-parts s (k .sounds .0) .lengths) h ∙ sym (segment-written u q x (sound-parts u (k .sounds .1) .lengths) h))

@@ -20,11 +20,11 @@ use Rattle.range.specs.declared.tuple.RegionRange.{RegionRange}
 use Rattle.range.specs.declared.tuple.Tuple.{Tuple}
 use Rattle.range.proofs.TupleLaws.{absent-valid, empty-none}
 use Rattle.segments.specs.Operator.{admitAnswer, admitOf, makeAnswer, makeOf, setCeilingAnswer, setCeilingOf}
-use Rattle.segments.specs.Parts.{poolAnswer}
+use Rattle.segments.specs.Internal.CallParts.{poolAnswer}
 use Rattle.segments.specs.Replies.{Grant, done, left}
-use Rattle.segments.specs.Segments.{ceilingAt, clearanceAt, emptyTable, pagesAt, pagesValid, segmentAt, slot, slots, tenantAt, tenantId, tenantOf, tenants, withTenant, zeroSegment, zeroTenant}
+use Rattle.segments.specs.Segments.{ceilingAt, clearanceAt, emptyTable, pagesAt, pagesValid, segmentAt, slot, slotTotal, tenantAt, tenantId, tenantOf, tenantTotal, withTenant, zeroSegment, zeroTenant}
 use Rattle.segments.specs.Slots.{ceilingsOf, firstSlot, pagesOf, slotCount}
-use Rattle.segments.specs.Sound.{admitted, sound, tenantSound, zeros}
+use Rattle.segments.specs.Sound.{admitted, sound, tenantSound, isZeroSegment}
 use Rattle.segments.specs.declared.Segment.{Segment}
 use Rattle.segments.specs.declared.SegmentTable.{SegmentTable}
 use Rattle.segments.specs.declared.Slot.{Slot}
@@ -36,7 +36,7 @@ use Rattle.segments.proofs.SoundLaws.{Sound, admitted-parts, clears, cl
 
 -- ---- another record for a tenant
 
-module _ (s : SegmentTable) (t : TenantId) (x : Tenant) (h : Sound s) (number : t .0 < tenants) where
+module _ (s : SegmentTable) (t : TenantId) (x : Tenant) (h : Sound s) (number : t .0 < tenantTotal) where
   abbrev next : SegmentTable
   next = withTenant s t x
 
@@ -49,7 +49,7 @@ module _ (s : SegmentTable) (t : TenantId) (x : Tenant) (h : Sound s) (number : 
   ceilings-with : ceilingsOf next + ceilingAt s t ≡ ceilingsOf s + x .ceiling
   unfolding ceilingsOf
   ceilings-with =
-      sum-but (λ u. ceilingAt s (tenantId u)) (λ u. ceilingAt next (tenantId u)) (t .0) 0 tenants
+      sum-but (λ u. ceilingAt s (tenantId u)) (λ u. ceilingAt next (tenantId u)) (t .0) 0 tenantTotal
       (λ j n. ap (λ (y : Tenant). y .ceiling) (tenant-kept s t (tenantId j) x n)) (omega arith) (omega arith)
       ∙ ap (λ (y : Tenant). ceilingsOf s + y .ceiling) (tenant-written s t x (h .lengths) number)
 
@@ -66,13 +66,13 @@ module _ (s : SegmentTable) (t : TenantId) (x : Tenant) (h : Sound s) (number : 
           by-tenant (λ (u : TenantId). Tuple.containsOf (clearanceAt s u) (y .label) ≡ true → Tuple.containsOf (clearanceAt next u) (y .label) ≡ true) t u
           (λ g. same (tenantAt next t) x (tenant-written s t x (h .lengths) number) (f (y .label) g)) (λ u i. same (tenantAt next u) (tenantAt s u) (tenant-kept s t u x i))
 
-      go : (b : Bool) → cond b (someBelow (clears s p (y .label)) tenants) (zeros y) ≡ true → cond b (someBelow (clears next p (y .label)) tenants) (zeros y) ≡ true
+      go : (b : Bool) → cond b (someBelow (clears s p (y .label)) tenantTotal) (isZeroSegment y) ≡ true → cond b (someBelow (clears next p (y .label)) tenantTotal) (isZeroSegment y) ≡ true
       go false e = e
       go true e =
-          any-then (clears s p (y .label)) tenants e
+          any-then (clears s p (y .label)) tenantTotal e
           (λ k l f.
           let c = clears-parts s p (y .label) k f in
-          any-of (clears next p (y .label)) tenants k l (both (owns-stays s t (tenantId k) x p ∙ c .0) (still (tenantId k) (c .1))))
+          any-of (clears next p (y .label)) tenantTotal k l (both (owns-stays s t (tenantId k) x p ∙ c .0) (still (tenantId k) (c .1))))
 
   with-sound : tenantSound x ≡ true → ((l : Label) → Tuple.containsOf (clearanceAt s t) l ≡ true → Tuple.containsOf (x .clearance) l ≡ true)
       → ceilingsOf s + x .ceiling ≤ s .pool + ceilingAt s t → pagesOf s t ≤ x .ceiling → Sound next
@@ -81,12 +81,12 @@ module _ (s : SegmentTable) (t : TenantId) (x : Tenant) (h : Sound s) (number : 
         lengths = lengths-stay s t x (h .lengths);
         pool = h .pool;
         tenant = λ u l.
-            by-tenant (λ (u : TenantId). u .0 < tenants → tenantSound (tenantAt next u) ≡ true) t u (λ l. ap tenantSound (tenant-written s t x (h .lengths) number) ∙ e)
+            by-tenant (λ (u : TenantId). u .0 < tenantTotal → tenantSound (tenantAt next u) ≡ true) t u (λ l. ap tenantSound (tenant-written s t x (h .lengths) number) ∙ e)
             (λ u i l. ap tenantSound (tenant-kept s t u x i) ∙ h .tenant u l) l;
         segment = λ p l. slot-held next p ∙ held-with f p (segmentAt s p) (sym (slot-held s p) ∙ h .segment p l);
         ceilings = let c = ceilings-with in omega arith;
         pages = λ u l.
-            by-tenant (λ (u : TenantId). u .0 < tenants → pagesOf next u ≤ ceilingAt next u) t u
+            by-tenant (λ (u : TenantId). u .0 < tenantTotal → pagesOf next u ≤ ceilingAt next u) t u
             (λ l.
             let a = pages-stay t in
             let b : ceilingAt next t ≡ x .ceiling = ap (λ (y : Tenant). y .ceiling) (tenant-written s t x (h .lengths) number) in
@@ -102,7 +102,7 @@ module _ (s : SegmentTable) (t : TenantId) (x : Tenant) (h : Sound s) (number : 
 -- ---- the calls
 
 -- a tenant in its numbers that is not admitted has a ceiling of 0
-not-admitted : (s : SegmentTable) (t : TenantId) → t .0 < tenants → not (admitted s t) ≡ true → ceilingAt s t ≡ 0
+not-admitted : (s : SegmentTable) (t : TenantId) → t .0 < tenantTotal → not (admitted s t) ≡ true → ceilingAt s t ≡ 0
 unfolding admitted
 not-admitted s t l e =
     ⊎-elim (λ (i : ceilingAt s t ≡ 0). i)
@@ -110,7 +110,7 @@ not-admitted s t l e =
     (same-or-not (ceilingAt s t) 0)
 
 -- so the pool has room for one that is new where the sum is at most the pool
-pub pool-new : (s : SegmentTable) (t : TenantId) (n : ℕ) → t .0 < tenants → admitted s t ≡ false → require (leb (ceilingsOf s + n) (s .pool)) 12 (granted done) ≡ poolAnswer s t n
+pub pool-new : (s : SegmentTable) (t : TenantId) (n : ℕ) → t .0 < tenantTotal → admitted s t ≡ false → require (leb (ceilingsOf s + n) (s .pool)) 12 (granted done) ≡ poolAnswer s t n
 pool-new s t n l e =
     let z = not-admitted s t l (ap not e) in
     let h : ceilingsOf s ≡ ceilingsOf s - ceilingAt s t = omega arith in
@@ -140,21 +140,21 @@ granted-admit : (s : SegmentTable) (t : TenantId) (n : ℕ) (c : Tuple) → soun
     → sound (withTenant s t (tenantOf n c)) ≡ true
 unfolding admitAnswer
 granted-admit s t n c h g e =
-    let v : Bool = ltb (t .0) tenants && Tuple.validOf c in
+    let v : Bool = ltb (t .0) tenantTotal && Tuple.validOf c in
     let e1 = grant-passed (sound s) 22 g _ (sym e) in
     let e2 = grant-passed ((v && not (Tuple.emptyOf c)) && leb 1 n) 22 g _ (e1 .1) in
     let e3 = grant-passed (not (admitted s t)) 16 g _ (e2 .1) in
     let e4 = grant-passed (leb (ceilingsOf s + n) (s .pool)) 12 g _ (e3 .1) in
     let a = first-true (v && not (Tuple.emptyOf c)) (leb 1 n) (e2 .0) in
     let b = first-true v (not (Tuple.emptyOf c)) a in
-    let i : t .0 < tenants = ltb-true _ _ (first-true (ltb (t .0) tenants) (Tuple.validOf c) b) in
+    let i : t .0 < tenantTotal = ltb-true _ _ (first-true (ltb (t .0) tenantTotal) (Tuple.validOf c) b) in
     let z : ceilingAt s t ≡ 0 = not-admitted s t i (e3 .0) in
     let q = sound-parts s h in
     let p = q .pages t i in
     let m = leb-true (ceilingsOf s + n) (s .pool) (e4 .0) in
     parts-sound _
     (with-sound s t (tenantOf n c) q i
-    (tenant-sound-of n c (leb-true 1 n (second-true (v && not (Tuple.emptyOf c)) (leb 1 n) (e2 .0))) (second-true (ltb (t .0) tenants) (Tuple.validOf c) b) (second-true v (not (Tuple.emptyOf c)) a))
+    (tenant-sound-of n c (leb-true 1 n (second-true (v && not (Tuple.emptyOf c)) (leb 1 n) (e2 .0))) (second-true (ltb (t .0) tenantTotal) (Tuple.validOf c) b) (second-true v (not (Tuple.emptyOf c)) a))
     (λ k f. absurd (tenant-empty (tenantAt s t) k z (q .tenant t i) f))
     (omega arith) (omega arith))
 
@@ -198,24 +198,24 @@ zero-tenant-sound =
 
 no-ceilings : (pool : ℕ) → ceilingsOf (emptyTable pool) ≡ 0
 unfolding ceilingsOf
-no-ceilings pool = sum-zero (λ t. ceilingAt (emptyTable pool) (tenantId t)) 0 tenants (λ j a b. ap (λ (x : Tenant). x .ceiling) (getD-replicate tenants j zeroTenant _ (omega arith)))
+no-ceilings pool = sum-zero (λ t. ceilingAt (emptyTable pool) (tenantId t)) 0 tenantTotal (λ j a b. ap (λ (x : Tenant). x .ceiling) (getD-replicate tenantTotal j zeroTenant _ (omega arith)))
 
-no-pages : (pool : ℕ) (t : TenantId) → t .0 < tenants → pagesOf (emptyTable pool) t ≡ 0
+no-pages : (pool : ℕ) (t : TenantId) → t .0 < tenantTotal → pagesOf (emptyTable pool) t ≡ 0
 unfolding pagesOf
 no-pages pool t l =
     let k = own-bound (emptyTable pool) t l in
     sum-zero (λ p. pagesAt (emptyTable pool) (slot p)) (firstSlot (emptyTable pool) t .0) (slotCount (emptyTable pool) t)
-    (λ j a b. ap (λ (x : Segment). x .pages) (getD-replicate slots j zeroSegment _ (omega arith)))
+    (λ j a b. ap (λ (x : Segment). x .pages) (getD-replicate slotTotal j zeroSegment _ (omega arith)))
 
 -- a state with no tenants is sound
 empty-sound : (pool : ℕ) → pagesValid pool ≡ true → sound (emptyTable pool) ≡ true
 empty-sound pool e =
     parts-sound (emptyTable pool)
     (record {
-      lengths = record { tenants-are = length-replicate tenants zeroTenant; segments-are = length-replicate slots zeroSegment };
+      lengths = record { tenants-are = length-replicate tenantTotal zeroTenant; segments-are = length-replicate slotTotal zeroSegment };
       pool = e;
-      tenant = λ t l. ap tenantSound (getD-replicate tenants (t .0) zeroTenant _ l) ∙ zero-tenant-sound;
-      segment = λ p l. slot-held (emptyTable pool) p ∙ ap (held (emptyTable pool) p) (getD-replicate slots (p .0) zeroSegment _ l) ∙ zeros-held (emptyTable pool) p;
+      tenant = λ t l. ap tenantSound (getD-replicate tenantTotal (t .0) zeroTenant _ l) ∙ zero-tenant-sound;
+      segment = λ p l. slot-held (emptyTable pool) p ∙ ap (held (emptyTable pool) p) (getD-replicate slotTotal (p .0) zeroSegment _ l) ∙ zeros-held (emptyTable pool) p;
       ceilings = let z = no-ceilings pool in omega arith;
       pages = λ t l. let z = no-pages pool t l in omega arith;
     })

@@ -13,9 +13,9 @@ use Rattle.common.specs.declared.errno.Errno.the-variants.{Invalid}
 use Rattle.common.proofs.AnswerLaws.{grant-passed, require-then}
 use Rattle.common.proofs.BoolLaws.{both, first-true, not-so}
 use Rattle.segments.specs.Calls.{CallEffect, Decides, accessOf, answeredBy, callOf, callRow, callValid, changedSlot, cleared, decisionOn, effectOn, slotFor, slotValid, stepOf}
-use Rattle.segments.specs.Parts.{Started, namedSegment, namedValid, startOf, unlabeled}
-use Rattle.segments.specs.Replies.{Answers, Grant, Results, applied, done, isRefusal, labelBeside, leaving, refusedWith, replyOf, shownLabel}
-use Rattle.segments.specs.Segments.{ceilingAt, segmentAt, slots, tenants, withSegment}
+use Rattle.segments.specs.Internal.CallParts.{Started, firstChecksOf, namedSegment, namedValid, refusedWith, unlabeled}
+use Rattle.segments.specs.Replies.{Answers, Grant, Results, applied, done, isRefusal, labelBeside, leaving, replyOf, shownLabel}
+use Rattle.segments.specs.Segments.{ceilingAt, segmentAt, slotTotal, tenantTotal, withSegment}
 use Rattle.segments.specs.Slots.{pagesOf}
 use Rattle.segments.specs.Sound.{sound}
 use Rattle.segments.specs.declared.Action.{Action}
@@ -73,12 +73,12 @@ named-effect s t l (Close x) p e = refl
 
 module _ (s : SegmentTable) (c : Call) where
   -- what is answered: the refusal of the first checks, or what follows them
-  answer-start : decisionOn s c ≡ andThen (startOf s c) (λ g. accessOf s c)
-  unfolding startOf decisionOn
+  answer-start : decisionOn s c ≡ andThen (firstChecksOf s c) (λ g. accessOf s c)
+  unfolding firstChecksOf decisionOn
   answer-start = sym (simp require-then)
 
-  pub start-passed : granted done ≡ startOf s c → Started s c
-  unfolding startOf
+  pub start-passed : granted done ≡ firstChecksOf s c → Started s c
+  unfolding firstChecksOf
   start-passed h =
       let a = grant-passed (sound s) 22 done (require (callValid s c) 22 (require (cleared s c) 1 (granted done))) h in
       let b = grant-passed (callValid s c) 22 done (require (cleared s c) 1 (granted done)) (a .1) in
@@ -89,7 +89,7 @@ module _ (s : SegmentTable) (c : Call) where
   pub decides-refused : {x : Change} (e : Errno) → x ≡ refusedWith e → decisionOn s c ≡ refusedBy e → Decides s c x
   decides-refused e h k = rw h (record { slot = rw k; segment = rw k; answer = rw k (record { reply = refl; label = refl }) })
 
-  pub decides-stopped : {x : Change} (e : Errno) → x ≡ refusedWith e → refusedBy e ≡ startOf s c → Decides s c x
+  pub decides-stopped : {x : Change} (e : Errno) → x ≡ refusedWith e → refusedBy e ≡ firstChecksOf s c → Decides s c x
   decides-stopped e h k = decides-refused e h (answer-start ∙ ap (λ (y : Answer Grant). andThen y (λ g. accessOf s c)) (sym k))
 
   pub unsound : sound s ≡ false → decisionOn s c ≡ refusedBy Invalid
@@ -97,7 +97,7 @@ module _ (s : SegmentTable) (c : Call) where
   unsound h = rw h
 
   -- a call whose tenant, or the slot that it names, is not there is not valid
-  pub out-of-bounds : sound s ≡ true → (ltb (c .tenant .0) tenants && namedValid (callRow (c .action) .named)) ≡ false → decisionOn s c ≡ refusedBy Invalid
+  pub out-of-bounds : sound s ≡ true → (ltb (c .tenant .0) tenantTotal && namedValid (callRow (c .action) .named)) ≡ false → decisionOn s c ≡ refusedBy Invalid
   unfolding decisionOn
   out-of-bounds h k = rw (h, not-so (callValid s c) (λ e. true≢false (sym (in-bounds (c .tenant) (c .label) (c .action) e) ∙ k)))
     where
@@ -108,15 +108,15 @@ module _ (s : SegmentTable) (c : Call) where
       named-valid (Look x) e = e
       named-valid (Close x) e = e
 
-      in-bounds : (t : TenantId) (l : Label) (a : Action) → callValid s (callOf t l a) ≡ true → (ltb (t .0) tenants && namedValid (callRow a .named)) ≡ true
-      in-bounds t l a e = both (lt-ltb (t .0) tenants (valid-tenant s t l a e)) (named-valid a (valid-numbers s t l a e))
+      in-bounds : (t : TenantId) (l : Label) (a : Action) → callValid s (callOf t l a) ≡ true → (ltb (t .0) tenantTotal && namedValid (callRow a .named)) ≡ true
+      in-bounds t l a e = both (lt-ltb (t .0) tenantTotal (valid-tenant s t l a e)) (named-valid a (valid-numbers s t l a e))
 
 module _ (s : SegmentTable) (c : Call) (w : Started s c) where
   started-answer : decisionOn s c ≡ accessOf s c
   unfolding decisionOn
   started-answer = rw (w .sound, w .valid, w .cleared)
 
-  pub started-tenant : c .tenant .0 < tenants
+  pub started-tenant : c .tenant .0 < tenantTotal
   started-tenant = valid-tenant s (c .tenant) (c .label) (c .action) (w .valid)
 
   pub started-pages : pagesOf s (c .tenant) ≤ ceilingAt s (c .tenant)
@@ -140,10 +140,10 @@ module _ (s : SegmentTable) (c : Call) (w : Started s c) where
 -- ---- a change that is what the call does
 
 module _ (s : SegmentTable) (c : Call) {x : Change} (d : Decides s c x) where
-  pub decides-slot : x .slot .0 < slots
+  pub decides-slot : x .slot .0 < slotTotal
   decides-slot = rw (d .slot) (go (decisionOn s c) refl)
     where
-      go : (y : Answer CallEffect) → decisionOn s c ≡ y → changedSlot y .0 < slots
+      go : (y : Answer CallEffect) → decisionOn s c ≡ y → changedSlot y .0 < slotTotal
       go (granted z) e =
           let r = granted-passed s (c .tenant) (c .label) (c .action) z e in
           valid-slot s (c .tenant) (c .label) (c .action) (z .slot) (r .is-valid) (r .slot-is)

@@ -5,7 +5,7 @@ use Prim.Native.Nat.{_<_}
 use native.Mathlib.Omega.{arith}
 use lib.ListN.{length, length-set}
 use lib.Seq.{ext-getD, getD-set-other, getD-set-same, set-getD}
-use Rattle.segments.specs.Segments.{segmentAt, slot, slots, tableOf, tenantAt, tenants, withSegment, withTenant}
+use Rattle.segments.specs.Segments.{segmentAt, slot, slotTotal, tableOf, tenantAt, tenantTotal, withSegment, withTenant}
 use Rattle.segments.specs.declared.Segment.{Segment}
 use Rattle.segments.specs.declared.SegmentTable.{SegmentTable}
 use Rattle.segments.specs.declared.Slot.{Slot}
@@ -14,11 +14,11 @@ use Rattle.segments.specs.declared.TenantId.{TenantId}
 
 -- a record for each tenant and a segment for each slot
 pub record Lengths (s : SegmentTable) : Type 0 where
-  pub tenants-are : length (s .tenants) ≡ tenants
-  pub segments-are : length (s .segments) ≡ slots
+  pub tenants-are : length (s .tenants) ≡ tenantTotal
+  pub segments-are : length (s .segments) ≡ slotTotal
 
 module _ (s : SegmentTable) where
-  pub segment-written : (p : Slot) (x : Segment) → Lengths s → p .0 < slots → segmentAt (withSegment s p x) p ≡ x
+  pub segment-written : (p : Slot) (x : Segment) → Lengths s → p .0 < slotTotal → segmentAt (withSegment s p x) p ≡ x
   segment-written p x l h = let k = l .segments-are in getD-set-same (s .segments) (p .0) x _ (omega arith)
 
   pub segment-kept : (p q : Slot) (x : Segment) → (q .0 ≡ p .0 → ⊥) → segmentAt (withSegment s p x) q ≡ segmentAt s q
@@ -33,7 +33,7 @@ module _ (s : SegmentTable) where
   pub lengths-stay : (t : TenantId) (x : Tenant) → Lengths s → Lengths (withTenant s t x)
   lengths-stay t x l = record { tenants-are = length-set (s .tenants) (t .0) x ∙ l .tenants-are; segments-are = l .segments-are }
 
-  pub tenant-written : (t : TenantId) (x : Tenant) → Lengths s → t .0 < tenants → tenantAt (withTenant s t x) t ≡ x
+  pub tenant-written : (t : TenantId) (x : Tenant) → Lengths s → t .0 < tenantTotal → tenantAt (withTenant s t x) t ≡ x
   tenant-written t x l h = let k = l .tenants-are in getD-set-same (s .tenants) (t .0) x _ (omega arith)
 
   pub tenant-kept : (t u : TenantId) (x : Tenant) → (u .0 ≡ t .0 → ⊥) → tenantAt (withTenant s t x) u ≡ tenantAt s u
@@ -45,7 +45,7 @@ tenant-same s u t e = ap (λ (ts : List Tenant). tenantAt (tableOf 0 ts (s .segm
 
 -- states with the same pool, the same records and the same segment in each slot are the same
 pub same-table : (s u : SegmentTable) → Lengths s → Lengths u → s .pool ≡ u .pool → s .tenants ≡ u .tenants
-    → ((p : Slot) → p .0 < slots → segmentAt s p ≡ segmentAt u p) → s ≡ u
+    → ((p : Slot) → p .0 < slotTotal → segmentAt s p ≡ segmentAt u p) → s ≡ u
 same-table s u l m e f h =
     let a = l .segments-are in
     let g : s .segments ≡ u .segments = ext-getD _ (s .segments) (u .segments) (l .segments-are ∙ sym (m .segments-are)) (λ i b. h (slot i) (omega arith)) in

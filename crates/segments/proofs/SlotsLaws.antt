@@ -11,7 +11,7 @@ use lib.Dec.{leb, ltb}
 use Rattle.common.specs.Index.{firstFrom, sumFrom}
 use Rattle.common.proofs.BoolLaws.{both, first-true, not-so, same-truth, second-true, three-true}
 use Rattle.common.proofs.SearchLaws.{first-least, hit, pass, same-or-not, sum-term}
-use Rattle.segments.specs.Segments.{ceilingAt, pagesAt, slot, slots, tenantId, tenants, withTenant}
+use Rattle.segments.specs.Segments.{ceilingAt, pagesAt, slot, slotTotal, tenantId, tenantTotal, withTenant}
 use Rattle.segments.specs.Slots.{asSlot, ceilingsOf, emptyAt, firstSlot, lowestEmpty, owns, pagesOf, slotCount}
 use Rattle.segments.specs.declared.SegmentTable.{SegmentTable}
 use Rattle.segments.specs.declared.Slot.{Slot}
@@ -38,24 +38,24 @@ by-tenant = by-number (λ t. t .0) same-tenant
 -- ---- a tenant's own slots are those from its first on, as many as it has
 
 pub record Own (s : SegmentTable) (t : TenantId) (p : Slot) : Type 0 where
-  pub tenant : t .0 < tenants
+  pub tenant : t .0 < tenantTotal
   pub from : firstSlot s t .0 ≤ p .0
   pub to : p .0 < firstSlot s t .0 + slotCount s t
 
 pub own-parts : (s : SegmentTable) (t : TenantId) (p : Slot) → owns s t p ≡ true → Own s t p
 unfolding owns
 own-parts s t p e =
-    let h = three-true (ltb (t .0) tenants) (leb (firstSlot s t .0) (p .0)) (ltb (p .0) (firstSlot s t .0 + slotCount s t)) e in
+    let h = three-true (ltb (t .0) tenantTotal) (leb (firstSlot s t .0) (p .0)) (ltb (p .0) (firstSlot s t .0 + slotCount s t)) e in
     record { tenant = ltb-true _ _ (h .0); from = leb-true _ _ (h .1); to = ltb-true _ _ (h .2) }
 
-pub own-of : (s : SegmentTable) (t : TenantId) (p : Slot) → t .0 < tenants → firstSlot s t .0 ≤ p .0 → p .0 < firstSlot s t .0 + slotCount s t → owns s t p ≡ true
+pub own-of : (s : SegmentTable) (t : TenantId) (p : Slot) → t .0 < tenantTotal → firstSlot s t .0 ≤ p .0 → p .0 < firstSlot s t .0 + slotCount s t → owns s t p ≡ true
 unfolding owns
 own-of s t p h a b = both (both (lt-ltb _ _ h) (le-leb _ _ a)) (lt-ltb _ _ b)
 
 -- ---- what the rule of today says
 
 -- they are slots
-pub own-bound : (s : SegmentTable) (t : TenantId) → t .0 < tenants → firstSlot s t .0 + slotCount s t ≤ slots
+pub own-bound : (s : SegmentTable) (t : TenantId) → t .0 < tenantTotal → firstSlot s t .0 + slotCount s t ≤ slotTotal
 unfolding firstSlot slotCount
 own-bound s t h = omega arith
 
@@ -91,7 +91,7 @@ count-stays s t u x = refl
 
 -- ---- what follows
 
-pub own-slot : (s : SegmentTable) (t : TenantId) (p : Slot) → owns s t p ≡ true → p .0 < slots
+pub own-slot : (s : SegmentTable) (t : TenantId) (p : Slot) → owns s t p ≡ true → p .0 < slotTotal
 own-slot s t p e =
     let x = own-parts s t p e in
     let a = x .to in
@@ -112,12 +112,12 @@ unfolding pagesOf
 own-pages s t p o = let k = own-parts s t p o in sum-term (λ p. pagesAt s (slot p)) (p .0) (firstSlot s t .0) (slotCount s t) (k .from) (k .to)
 
 -- a tenant's ceiling is among the ceilings
-pub ceiling-among : (s : SegmentTable) (t : TenantId) → t .0 < tenants → ceilingAt s t ≤ ceilingsOf s
+pub ceiling-among : (s : SegmentTable) (t : TenantId) → t .0 < tenantTotal → ceilingAt s t ≤ ceilingsOf s
 unfolding ceilingsOf
-ceiling-among s t h = sum-term (λ i. ceilingAt s (tenantId i)) (t .0) 0 tenants (omega arith) (omega arith)
+ceiling-among s t h = sum-term (λ i. ceilingAt s (tenantId i)) (t .0) 0 tenantTotal (omega arith) (omega arith)
 
 -- a slot that is found for an open is its tenant's own
-pub lowest-own : (s : SegmentTable) (t : TenantId) (p : Slot) → t .0 < tenants → lowestEmpty s t ≡ some p → owns s t p ≡ true
+pub lowest-own : (s : SegmentTable) (t : TenantId) (p : Slot) → t .0 < tenantTotal → lowestEmpty s t ≡ some p → owns s t p ≡ true
 unfolding lowestEmpty
 lowest-own s t p h e = go (firstFrom (emptyAt s) (firstSlot s t .0) (slotCount s t)) refl e
   where
@@ -135,7 +135,7 @@ module _ (s : SegmentTable) (t : TenantId) (first : Slot) (count : ℕ) (f : fir
   number-is = ap (λ (p : Slot). p .0) f
 
   -- they are slots
-  pub bound-by : t .0 < tenants → first .0 + count ≤ slots
+  pub bound-by : t .0 < tenantTotal → first .0 + count ≤ slotTotal
   bound-by h = let b = own-bound s t h in let e = number-is in omega arith
 
   pub pages-by : sumFrom (λ p. pagesAt s (slot p)) (first .0) count ≡ pagesOf s t
@@ -156,7 +156,7 @@ module _ (s : SegmentTable) (t : TenantId) (first : Slot) (count : ℕ) (f : fir
   lowest-none i e h =
       lowest-by none (ap (firstFrom (emptyAt s) (first .0)) (sym e ∙ sym (add-zero i)) ∙ pass (emptyAt s) (first .0) i 0 h)
 
-  pub owns-inside : (p : Slot) → t .0 < tenants → (leb (first .0) (p .0) && ltb (p .0) (first .0 + count)) ≡ owns s t p
+  pub owns-inside : (p : Slot) → t .0 < tenantTotal → (leb (first .0) (p .0) && ltb (p .0) (first .0 + count)) ≡ owns s t p
   owns-inside p h =
       same-truth (leb (first .0) (p .0) && ltb (p .0) (first .0 + count)) (owns s t p)
       (λ e.
@@ -171,5 +171,5 @@ module _ (s : SegmentTable) (t : TenantId) (first : Slot) (count : ℕ) (f : fir
       let b = o .to in
       both (le-leb (first .0) (p .0) (omega arith)) (lt-ltb (p .0) (first .0 + count) (omega arith)))
 
-pub owns-outside : (s : SegmentTable) (t : TenantId) (p : Slot) → tenants ≤ t .0 → false ≡ owns s t p
+pub owns-outside : (s : SegmentTable) (t : TenantId) (p : Slot) → tenantTotal ≤ t .0 → false ≡ owns s t p
 owns-outside s t p h = sym (not-so (owns s t p) (λ e. let o = own-parts s t p e .tenant in omega arith))

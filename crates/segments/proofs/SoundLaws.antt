@@ -20,10 +20,11 @@ use Rattle.label.specs.Region.{regionOf}
 use Rattle.range.specs.Tuple
 use Rattle.range.specs.declared.tuple.Tuple.{Tuple}
 use Rattle.range.proofs.TupleLaws.{contained-valid}
-use Rattle.segments.specs.Parts.{Owned, ceilingsKept, ownerOr, segmentSound, slotsSound, tenantsSound}
-use Rattle.segments.specs.Segments.{ceilingAt, clearanceAt, pagesAt, pagesValid, segmentAt, slot, slots, tenantAt, tenantId, tenants, withSegment, zeroSegment}
+use Rattle.segments.specs.Internal.Owners.{Owned, ownerOr}
+use Rattle.segments.specs.Internal.SoundParts.{ceilingsKept, segmentSound, slotsSound, tenantsSound}
+use Rattle.segments.specs.Segments.{ceilingAt, clearanceAt, pagesAt, pagesValid, segmentAt, slot, slotTotal, tenantAt, tenantId, tenantTotal, withSegment, zeroSegment}
 use Rattle.segments.specs.Slots.{ceilingsOf, filled, firstSlot, owns, pagesOf, slotCount}
-use Rattle.segments.specs.Sound.{admitted, clearedBy, slotSound, sound, tenantSound, underCeiling, wellSized, zeros}
+use Rattle.segments.specs.Sound.{admitted, clearedBy, slotSound, sound, tenantSound, underCeiling, wellSized, isZeroSegment}
 use Rattle.segments.specs.declared.Segment.{Segment}
 use Rattle.segments.specs.declared.SegmentTable.{SegmentTable}
 use Rattle.segments.specs.declared.Slot.{Slot}
@@ -39,10 +40,10 @@ use Rattle.segments.proofs.SlotsLaws.{by-slot, by-tenant, count-kept, f
 pub record Sound (s : SegmentTable) : Type 0 where
   pub lengths : Lengths s
   pub pool : pagesValid (s .pool) ≡ true
-  pub tenant : (t : TenantId) → t .0 < tenants → tenantSound (tenantAt s t) ≡ true
-  pub segment : (p : Slot) → p .0 < slots → slotSound s p ≡ true
+  pub tenant : (t : TenantId) → t .0 < tenantTotal → tenantSound (tenantAt s t) ≡ true
+  pub segment : (p : Slot) → p .0 < slotTotal → slotSound s p ≡ true
   pub ceilings : ceilingsOf s ≤ s .pool
-  pub pages : (t : TenantId) → t .0 < tenants → pagesOf s t ≤ ceilingAt s t
+  pub pages : (t : TenantId) → t .0 < tenantTotal → pagesOf s t ≤ ceilingAt s t
 
 pub sound-parts : (s : SegmentTable) → sound s ≡ true → Sound s
 unfolding sound underCeiling
@@ -59,32 +60,32 @@ sound-parts s e =
     let z = first-true w a (i .0) in
     record {
       lengths = record {
-        tenants-are = eqb-true _ _ (first-true (eqb (length (s .tenants)) tenants) (eqb (length (s .segments)) slots) z);
-        segments-are = eqb-true _ _ (second-true (eqb (length (s .tenants)) tenants) (eqb (length (s .segments)) slots) z);
+        tenants-are = eqb-true _ _ (first-true (eqb (length (s .tenants)) tenantTotal) (eqb (length (s .segments)) slotTotal) z);
+        segments-are = eqb-true _ _ (second-true (eqb (length (s .tenants)) tenantTotal) (eqb (length (s .segments)) slotTotal) z);
       };
       pool = second-true w a (i .0);
-      tenant = λ t l. every-at (λ t. tenantSound (tenantAt s (tenantId t))) tenants (t .0) (i .1) l;
-      segment = λ p l. every-at (λ p. slotSound s (slot p)) slots (p .0) (i .2) l;
+      tenant = λ t l. every-at (λ t. tenantSound (tenantAt s (tenantId t))) tenantTotal (t .0) (i .1) l;
+      segment = λ p l. every-at (λ p. slotSound s (slot p)) slotTotal (p .0) (i .2) l;
       ceilings = leb-true _ _ (second-true (((w && a) && b) && c) d h);
-      pages = λ t l. leb-true _ _ (every-at (λ t. underCeiling s (tenantId t)) tenants (t .0) (second-true ((((w && a) && b) && c) && d) f e) l);
+      pages = λ t l. leb-true _ _ (every-at (λ t. underCeiling s (tenantId t)) tenantTotal (t .0) (second-true ((((w && a) && b) && c) && d) f e) l);
     }
 
 pub parts-sound : (s : SegmentTable) → Sound s → sound s ≡ true
 unfolding sound underCeiling
 parts-sound s h =
     both (both (both (both (both (both (eq-eqb _ _ (h .lengths .tenants-are)) (eq-eqb _ _ (h .lengths .segments-are))) (h .pool))
-    (every-all (λ t. tenantSound (tenantAt s (tenantId t))) tenants (λ t l. h .tenant (tenantId t) l)))
-    (every-all (λ p. slotSound s (slot p)) slots (λ p l. h .segment (slot p) l)))
+    (every-all (λ t. tenantSound (tenantAt s (tenantId t))) tenantTotal (λ t l. h .tenant (tenantId t) l)))
+    (every-all (λ p. slotSound s (slot p)) slotTotal (λ p l. h .segment (slot p) l)))
     (le-leb _ _ (h .ceilings)))
-    (every-all (λ t. underCeiling s (tenantId t)) tenants (λ t l. le-leb _ _ (h .pages (tenantId t) l)))
+    (every-all (λ t. underCeiling s (tenantId t)) tenantTotal (λ t l. le-leb _ _ (h .pages (tenantId t) l)))
 
 -- ---- tenants
 
 -- an admitted tenant is one, and has a ceiling of at least 1
-pub admitted-parts : (s : SegmentTable) (t : TenantId) → admitted s t ≡ true → (t .0 < tenants) × (1 ≤ ceilingAt s t)
+pub admitted-parts : (s : SegmentTable) (t : TenantId) → admitted s t ≡ true → (t .0 < tenantTotal) × (1 ≤ ceilingAt s t)
 unfolding admitted
 admitted-parts s t e =
-    (ltb-true _ _ (first-true (ltb (t .0) tenants) (leb 1 (ceilingAt s t)) e), leb-true _ _ (second-true (ltb (t .0) tenants) (leb 1 (ceilingAt s t)) e))
+    (ltb-true _ _ (first-true (ltb (t .0) tenantTotal) (leb 1 (ceilingAt s t)) e), leb-true _ _ (second-true (ltb (t .0) tenantTotal) (leb 1 (ceilingAt s t)) e))
 
 -- a sound record's clearance is valid
 pub tenant-clearance : (x : Tenant) → tenantSound x ≡ true → Tuple.validOf (x .clearance) ≡ true
@@ -121,20 +122,20 @@ clears-parts s p l t e =
 
 -- whether slot p may hold x
 abbrev pub held : SegmentTable → Slot → Segment → Bool
-held s p x = cond (leb 1 (x .pages)) (someBelow (clears s p (x .label)) tenants) (zeros x)
+held s p x = cond (leb 1 (x .pages)) (someBelow (clears s p (x .label)) tenantTotal) (isZeroSegment x)
 
 pub slot-held : (s : SegmentTable) (p : Slot) → slotSound s p ≡ held s p (segmentAt s p)
 unfolding slotSound filled clearedBy
 slot-held s p = refl
 
 -- some tenant clears a label for a slot exactly where the owner does
-pub owner-clears : (s : SegmentTable) (p : Slot) (l : Label) (t : TenantId) → owns s t p ≡ true → someBelow (clears s p l) tenants ≡ Tuple.containsOf (clearanceAt s t) l
+pub owner-clears : (s : SegmentTable) (p : Slot) (l : Label) (t : TenantId) → owns s t p ≡ true → someBelow (clears s p l) tenantTotal ≡ Tuple.containsOf (clearanceAt s t) l
 owner-clears s p l t o =
-    same-truth (someBelow (clears s p l) tenants) (Tuple.containsOf (clearanceAt s t) l)
-    (λ e. any-then (clears s p l) tenants e (λ i h f.
+    same-truth (someBelow (clears s p l) tenantTotal) (Tuple.containsOf (clearanceAt s t) l)
+    (λ e. any-then (clears s p l) tenantTotal e (λ i h f.
     let c = clears-parts s p l i f in
     ap (λ (u : TenantId). Tuple.containsOf (clearanceAt s u) l) (owner-unique s t (tenantId i) p o (c .0)) ∙ c .1))
-    (λ e. any-of (clears s p l) tenants (t .0) (own-parts s t p o .tenant) (both o e))
+    (λ e. any-of (clears s p l) tenantTotal (t .0) (own-parts s t p o .tenant) (both o e))
 
 -- so the owner's clearance tells whether a slot is sound, by what it has for the region of the label there
 sound-by-owner : (s : SegmentTable) (p : Slot) (t : TenantId) → owns s t p ≡ true
@@ -142,22 +143,22 @@ sound-by-owner : (s : SegmentTable) (p : Slot) (t : TenantId) → owns s t p ≡
 unfolding segmentSound Tuple.containsOf
 sound-by-owner s p t o =
     rw (and-true (leb 1 (pagesAt s p)))
-    (slot-held s p ∙ ap (λ (b : Bool). cond (leb 1 (pagesAt s p)) b (zeros (segmentAt s p))) (owner-clears s p (segmentAt s p .label) t o))
+    (slot-held s p ∙ ap (λ (b : Bool). cond (leb 1 (pagesAt s p)) b (isZeroSegment (segmentAt s p))) (owner-clears s p (segmentAt s p .label) t o))
 
 -- a slot that nobody owns is sound where it holds zeros
-sound-unowned : (s : SegmentTable) (p : Slot) → someBelow (λ t. owns s (tenantId t) p) tenants ≡ false → slotSound s p ≡ zeros (segmentAt s p)
-unfolding zeros
+sound-unowned : (s : SegmentTable) (p : Slot) → someBelow (λ t. owns s (tenantId t) p) tenantTotal ≡ false → slotSound s p ≡ isZeroSegment (segmentAt s p)
+unfolding isZeroSegment
 sound-unowned s p n = slot-held s p ∙ go (segmentAt s p)
   where
-    none : (l : Label) → someBelow (clears s p l) tenants ≡ false
+    none : (l : Label) → someBelow (clears s p l) tenantTotal ≡ false
     none l =
-        not-so (someBelow (clears s p l) tenants) (λ e. any-then (clears s p l) tenants e (λ i h f.
-        true≢false (sym (clears-parts s p l i f .0) ∙ none-of (λ t. owns s (tenantId t) p) tenants i n h)))
+        not-so (someBelow (clears s p l) tenantTotal) (λ e. any-then (clears s p l) tenantTotal e (λ i h f.
+        true≢false (sym (clears-parts s p l i f .0) ∙ none-of (λ t. owns s (tenantId t) p) tenantTotal i n h)))
 
-    go : (x : Segment) → held s p x ≡ zeros x
+    go : (x : Segment) → held s p x ≡ isZeroSegment x
     go x = by-pages (leb 1 (x .pages)) refl
       where
-        by-pages : (b : Bool) → leb 1 (x .pages) ≡ b → held s p x ≡ zeros x
+        by-pages : (b : Bool) → leb 1 (x .pages) ≡ b → held s p x ≡ isZeroSegment x
         by-pages true e =
             let l = leb-true 1 (x .pages) e in
             rw (e, none (x .label), ne-eqb (x .pages) 0 (λ z. absurd (omega arith)), and-false (Label.equalOf (x .label) Label.zeroLabel))
@@ -170,7 +171,7 @@ unfolding segmentSound
 sound-as-owned s p (ByTenant t) n h = sound-by-owner s p t (h .1)
 sound-as-owned s p Nobody n h = rw (and-false (leb 1 (pagesAt s p))) (sound-unowned s p h)
 
-pub owner-within : (s : SegmentTable) (p : Slot) (o : Owner) (n : ℕ) → Owned s p o → n < tenants → ownerOr o n < tenants
+pub owner-within : (s : SegmentTable) (p : Slot) (o : Owner) (n : ℕ) → Owned s p o → n < tenantTotal → ownerOr o n < tenantTotal
 owner-within s p (ByTenant t) n h l = h .0
 owner-within s p Nobody n h l = l
 
@@ -178,15 +179,15 @@ pub held-filled : (s : SegmentTable) (p : Slot) (x : Segment) (u : TenantId) →
 held-filled s p x u h o e = rw (le-leb 1 (x .pages) h) (owner-clears s p (x .label) u o ∙ e)
 
 -- where a filled slot may hold x, some tenant clears it
-held-by : (s : SegmentTable) (p : Slot) (x : Segment) → 1 ≤ x .pages → held s p x ≡ true → someBelow (clears s p (x .label)) tenants ≡ true
-held-by s p x h e = sym (ap (λ (b : Bool). cond b (someBelow (clears s p (x .label)) tenants) (zeros x)) (le-leb 1 (x .pages) h)) ∙ e
+held-by : (s : SegmentTable) (p : Slot) (x : Segment) → 1 ≤ x .pages → held s p x ≡ true → someBelow (clears s p (x .label)) tenantTotal ≡ true
+held-by s p x h e = sym (ap (λ (b : Bool). cond b (someBelow (clears s p (x .label)) tenantTotal) (isZeroSegment x)) (le-leb 1 (x .pages) h)) ∙ e
 
 -- which is its owner
 pub held-cleared : (s : SegmentTable) (p : Slot) (x : Segment) (t : TenantId) → 1 ≤ x .pages → owns s t p ≡ true → held s p x ≡ true → Tuple.containsOf (clearanceAt s t) (x .label) ≡ true
 held-cleared s p x t h o e = sym (owner-clears s p (x .label) t o) ∙ held-by s p x h e
 
 pub zeros-held : (s : SegmentTable) (p : Slot) → held s p zeroSegment ≡ true
-unfolding zeros
+unfolding isZeroSegment
 zeros-held s p = rw (equal-exact Label.zeroLabel Label.zeroLabel refl .1 refl)
 
 pub filled-pages : (s : SegmentTable) (p : Slot) → filled s p ≡ true → 1 ≤ pagesAt s p
@@ -194,9 +195,9 @@ unfolding filled
 filled-pages s p e = leb-true 1 (pagesAt s p) e
 
 -- a filled slot of a sound state holds a valid label, so that what a look shows has a hex line
-pub filled-valid : (s : SegmentTable) (p : Slot) → Sound s → p .0 < slots → filled s p ≡ true → Label.validOf (segmentAt s p .label) ≡ true
+pub filled-valid : (s : SegmentTable) (p : Slot) → Sound s → p .0 < slotTotal → filled s p ≡ true → Label.validOf (segmentAt s p .label) ≡ true
 filled-valid s p h l e =
-    any-then (clears s p (segmentAt s p .label)) tenants (held-by s p (segmentAt s p) (filled-pages s p e) (sym (slot-held s p) ∙ h .segment p l))
+    any-then (clears s p (segmentAt s p .label)) tenantTotal (held-by s p (segmentAt s p) (filled-pages s p e) (sym (slot-held s p) ∙ h .segment p l))
     (λ t i f.
     contained-valid (clearanceAt s (tenantId t)) (segmentAt s p .label) (tenant-clearance (tenantAt s (tenantId t)) (h .tenant (tenantId t) i))
     (clears-parts s p (segmentAt s p .label) t f .1))
@@ -209,8 +210,8 @@ module _ (s : SegmentTable) (t : TenantId) (q : Slot) (x : Segment) (h : Sound s
 
   held-same : (p : Slot) (y : Segment) → held next p y ≡ held s p y
   held-same p y =
-      ap (λ (b : Bool). cond (leb 1 (y .pages)) b (zeros y))
-      (any-same (clears next p (y .label)) (clears s p (y .label)) tenants
+      ap (λ (b : Bool). cond (leb 1 (y .pages)) b (isZeroSegment y))
+      (any-same (clears next p (y .label)) (clears s p (y .label)) tenantTotal
       (λ u l. ap (λ (b : Bool). b && Tuple.containsOf (clearanceAt s (tenantId u)) (y .label)) (owns-kept next s (tenantId u) p refl)))
 
   here : segmentAt next q ≡ x
@@ -226,7 +227,7 @@ module _ (s : SegmentTable) (t : TenantId) (q : Slot) (x : Segment) (h : Sound s
       rw (first-kept next s t refl, count-kept next s t refl) (r ∙ ap (λ (y : Segment). pagesOf s t + y .pages) here)
 
   -- all others have what they had
-  pages-others : (u : TenantId) → u .0 < tenants → (u .0 ≡ t .0 → ⊥) → pagesOf next u ≡ pagesOf s u
+  pages-others : (u : TenantId) → u .0 < tenantTotal → (u .0 ≡ t .0 → ⊥) → pagesOf next u ≡ pagesOf s u
   unfolding pagesOf
   pages-others u l n =
       rw (first-kept next s u refl, count-kept next s u refl)
@@ -243,10 +244,10 @@ module _ (s : SegmentTable) (t : TenantId) (q : Slot) (x : Segment) (h : Sound s
         tenant = h .tenant;
         segment = λ p l.
             slot-held next p ∙ held-same p (segmentAt next p)
-            ∙ by-slot (λ (p : Slot). p .0 < slots → held s p (segmentAt next p) ≡ true) q p (λ l. ap (held s q) here ∙ e)
+            ∙ by-slot (λ (p : Slot). p .0 < slotTotal → held s p (segmentAt next p) ≡ true) q p (λ l. ap (held s q) here ∙ e)
             (λ p i l. ap (held s p) (segment-kept s q p x i) ∙ sym (slot-held s p) ∙ h .segment p l) l;
         ceilings = h .ceilings;
         pages = λ u l.
-            by-tenant (λ (u : TenantId). u .0 < tenants → pagesOf next u ≤ ceilingAt s u) t u (λ l. let k = pages-written in omega arith)
+            by-tenant (λ (u : TenantId). u .0 < tenantTotal → pagesOf next u ≤ ceilingAt s u) t u (λ l. let k = pages-written in omega arith)
             (λ u i l. rw (pages-others u l i) (h .pages u l)) l;
       }

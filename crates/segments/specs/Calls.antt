@@ -9,7 +9,7 @@ use Rattle.label.specs.Label
 use Rattle.label.specs.declared.Label.{Label}
 use Rattle.range.specs.Tuple
 use Rattle.segments.specs.Replies.{Answers, Grant, Step, done, opened, shown}
-use Rattle.segments.specs.Segments.{ceilingAt, clearanceAt, pagesAt, pagesValid, segmentAt, segmentOf, slot, slots, withSegment, zeroSegment}
+use Rattle.segments.specs.Segments.{ceilingAt, clearanceAt, pagesAt, pagesValid, segmentAt, segmentOf, slot, slotTotal, withSegment, zeroSegment}
 use Rattle.segments.specs.Slots.{filled, lowestEmpty, owns, pagesOf}
 use Rattle.segments.specs.Sound.{admitted, sound}
 use Rattle.segments.specs.declared.Action.{Action}
@@ -44,7 +44,7 @@ closeCall t l p = callOf t l (Close (record { slot = p }))
 
 -- 22: slot above 63
 abbrev pub slotValid : Slot → Bool
-slotValid p = ltb (p .0) slots
+slotValid p = ltb (p .0) slotTotal
 
 -- 13: slot not its own, empty, or label not equal
 unfoldable pub writable : SegmentTable → TenantId → Label → Slot → Bool

@@ -4,4 +4,4 @@ pub mod Sound
 pub mod Replies
 pub mod Operator
 pub mod Calls
-pub mod Parts
+pub mod Internal

@@ -6,7 +6,7 @@ use Rattle.common.specs.Answer.{Answer, granted, require}
 use Rattle.range.specs.Tuple
 use Rattle.range.specs.declared.tuple.Tuple.{Tuple}
 use Rattle.segments.specs.Replies.{Grant, Step, done, leaving}
-use Rattle.segments.specs.Segments.{ceilingAt, clearanceAt, emptyTable, pagesValid, tenantOf, tenants, withTenant}
+use Rattle.segments.specs.Segments.{ceilingAt, clearanceAt, emptyTable, pagesValid, tenantOf, tenantTotal, withTenant}
 use Rattle.segments.specs.Slots.{ceilingsOf, pagesOf}
 use Rattle.segments.specs.Sound.{admitted, sound}
 use Rattle.segments.specs.declared.SegmentTable.{SegmentTable}
@@ -24,7 +24,7 @@ makeOf pool = leaving (emptyTable 0) (emptyTable pool) (makeAnswer pool)
 unfoldable pub admitAnswer : SegmentTable → TenantId → ℕ → Tuple → Answer Grant
 admitAnswer s t ceiling clearance =
     require (sound s) 22
-    (require (ltb (t .0) tenants && Tuple.validOf clearance && not (Tuple.emptyOf clearance) && leb 1 ceiling) 22
+    (require (ltb (t .0) tenantTotal && Tuple.validOf clearance && not (Tuple.emptyOf clearance) && leb 1 ceiling) 22
     (require (not (admitted s t)) 16
     (require (leb (ceilingsOf s + ceiling) (s .pool)) 12
     (granted done))))

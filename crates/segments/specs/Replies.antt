@@ -43,10 +43,6 @@ pub record Answers (a : CallAnswer) (x : answers.Answer Grant) : Type 0 where
   pub reply : replyOf (a .reply) (a .label) ≡ x
   pub label : a .label ≡ labelBeside x
 
--- an answer that shows no label
-abbrev pub unlabeledAnswer : Reply → CallAnswer
-unlabeledAnswer r = record { reply = r; label = Label.zeroLabel }
-
 -- a state and an answer
 pub record Step : Type 0 where
   pub table : SegmentTable
@@ -65,10 +61,6 @@ isRefusal Done = false
 isRefusal (Opened p) = false
 isRefusal (Shown x) = false
 isRefusal (Refused e) = true
-
--- the change of a refusal
-abbrev pub refusedWith : Errno → Change
-refusedWith e = record { slot = slot 0; segment = zeroSegment; answer = unlabeledAnswer (Refused e) }
 
 -- the outcome of a change: the slot gets the segment, and a refusal leaves the state as it was
 abbrev pub applied : SegmentTable → Change → CallOutcome

@@ -16,12 +16,12 @@ use Rattle.segments.specs.declared.Tenant.{Tenant}
 use Rattle.segments.specs.declared.TenantId.{TenantId}
 
 -- tenants 0 to 7
-abbrev pub tenants : ℕ
-tenants = 8
+abbrev pub tenantTotal : ℕ
+tenantTotal = 8
 
 -- slots 0 to 63
-abbrev pub slots : ℕ
-slots = 64
+abbrev pub slotTotal : ℕ
+slotTotal = 64
 
 -- the greatest pool, and the most pages that a call may name
 abbrev pub maxPages : ℕ
@@ -55,7 +55,7 @@ zeroSegment = segmentOf Label.zeroLabel 0 0
 
 -- a state with no tenants
 abbrev pub emptyTable : ℕ → SegmentTable
-emptyTable pool = tableOf pool (replicate tenants zeroTenant) (replicate slots zeroSegment)
+emptyTable pool = tableOf pool (replicate tenantTotal zeroTenant) (replicate slotTotal zeroSegment)
 
 -- what stands past the end of an array of these: no tenant and no slot has it
 abbrev noTenant : Tenant

@@ -4,7 +4,7 @@ use mathlib.Core.Option.{Option, none, some}
 use Prim.Native.Nat.{ℕ, _+_, _*_}
 use lib.Dec.{leb, ltb}
 use Rattle.common.specs.Index.{firstFrom, sumFrom}
-use Rattle.segments.specs.Segments.{ceilingAt, pagesAt, slot, tenantId, tenants}
+use Rattle.segments.specs.Segments.{ceilingAt, pagesAt, slot, tenantId, tenantTotal}
 use Rattle.segments.specs.declared.SegmentTable.{SegmentTable}
 use Rattle.segments.specs.declared.Slot.{Slot}
 use Rattle.segments.specs.declared.TenantId.{TenantId}
@@ -18,7 +18,7 @@ slotCount s t = 8
 
 -- whether slot p is tenant t's own
 unfoldable pub owns : SegmentTable → TenantId → Slot → Bool
-owns s t p = ltb (t .0) tenants && leb (firstSlot s t .0) (p .0) && ltb (p .0) (firstSlot s t .0 + slotCount s t)
+owns s t p = ltb (t .0) tenantTotal && leb (firstSlot s t .0) (p .0) && ltb (p .0) (firstSlot s t .0 + slotCount s t)
 
 -- a filled slot has at least 1 page
 unfoldable pub filled : SegmentTable → Slot → Bool
@@ -41,4 +41,4 @@ pagesOf s t = sumFrom (λ p. pagesAt s (slot p)) (firstSlot s t .0) (slotCount s
 
 -- the sum of the ceilings
 unfoldable pub ceilingsOf : SegmentTable → ℕ
-ceilingsOf s = sumFrom (λ t. ceilingAt s (tenantId t)) 0 tenants
+ceilingsOf s = sumFrom (λ t. ceilingAt s (tenantId t)) 0 tenantTotal

@@ -21,7 +21,7 @@ use crate::TenantId;
 use crate::no_label;
 use crate::refuses;
 use crate::slots;
-use crate::slots::Free;
+use crate::slots::SlotOption;
 use crate::state;
 use common::answer;
 use common::errno::Errno;
@@ -36,9 +36,11 @@ ghost use Rattle.common.specs.Answer.{outcomeOf};
 ghost use Rattle.label.specs.Label as labels;
 ghost use Rattle.segments.specs.Calls as rules;
 ghost use Rattle.segments.specs.Calls.{Decides, callOf, callRow, closeCall, lookCall, openCall, postCall, sizeCall, slotFor, slotValid, stepOf};
-ghost use Rattle.segments.specs.Parts.{Started, Viewed, fitsIn, freeOf, leftOf, namedSegment, namedValid, startOf};
-ghost use Rattle.segments.specs.Replies.{Answers, Results, applied, done, refusedWith};
-ghost use Rattle.segments.specs.Segments.{segmentAt, slots, tenantAt, tenants};
+ghost use Rattle.segments.specs.Internal.CallParts.{Started, Viewed, firstChecksOf, namedSegment, namedValid, refusedWith};
+ghost use Rattle.segments.specs.Internal.Limits.{fitsIn, limitLeft};
+ghost use Rattle.segments.specs.Internal.Owners.{slotOptionOf};
+ghost use Rattle.segments.specs.Replies.{Answers, Results, applied, done};
+ghost use Rattle.segments.specs.Segments.{segmentAt, slotTotal, tenantAt, tenantTotal};
 ghost use Rattle.segments.specs.Slots.{pagesOf};
 ghost use Rattle.segments.specs.Sound.{sound};
 
@@ -71,41 +73,44 @@ fn numbers_valid(action: Action) -> bool
 }
 
 // The slot that an action names. An open names none.
-fn named(action: Action) -> Free
-    ensures { λ r. ⌜ freeOf r ≡ callRow action .named ⌝ }
+fn named(action: Action) -> SlotOption
+    ensures { λ r. ⌜ slotOptionOf r ≡ callRow action .named ⌝ }
 {
     match action {
-        Action::Open(_) => Free::Nothing,
-        Action::Size(x) => Free::At(Slot(x.slot.0)),
-        Action::Post(x) => Free::At(Slot(x.slot.0)),
-        Action::Look(x) => Free::At(Slot(x.slot.0)),
-        Action::Close(x) => Free::At(Slot(x.slot.0)),
+        Action::Open(_) => SlotOption::Nothing,
+        Action::Size(x) => SlotOption::At(Slot(x.slot.0)),
+        Action::Post(x) => SlotOption::At(Slot(x.slot.0)),
+        Action::Look(x) => SlotOption::At(Slot(x.slot.0)),
+        Action::Close(x) => SlotOption::At(Slot(x.slot.0)),
     }
 }
 
 // Whether a slot that is named is one of the state's.
-fn named_valid(slot: Free) -> bool
-    ensures { λ r. ⌜ r ≡ namedValid (freeOf slot) ⌝ }
+fn named_valid(slot: SlotOption) -> bool
+    ensures { λ r. ⌜ r ≡ namedValid (slotOptionOf slot) ⌝ }
 {
     match slot {
-        Free::At(p) => slot_valid(p),
-        Free::Nothing => true,
+        SlotOption::At(p) => slot_valid(p),
+        SlotOption::Nothing => true,
     }
 }
 
 // What the state has for a call: its tenant's record, and what is in the slot that it names. They are taken out together and once, since each
 // function that takes something out of the state is handed a copy of it.
-fn view_of(table: SegmentTable, tenant: TenantId, slot: Free) -> View
-    requires { ⌜ (tenant .0 < tenants) × (namedValid (freeOf slot) ≡ true) ⌝ }
-    ensures { λ r. ⌜ (r .tenant ≡ tenantAt table tenant) × (r .segment ≡ namedSegment table (freeOf slot)) ⌝ }
+fn view_of(table: SegmentTable, tenant: TenantId, slot: SlotOption) -> View
+    requires { ⌜ (tenant .0 < tenantTotal) × (namedValid (slotOptionOf slot) ≡ true) ⌝ }
+    ensures { λ r. ⌜ (r .tenant ≡ tenantAt table tenant) × (r .segment ≡ namedSegment table (slotOptionOf slot)) ⌝ }
 {
     let record = table.tenants[tenant.0 as usize];
     match slot {
-        Free::At(p) => View {
-            tenant: record,
-            segment: table.segments[p.0 as usize],
-        },
-        Free::Nothing => View {
+        SlotOption::At(p) => {
+            let segment = table.segments[p.0 as usize];
+            View {
+                tenant: record,
+                segment,
+            }
+        }
+        SlotOption::Nothing => View {
             tenant: record,
             segment: state::zero_segment(),
         },
@@ -133,7 +138,7 @@ fn cleared(table: SegmentTable, call: Call, v: View) -> bool
 fn start(table: SegmentTable, call: Call, v: View) -> answer::Outcome
     requires { ⌜ sound table ≡ true ⌝ }
     requires { ⌜ Viewed table call v ⌝ }
-    ensures { λ o. ⌜ outcomeOf o done ≡ startOf table call ⌝ }
+    ensures { λ o. ⌜ outcomeOf o done ≡ firstChecksOf table call ⌝ }
 {
     if !valid(table, call, v) {
         return answer::Outcome::Refused(Errno::Invalid);
@@ -182,8 +187,8 @@ fn visible(table: SegmentTable, label: Label, slot: Slot, x: Segment) -> bool
 
 // Whether the tenant's ceiling has room for pages, some of which take the place of others.
 fn has_room(table: SegmentTable, tenant: TenantId, ceiling: u64, replaced: u64, pages: u64) -> bool
-    requires { ⌜ tenant .0 < tenants ⌝ }
-    ensures { λ r. ⌜ r ≡ fitsIn (leftOf ceiling (pagesOf table tenant)) replaced pages ⌝ }
+    requires { ⌜ tenant .0 < tenantTotal ⌝ }
+    ensures { λ r. ⌜ r ≡ fitsIn (limitLeft ceiling (pagesOf table tenant)) replaced pages ⌝ }
 {
     slots::fits(slots::pages_left(table, tenant, ceiling), replaced, pages)
 }
@@ -209,13 +214,13 @@ fn permitted(table: SegmentTable, call: Call, v: View) -> bool
 }
 
 // The slot that a call is about, if there is one: the one that it names, else the tenant's lowest empty one.
-fn slot_for(table: SegmentTable, tenant: TenantId, slot: Free) -> Free
-    requires { ⌜ tenant .0 < tenants ⌝ }
-    ensures { λ r. ⌜ freeOf r ≡ slotFor table tenant (freeOf slot) ⌝ }
+fn slot_for(table: SegmentTable, tenant: TenantId, slot: SlotOption) -> SlotOption
+    requires { ⌜ tenant .0 < tenantTotal ⌝ }
+    ensures { λ r. ⌜ slotOptionOf r ≡ slotFor table tenant (slotOptionOf slot) ⌝ }
 {
     match slot {
-        Free::At(p) => Free::At(p),
-        Free::Nothing => slots::lowest_empty(table, tenant),
+        SlotOption::At(p) => SlotOption::At(p),
+        SlotOption::Nothing => slots::lowest_empty(table, tenant),
     }
 }
 
@@ -306,9 +311,9 @@ fn started(table: SegmentTable, call: Call, v: View) -> Change
     }
     let tenant = call.tenant;
     let action = call.action;
-    let free = slot_for(table, tenant, named(action));
+    let found = slot_for(table, tenant, named(action));
     let room = pages_fit(table, call, v);
-    let Free::At(slot) = free else {
+    let SlotOption::At(slot) = found else {
         return refused(Errno::NoSpace);
     };
     if !room {
@@ -356,7 +361,7 @@ pub fn decide(table: SegmentTable, call: Call) -> Change
 
 // Makes a change.
 fn apply(table: SegmentTable, change: Change) -> CallOutcome
-    requires { ⌜ change .slot .0 < slots ⌝ }
+    requires { ⌜ change .slot .0 < slotTotal ⌝ }
     ensures { λ r. ⌜ r ≡ applied table change ⌝ }
 {
     let answer = change.answer;

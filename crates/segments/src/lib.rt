@@ -8,8 +8,9 @@ use common::errno::Errno;
 use label::Label;
 use range::tuple::Tuple;
 ghost use mathlib.Core.Path.{_≡_};
-ghost use Rattle.segments.specs.Parts as parts;
-ghost use Rattle.segments.specs.Replies.{isRefusal, unlabeledAnswer};
+ghost use Rattle.segments.specs.Internal.CallParts as parts;
+ghost use Rattle.segments.specs.Replies.{isRefusal};
+ghost use Rattle.segments.specs.Internal.CallParts.{unlabeledAnswer};
 
 // How many tenants, and how many slots, a machine has.
 pub const TENANTS: usize = 8;

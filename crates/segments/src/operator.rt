@@ -18,9 +18,9 @@ ghost use mathlib.Core.Bool.{true, not, _&&_};
 ghost use Prim.Native.Nat.{_<_};
 ghost use Rattle.range.specs.Tuple as tuples;
 ghost use Rattle.segments.specs.Operator.{admitOf, makeOf, setCeilingOf};
-ghost use Rattle.segments.specs.Parts.{poolAnswer};
+ghost use Rattle.segments.specs.Internal.CallParts.{poolAnswer};
 ghost use Rattle.segments.specs.Replies.{Results, leaving};
-ghost use Rattle.segments.specs.Segments.{emptyTable, tenantAt, tenants, withTenant};
+ghost use Rattle.segments.specs.Segments.{emptyTable, tenantAt, tenantTotal, withTenant};
 ghost use Rattle.segments.specs.Sound.{sound};
 
 // The state with no tenants.
@@ -63,7 +63,7 @@ fn clearance_valid(t: Tuple) -> bool
 // Gives a tenant another record, if the pool has room for its ceiling in place of the old one.
 fn set_record(table: SegmentTable, tenant: TenantId, x: Tenant) -> CallOutcome
     requires { ⌜ sound table ≡ true ⌝ }
-    requires { ⌜ tenant .0 < tenants ⌝ }
+    requires { ⌜ tenant .0 < tenantTotal ⌝ }
     ensures { λ r. ⌜ Results r (leaving table (withTenant table tenant x) (poolAnswer table tenant (x .ceiling))) ⌝ }
 {
     let old = table.tenants[tenant.0 as usize].ceiling;
@@ -93,7 +93,7 @@ pub fn admit(table: SegmentTable, tenant: TenantId, ceiling: u64, clearance: Tup
 
 // A tenant's record.
 fn record_of(table: SegmentTable, tenant: TenantId) -> Tenant
-    requires { ⌜ tenant .0 < tenants ⌝ }
+    requires { ⌜ tenant .0 < tenantTotal ⌝ }
     ensures { λ r. ⌜ r ≡ tenantAt table tenant ⌝ }
 {
     table.tenants[tenant.0 as usize]

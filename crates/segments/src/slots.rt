@@ -5,12 +5,13 @@ use crate::TENANTS;
 use crate::TenantId;
 ghost use mathlib.Core.Path.{_≡_};
 ghost use Prim.Native.Nat.{_<_};
-ghost use Rattle.segments.specs.Parts.{Owned, fitsIn, freeOf, isOwned, keptIn, leftOf, ownerOr, remainingOf};
-ghost use Rattle.segments.specs.Segments.{slots, tenants};
+ghost use Rattle.segments.specs.Internal.Limits.{fitsIn, keptIn, limitLeft, remainingOf};
+ghost use Rattle.segments.specs.Internal.Owners.{Owned, slotOptionOf, isOwned, ownerOr};
+ghost use Rattle.segments.specs.Segments.{slotTotal, tenantTotal};
 ghost use Rattle.segments.specs.Slots as rules;
 
 // A slot that is named or found, or none.
-pub(crate) enum Free {
+pub(crate) enum SlotOption {
     At(Slot),
     Nothing,
 }
@@ -29,7 +30,7 @@ pub(crate) enum Remaining {
 
 // The first slot of t's own. This function and the next alone know which slots a tenant owns: t owns 8t to 8t+7.
 pub(crate) fn first_slot(s: SegmentTable, t: TenantId) -> Slot
-    requires { ⌜ t .0 < tenants ⌝ }
+    requires { ⌜ t .0 < tenantTotal ⌝ }
     ensures { λ r. ⌜ r ≡ rules.firstSlot s t ⌝ }
 {
     Slot(8 * t.0)
@@ -89,27 +90,28 @@ pub(crate) fn owner_or(owner: Owner, other: u64) -> u64
 }
 
 // The lowest slot of t's own without pages, if there is one.
-pub(crate) fn lowest_empty(s: SegmentTable, t: TenantId) -> Free
-    requires { ⌜ t .0 < tenants ⌝ }
-    ensures { λ r. ⌜ freeOf r ≡ rules.lowestEmpty s t ⌝ }
+pub(crate) fn lowest_empty(s: SegmentTable, t: TenantId) -> SlotOption
+    requires { ⌜ t .0 < tenantTotal ⌝ }
+    ensures { λ r. ⌜ slotOptionOf r ≡ rules.lowestEmpty s t ⌝ }
 {
-    let first = first_slot(s, t);
+    let lowest = first_slot(s, t);
     let count = slot_count(s, t);
     let mut k: u64 = 0;
     while k < count {
-        let pages = s.segments[(first.0 + k) as usize].pages;
+        let pages = s.segments[(lowest.0 + k) as usize].pages;
         if pages == 0 {
-            return Free::At(Slot(first.0 + k));
+            let found = lowest.0 + k;
+            return SlotOption::At(Slot(found));
         }
         k += 1;
     }
-    Free::Nothing
+    SlotOption::Nothing
 }
 
 // What is left of a limit when t's pages are taken from it. It counts down, so that no sum wraps, whatever the state holds.
 pub(crate) fn pages_left(s: SegmentTable, t: TenantId, limit: u64) -> Remaining
-    requires { ⌜ t .0 < tenants ⌝ }
-    ensures { λ r. ⌜ remainingOf r ≡ leftOf limit (rules.pagesOf s t) ⌝ }
+    requires { ⌜ t .0 < tenantTotal ⌝ }
+    ensures { λ r. ⌜ remainingOf r ≡ limitLeft limit (rules.pagesOf s t) ⌝ }
 {
     let first = first_slot(s, t);
     let count = slot_count(s, t);
@@ -128,7 +130,7 @@ pub(crate) fn pages_left(s: SegmentTable, t: TenantId, limit: u64) -> Remaining
 
 // What is left of the pool when every tenant's ceiling is taken from it.
 pub(crate) fn pool_left(s: SegmentTable) -> Remaining
-    ensures { λ r. ⌜ remainingOf r ≡ leftOf (s .pool) (rules.ceilingsOf s) ⌝ }
+    ensures { λ r. ⌜ remainingOf r ≡ limitLeft (s .pool) (rules.ceilingsOf s) ⌝ }
 {
     let mut left = s.pool;
     let mut i = 0;

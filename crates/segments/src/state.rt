@@ -20,8 +20,8 @@ use range::unchecked;
 ghost use mathlib.Core.Path.{_≡_};
 ghost use Prim.Native.Nat.{_<_};
 ghost use Rattle.common.specs.Answer.{granted, numberAnswerOf, require};
-ghost use Rattle.segments.specs.Parts.{ceilingsKept, segmentSound, slotsSound, tenantsSound};
-ghost use Rattle.segments.specs.Segments.{pagesValid, slots, tenants, withSegment, withTenant, zeroSegment};
+ghost use Rattle.segments.specs.Internal.SoundParts.{ceilingsKept, segmentSound, slotsSound, tenantsSound};
+ghost use Rattle.segments.specs.Segments.{pagesValid, slotTotal, tenantTotal, withSegment, withTenant, zeroSegment};
 ghost use Rattle.segments.specs.Slots.{pagesOf};
 ghost use Rattle.segments.specs.Sound as rules;
 
@@ -69,7 +69,7 @@ fn tenants_sound(s: SegmentTable) -> bool
 
 // Whether a segment is zeros, as an empty slot holds.
 fn zeros(x: Segment) -> bool
-    ensures { λ r. ⌜ r ≡ rules.zeros x ⌝ }
+    ensures { λ r. ⌜ r ≡ rules.isZeroSegment x ⌝ }
 {
     label::is_zero(x.label) & (x.pages == 0) & (x.version == 0)
 }
@@ -114,7 +114,7 @@ fn slots_sound(s: SegmentTable) -> bool
 
 // Whether t's pages are at most its ceiling.
 fn under_ceiling(s: SegmentTable, t: TenantId) -> bool
-    requires { ⌜ t .0 < tenants ⌝ }
+    requires { ⌜ t .0 < tenantTotal ⌝ }
     ensures { λ r. ⌜ r ≡ rules.underCeiling s t ⌝ }
 {
     slots::kept(slots::pages_left(s, t, s.tenants[t.0 as usize].ceiling))
@@ -184,7 +184,7 @@ pub(crate) fn zero_segment() -> Segment
 
 // The state with another record for t.
 pub(crate) fn with_tenant(s: SegmentTable, t: TenantId, x: Tenant) -> SegmentTable
-    requires { ⌜ t .0 < tenants ⌝ }
+    requires { ⌜ t .0 < tenantTotal ⌝ }
     ensures { λ r. ⌜ r ≡ withTenant s t x ⌝ }
 {
     let mut next = s;
@@ -194,7 +194,7 @@ pub(crate) fn with_tenant(s: SegmentTable, t: TenantId, x: Tenant) -> SegmentTab
 
 // The state with another segment in p.
 pub(crate) fn with_segment(s: SegmentTable, p: Slot, x: Segment) -> SegmentTable
-    requires { ⌜ p .0 < slots ⌝ }
+    requires { ⌜ p .0 < slotTotal ⌝ }
     ensures { λ r. ⌜ r ≡ withSegment s p x ⌝ }
 {
     let mut next = s;

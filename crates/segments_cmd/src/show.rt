@@ -17,7 +17,7 @@ ghost use Prim.Native.Nat.{_+_, _<_, _≤_};
 ghost use lib.ListN.{length};
 ghost use Rattle.octets.specs.Internal.Put.{Put};
 ghost use Rattle.label.specs.Words.{membersOf};
-ghost use Rattle.segments.specs.Segments.{tenants};
+ghost use Rattle.segments.specs.Segments.{tenantTotal};
 ghost use Rattle.segments_cmd.specs.Answer.{PutWithin};
 ghost use Rattle.segments_cmd.specs.Show.{categoriesBytes, categoryNumbersText, labelTextSize, labelNumbersText, lineBytes, listText, poolText, segmentBytes, segmentText, slotText, tenantText};
 
@@ -126,7 +126,7 @@ fn print_slots(out: &mut [u8], s: SegmentTable)
 // Prints a tenant that is admitted.
 fn print_tenant(out: &mut [u8], s: SegmentTable, tenant: usize)
     requires { ⌜ lineBytes ≤ length (now out) ⌝ }
-    requires { ⌜ tenant < tenants ⌝ }
+    requires { ⌜ tenant < tenantTotal ⌝ }
 {
     let ceiling = s.tenants[tenant].ceiling;
     let used = state::pages_in_use(s, TenantId(tenant as u64));

@@ -6,7 +6,7 @@ use borrow.Author.Tests.{leb-false}
 use lib.Dec.{leb}
 use Rattle.common.proofs.BoolLaws.{neither}
 use Rattle.segments.specs.Replies.{applied, isRefusal}
-use Rattle.segments.specs.Segments.{slots}
+use Rattle.segments.specs.Segments.{slotTotal}
 use Rattle.segments.specs.declared.Change.{Change}
 use Rattle.abi.specs.Outcome.{appliedTo, handedBack}
 use Rattle.abi.specs.declared.outcome.COutcome.{COutcome}
@@ -16,12 +16,12 @@ use Rattle.abi.proofs.outcome.apply.Tie as tie
 
 -- the test of the change
 tested : (c : tie.After-struct-known) → let x = c .before .before .before .args .change in
-    (isRefusal (x .answer .reply) || leb slots (x .slot .0)) ≡ (c .before .refuses .result || leb slots (x .slot .0))
-tested c = ap (λ (b : Bool). b || leb slots (c .before .before .before .args .change .slot .0)) (sym (c .before .refuses .ensures))
+    (isRefusal (x .answer .reply) || leb slotTotal (x .slot .0)) ≡ (c .before .refuses .result || leb slotTotal (x .slot .0))
+tested c = ap (λ (b : Bool). b || leb slotTotal (c .before .before .before .args .change .slot .0)) (sym (c .before .refuses .ensures))
 
 -- what is handed back is also what the change gives
 whole : (k : tie.Start) {r : COutcome} → let a = k .args in r ≡ appliedTo (a .state) (a .change)
-    → (r ≡ appliedTo (a .state) (a .change)) × (a .change .slot .0 < slots → r ≡ handedBack (applied (a .state) (a .change)))
+    → (r ≡ appliedTo (a .state) (a .change)) × (a .change .slot .0 < slotTotal → r ≡ handedBack (applied (a .state) (a .change)))
 whole k e = let a = k .args in (e, λ h. e ∙ applied-back (a .state) (a .change) h)
 
 returns : tie.Need-returns
@@ -32,7 +32,7 @@ returns c =
 with-segment-requires : tie.Need-with-segment-requires
 with-segment-requires c κs =
     let x = c .before .before .before .before .args .change in
-    leb-false slots (x .slot .0) (neither (c .before .before .refuses .result) (leb slots (x .slot .0)) (c .if1 .left) .1)
+    leb-false slotTotal (x .slot .0) (neither (c .before .before .refuses .result) (leb slotTotal (x .slot .0)) (c .if1 .left) .1)
 
 returns-2 : tie.Need-returns-2
 returns-2 c =

@@ -7,8 +7,8 @@ use Rattle.common.specs.declared.errno.Errno.the-variants.{Invalid}
 use Rattle.common.proofs.BoolLaws.{first-true, second-true, told-false, told-true}
 use Prim.Native.Nat.{_<_}
 use Rattle.segments.specs.Calls.{callRow}
-use Rattle.segments.specs.Parts.{namedValid}
-use Rattle.segments.specs.Segments.{tenants}
+use Rattle.segments.specs.Internal.CallParts.{namedValid}
+use Rattle.segments.specs.Segments.{tenantTotal}
 use Rattle.segments.specs.Sound.{sound}
 use Rattle.segments.proofs.ResultsLaws.{decides-refused, out-of-bounds, unsound}
 use Rattle.segments.proofs.calls.decide.Statement.{statement}
@@ -19,9 +19,9 @@ is-sound c = told-true (c .before .is-sound .ensures) (c .if1 .left)
 
 -- the test of the bounds
 bounds : (c : tie.After-named-valid) → let a = c .before .before .before .before .before .before .args .call in
-    (ltb (a .tenant .0) tenants && c .named-valid .result) ≡ (ltb (a .tenant .0) tenants && namedValid (callRow (a .action) .named))
+    (ltb (a .tenant .0) tenantTotal && c .named-valid .result) ≡ (ltb (a .tenant .0) tenantTotal && namedValid (callRow (a .action) .named))
 bounds c =
-    let t : Bool = ltb (c .before .before .before .before .before .before .args .call .tenant .0) tenants in
+    let t : Bool = ltb (c .before .before .before .before .before .before .args .call .tenant .0) tenantTotal in
     ap (λ (b : Bool). t && b) (c .named-valid .ensures ∙ ap namedValid (c .before .before .named .ensures))
 
 returns : tie.Need-returns
@@ -34,12 +34,12 @@ returns-2 c =
     let e = v .before .before .before .before in
     decides-refused _ _ Invalid (c .refused2 .ensures) (out-of-bounds _ _ (is-sound e) (told-false (bounds v) (t .if2 .taken)))
 
-inside : (c : tie.Else2) → let a = c .before .before .before .before .before .before .before .args .call in (a .tenant .0 < tenants) × (namedValid (callRow (a .action) .named) ≡ true)
+inside : (c : tie.Else2) → let a = c .before .before .before .before .before .before .before .args .call in (a .tenant .0 < tenantTotal) × (namedValid (callRow (a .action) .named) ≡ true)
 inside c =
     let a = c .before .before .before .before .before .before .before .args .call in
     let e = told-true (bounds (c .before)) (c .if2 .left) in
-    let t : Bool = ltb (a .tenant .0) tenants in
-    (ltb-true (a .tenant .0) tenants (first-true t (namedValid (callRow (a .action) .named)) e), second-true t (namedValid (callRow (a .action) .named)) e)
+    let t : Bool = ltb (a .tenant .0) tenantTotal in
+    (ltb-true (a .tenant .0) tenantTotal (first-true t (namedValid (callRow (a .action) .named)) e), second-true t (namedValid (callRow (a .action) .named)) e)
 
 view-of-requires : tie.Need-view-of-requires
 view-of-requires c κs = let h = inside c in (h .0, rw (c .before .before .before .named .ensures) (h .1))

@@ -2,7 +2,7 @@ use borrow.Author.Needs.{needs}
 use mathlib.Core.Option.{Option}
 use mathlib.Core.Path.{ap, _∙_}
 use Prim.Native.Nat.{ℕ}
-use Rattle.segments.specs.Parts.{fitsIn}
+use Rattle.segments.specs.Internal.Limits.{fitsIn}
 use Rattle.segments.proofs.calls.has_room.Statement.{statement}
 use Rattle.segments.proofs.calls.has_room.Tie as tie
 

@@ -3,7 +3,7 @@ use mathlib.Core.Bool.{true}
 use mathlib.Core.Path.{_≡_}
 use Rattle.common.proofs.BoolLaws.{told-false, told-true}
 use Rattle.segments.specs.Calls.{callValid}
-use Rattle.segments.specs.Parts.{startOf}
+use Rattle.segments.specs.Internal.CallParts.{firstChecksOf}
 use Rattle.segments.proofs.calls.start.Statement.{statement}
 use Rattle.segments.proofs.calls.start.Tie as tie
 
@@ -17,17 +17,17 @@ is-valid : (c : tie.Else1) → let a = c .before .before .args in callValid (a .
 is-valid c = told-true (c .before .valid .ensures) (c .if1 .left)
 
 returns : tie.Need-returns
-unfolding startOf
+unfolding firstChecksOf
 returns c = rw (c .before .before .pre .0, told-false (c .before .valid .ensures) (c .if1 .taken))
 
 returns-2 : tie.Need-returns-2
-unfolding startOf
+unfolding firstChecksOf
 returns-2 c =
     let e = c .before .before in
     rw (e .before .before .pre .0, is-valid e, told-false (c .before .cleared .ensures) (c .if2 .taken))
 
 returns-3 : tie.Need-returns-3
-unfolding startOf
+unfolding firstChecksOf
 returns-3 c =
     let e = c .before .before in
     rw (e .before .before .pre .0, is-valid e, told-true (c .before .cleared .ensures) (c .if2 .left))

@@ -5,8 +5,8 @@ use mathlib.Core.Path.{_≡_, sym, ap, _∙_}
 use Rattle.common.specs.declared.errno.Errno.the-variants.{Access, NoMem, NoSpace}
 use Rattle.common.proofs.BoolLaws.{told-false, told-true}
 use Rattle.segments.specs.Calls.{accessOf, callRow, slotFor}
-use Rattle.segments.specs.Parts.{freeOf}
-use Rattle.segments.specs.declared.slots.Free.{Free}
+use Rattle.segments.specs.Internal.Owners.{slotOptionOf}
+use Rattle.segments.specs.declared.slots.SlotOption.{SlotOption}
 use Rattle.segments.proofs.ResultsLaws.{decides-granted, access-refused}
 use Rattle.segments.proofs.calls.started.Statement.{statement}
 use Rattle.segments.proofs.calls.started.Tie as tie
@@ -17,7 +17,7 @@ is-permitted c = told-true (c .before .permitted .ensures) (c .if1 .left)
 
 -- the slot that was found is the one that the call is about
 looked : (c : tie.After-slot-for) → let a = c .before .before .before .before .before .args in
-    freeOf (c .slot-for .result) ≡ slotFor (a .table) (a .call .tenant) (callRow (a .call .action) .named)
+    slotOptionOf (c .slot-for .result) ≡ slotFor (a .table) (a .call .tenant) (callRow (a .call .action) .named)
 looked c = let a = c .before .before .before .before .before .args in c .slot-for .ensures ∙ ap (slotFor (a .table) (a .call .tenant)) (c .before .named .ensures)
 
 permitted-requires : tie.Need-permitted-requires
@@ -45,7 +45,7 @@ returns-2 c =
     let f = o .before .before .before in
     let e = f .before .before .before in
     access-refused _ _ (e .before .before .pre .0) NoSpace (c .refused2 .ensures)
-    (rw (is-permitted e, sym (looked f) ∙ ap freeOf (o .enum-told .given .1)))
+    (rw (is-permitted e, sym (looked f) ∙ ap slotOptionOf (o .enum-told .given .1)))
 
 returns-3 : tie.Need-returns-3
 unfolding accessOf
@@ -55,7 +55,7 @@ returns-3 c =
     let f = r .before in
     let e = f .before .before .before in
     access-refused _ _ (e .before .before .pre .0) NoMem (c .refused3 .ensures)
-    (rw (is-permitted e, sym (looked f) ∙ ap freeOf (k .before .free .given .1), told-false (r .pages-fit .ensures) (c .before .if2 .taken)))
+    (rw (is-permitted e, sym (looked f) ∙ ap slotOptionOf (k .before .found .given .1), told-false (r .pages-fit .ensures) (c .before .if2 .taken)))
 
 returns-4 : tie.Need-returns-4
 returns-4 c =
@@ -66,7 +66,7 @@ returns-4 c =
     let f = r .before in
     let e = f .before .before .before in
     let q = e .before .before .pre in
-    decides-granted _ _ (q .0) (is-permitted e) (sym (looked f) ∙ ap freeOf (k .before .free .given .1)) (told-true (r .pages-fit .ensures) (p .if2 .left))
+    decides-granted _ _ (q .0) (is-permitted e) (sym (looked f) ∙ ap slotOptionOf (k .before .found .given .1)) (told-true (r .pages-fit .ensures) (p .if2 .left))
     (q .1 .segment) (w .written .ensures) (c .granted .ensures)
 
 pub started-spec : {M : Type 1} → statement M

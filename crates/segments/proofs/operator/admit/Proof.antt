@@ -8,7 +8,7 @@ use Rattle.common.specs.declared.errno.Errno.the-variants.{Busy, Invalid}
 use Rattle.common.proofs.BoolLaws.{three-true, told-false, told-true}
 use Rattle.range.specs.Tuple
 use Rattle.segments.specs.Operator.{admitAnswer, admitOf}
-use Rattle.segments.specs.Segments.{tenants}
+use Rattle.segments.specs.Segments.{tenantTotal}
 use Rattle.segments.specs.Sound.{admitted, sound}
 use Rattle.segments.proofs.OperatorLaws.{pool-new}
 use Rattle.segments.proofs.ResultsLaws.{results-refused, results-same}
@@ -20,23 +20,23 @@ is-sound : (c : tie.Else1) → sound (c .before .before .args .table) ≡ true
 is-sound c = told-true (c .before .is-sound .ensures) (c .if1 .left)
 
 tested : (c : tie.After-clearance-valid) → let a = c .before .before .before .before .args in
-    (ltb (a .tenant .0) tenants && c .clearance-valid .result && leb 1 (a .ceiling))
-    ≡ (ltb (a .tenant .0) tenants && Tuple.validOf (a .clearance) && not (Tuple.emptyOf (a .clearance)) && leb 1 (a .ceiling))
+    (ltb (a .tenant .0) tenantTotal && c .clearance-valid .result && leb 1 (a .ceiling))
+    ≡ (ltb (a .tenant .0) tenantTotal && Tuple.validOf (a .clearance) && not (Tuple.emptyOf (a .clearance)) && leb 1 (a .ceiling))
 tested c =
     let a = c .before .before .before .before .args in
-    let k : Bool = ltb (a .tenant .0) tenants in
+    let k : Bool = ltb (a .tenant .0) tenantTotal in
     ap (λ (b : Bool). b && leb 1 (a .ceiling))
     (ap (λ (b : Bool). k && b) (c .clearance-valid .ensures) ∙ sym (and-assoc k (Tuple.validOf (a .clearance)) (not (Tuple.emptyOf (a .clearance)))))
 
 is-valid : (c : tie.Else2) → let a = c .before .before .before .before .before .args in
-    (ltb (a .tenant .0) tenants && Tuple.validOf (a .clearance) && not (Tuple.emptyOf (a .clearance)) && leb 1 (a .ceiling)) ≡ true
+    (ltb (a .tenant .0) tenantTotal && Tuple.validOf (a .clearance) && not (Tuple.emptyOf (a .clearance)) && leb 1 (a .ceiling)) ≡ true
 is-valid c = told-true (tested (c .before)) (c .if2 .left)
 
-inside : (c : tie.Else2) → c .before .before .before .before .before .args .tenant .0 < tenants
+inside : (c : tie.Else2) → c .before .before .before .before .before .args .tenant .0 < tenantTotal
 inside c =
     let v = c .before in
     let a = v .before .before .before .before .args in
-    ltb-true (a .tenant .0) tenants (three-true (ltb (a .tenant .0) tenants) (v .clearance-valid .result) (leb 1 (a .ceiling)) (not-false _ (c .if2 .left)) .0)
+    ltb-true (a .tenant .0) tenantTotal (three-true (ltb (a .tenant .0) tenantTotal) (v .clearance-valid .result) (leb 1 (a .ceiling)) (not-false _ (c .if2 .left)) .0)
 
 is-new : (c : tie.Else3) → let a = c .before .before .before .before .before .before .before .args in admitted (a .table) (a .tenant) ≡ false
 is-new c = sym (c .before .admitted .ensures) ∙ c .if3 .left

@@ -2,7 +2,7 @@ use borrow.Author.Needs.{needs}
 use mathlib.Core.Path.{refl, sym, ap, _∙_}
 use Rattle.common.specs.declared.errno.Errno.the-variants.{Invalid}
 use Rattle.common.proofs.AnswerLaws.{passed, stopped}
-use Rattle.segments.specs.Parts.{unlabeled}
+use Rattle.segments.specs.Internal.CallParts.{unlabeled}
 use Rattle.segments.specs.Operator.{makeAnswer, makeOf}
 use Rattle.segments.specs.Replies.{done}
 use Rattle.segments.specs.Segments.{emptyTable}

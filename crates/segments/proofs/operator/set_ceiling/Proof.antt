@@ -7,7 +7,7 @@ use lib.Dec.{leb}
 use Rattle.common.specs.declared.errno.Errno.the-variants.{Busy, Invalid}
 use Rattle.common.proofs.BoolLaws.{first-true, told-false, told-true}
 use Rattle.segments.specs.Operator.{setCeilingAnswer, setCeilingOf}
-use Rattle.segments.specs.Segments.{tenantOf, tenants, withTenant}
+use Rattle.segments.specs.Segments.{tenantOf, tenantTotal, withTenant}
 use Rattle.segments.specs.Slots.{pagesOf}
 use Rattle.segments.specs.Sound.{admitted, sound}
 use Rattle.segments.specs.declared.Tenant.{Tenant}
@@ -28,7 +28,7 @@ tested c = ap (λ (b : Bool). b && leb 1 (c .before .before .before .args .ceili
 is-valid : (c : tie.Else2) → let a = c .before .before .before .before .args in (admitted (a .table) (a .tenant) && leb 1 (a .ceiling)) ≡ true
 is-valid c = told-true (tested (c .before)) (c .if2 .left)
 
-inside : (c : tie.Else2) → c .before .before .before .before .args .tenant .0 < tenants
+inside : (c : tie.Else2) → c .before .before .before .before .args .tenant .0 < tenantTotal
 inside c =
     let a = c .before .before .before .before .args in
     admitted-parts (a .table) (a .tenant) (first-true (admitted (a .table) (a .tenant)) (leb 1 (a .ceiling)) (is-valid c)) .0

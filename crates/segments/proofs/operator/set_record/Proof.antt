@@ -6,7 +6,8 @@ use lib.Dec.{leb}
 use Rattle.common.specs.declared.errno.Errno.the-variants.{NoMem}
 use Rattle.common.proofs.AnswerLaws.{passed, stopped}
 use Rattle.common.proofs.BoolLaws.{told-false, told-true}
-use Rattle.segments.specs.Parts.{fitsIn, unlabeled}
+use Rattle.segments.specs.Internal.CallParts.{unlabeled}
+use Rattle.segments.specs.Internal.Limits.{fitsIn}
 use Rattle.segments.specs.Replies.{done}
 use Rattle.segments.specs.Segments.{ceilingAt}
 use Rattle.segments.specs.Slots.{ceilingsOf}

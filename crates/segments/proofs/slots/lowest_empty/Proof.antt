@@ -5,7 +5,7 @@ use Prim.Native.Nat.{ℕ, _+_, _-_, _≤_, _<_}
 use native.Mathlib.Omega.{arith}
 use borrow.Author.Count.{below-more}
 use borrow.Author.Tests.{le-leb, lt-leb}
-use Rattle.segments.specs.Segments.{pagesAt, slot, slots}
+use Rattle.segments.specs.Segments.{pagesAt, slot, slotTotal}
 use Rattle.segments.specs.Slots.{emptyAt, filled}
 use Rattle.segments.proofs.SlotsLaws.{bound-by, lowest-found, lowest-none}
 use Rattle.segments.proofs.slots.lowest_empty.Statement.{statement}
@@ -18,7 +18,7 @@ abbrev μ-loop : tie.MeasureT-loop
 μ-loop s first count k₀ k = count - k
 
 -- the slots that are looked at are slots of the state
-bound : (c : tie.After-slot-count Inv-loop μ-loop) → c .before .first-slot .result .0 + c .slot-count .result ≤ slots
+bound : (c : tie.After-slot-count Inv-loop μ-loop) → c .before .first-slot .result .0 + c .slot-count .result ≤ slotTotal
 bound c = bound-by _ _ _ _ (c .before .first-slot .ensures) (c .slot-count .ensures) (c .before .before .pre)
 
 loop-holds : tie.Need-loop-holds Inv-loop μ-loop
@@ -33,8 +33,8 @@ mul-pages c = let b = bound (c .before .before .before) in omega arith
 element-copy-out-pages : tie.Need-element-copy-out-pages Inv-loop μ-loop
 element-copy-out-pages c = let b = bound (c .before .before .before) in omega arith
 
-add-t15 : tie.Need-add-t15 Inv-loop μ-loop
-add-t15 c = let b = bound (c .before .before .before .before .before) in omega arith
+add-found : tie.Need-add-found Inv-loop μ-loop
+add-found c = let b = bound (c .before .before .before .before .before) in omega arith
 
 returns : tie.Need-returns Inv-loop μ-loop
 unfolding filled
@@ -63,5 +63,5 @@ returns-2 c =
 
 pub lowest-empty-spec : {M : Type 1} → statement M
 lowest-empty-spec =
-    tie.close (tie.spec Inv-loop μ-loop (search needs) (search needs) loop-holds add-pages mul-pages element-copy-out-pages add-t15 returns (search needs)
+    tie.close (tie.spec Inv-loop μ-loop (search needs) (search needs) loop-holds add-pages mul-pages element-copy-out-pages add-found returns (search needs)
     (search needs) loop-again returns-2)

@@ -3,16 +3,16 @@ use mathlib.Core.Bool.{not}
 use mathlib.Core.Path.{sym, ap, _∙_}
 use Prim.Native.Nat.{_-_}
 use Rattle.common.proofs.IndexLaws.{Tested, test-all, test-next, test-none}
-use Rattle.segments.specs.Segments.{tenantId, tenants}
+use Rattle.segments.specs.Segments.{tenantId, tenantTotal}
 use Rattle.segments.specs.Slots.{owns}
 use Rattle.segments.proofs.slots.owner_of.Statement.{statement}
 use Rattle.segments.proofs.slots.owner_of.Tie as tie
 
 abbrev Inv-loop : tie.InvT-loop
-Inv-loop s p i₀ i = Tested (λ t. not (owns s (tenantId t) p)) tenants i
+Inv-loop s p i₀ i = Tested (λ t. not (owns s (tenantId t) p)) tenantTotal i
 
 abbrev μ-loop : tie.MeasureT-loop
-μ-loop s p i₀ i = tenants - i
+μ-loop s p i₀ i = tenantTotal - i
 
 loop-holds : tie.Need-loop-holds Inv-loop μ-loop
 loop-holds c = test-none

@@ -3,8 +3,8 @@ use mathlib.Core.Path.{_≡_, sym, ap, _∙_}
 use Prim.Native.Nat.{_+_, _-_, _≤_}
 use native.Mathlib.Omega.{arith}
 use Rattle.common.specs.Index.{sumFrom}
-use Rattle.segments.specs.Parts.{leftOf}
-use Rattle.segments.specs.Segments.{pagesAt, slot, slots}
+use Rattle.segments.specs.Internal.Limits.{limitLeft}
+use Rattle.segments.specs.Segments.{pagesAt, slot, slotTotal}
 use Rattle.segments.specs.Slots.{pagesOf}
 use Rattle.segments.proofs.LimitLaws.{Taken, take-all, take-next, take-none, take-over}
 use Rattle.segments.proofs.SlotsLaws.{bound-by, pages-by}
@@ -18,14 +18,14 @@ abbrev μ-loop : tie.MeasureT-loop
 μ-loop limit s first count left₀ i₀ left i = count - i
 
 -- what the functions before the loop tell of the slots that are read
-bound : (c : tie.After-slot-count Inv-loop μ-loop) → c .before .first-slot .result .0 + c .slot-count .result ≤ slots
+bound : (c : tie.After-slot-count Inv-loop μ-loop) → c .before .first-slot .result .0 + c .slot-count .result ≤ slotTotal
 bound c = bound-by _ _ _ _ (c .before .first-slot .ensures) (c .slot-count .ensures) (c .before .before .pre)
 
 total : (c : tie.After-slot-count Inv-loop μ-loop) → let a = c .before .before .args in
-    leftOf (a .limit) (sumFrom (λ p. pagesAt (a .t1) (slot p)) (c .before .first-slot .result .0) (c .slot-count .result)) ≡ leftOf (a .limit) (pagesOf (a .t1) (a .t))
+    limitLeft (a .limit) (sumFrom (λ p. pagesAt (a .t1) (slot p)) (c .before .first-slot .result .0) (c .slot-count .result)) ≡ limitLeft (a .limit) (pagesOf (a .t1) (a .t))
 total c =
     let a = c .before .before .args in
-    ap (leftOf (a .limit)) (pages-by (a .t1) (a .t) _ _ (c .before .first-slot .ensures) (c .slot-count .ensures))
+    ap (limitLeft (a .limit)) (pages-by (a .t1) (a .t) _ _ (c .before .first-slot .ensures) (c .slot-count .ensures))
 
 loop-holds : tie.Need-loop-holds Inv-loop μ-loop
 loop-holds c = take-none _ _ _ _

@@ -2,17 +2,17 @@ use borrow.Author.Needs.{needs}
 use mathlib.Core.Path.{sym}
 use Prim.Native.Nat.{_-_}
 use native.Mathlib.Nat.{zero-add}
-use Rattle.segments.specs.Segments.{ceilingAt, tenantId, tenants}
+use Rattle.segments.specs.Segments.{ceilingAt, tenantId, tenantTotal}
 use Rattle.segments.specs.Slots.{ceilingsOf}
 use Rattle.segments.proofs.LimitLaws.{Taken, take-all, take-next, take-none, take-over}
 use Rattle.segments.proofs.slots.pool_left.Statement.{statement}
 use Rattle.segments.proofs.slots.pool_left.Tie as tie
 
 abbrev Inv-loop : tie.InvT-loop
-Inv-loop s left₀ i₀ left i = Taken (λ t. ceilingAt s (tenantId t)) 0 tenants (s .pool) i left
+Inv-loop s left₀ i₀ left i = Taken (λ t. ceilingAt s (tenantId t)) 0 tenantTotal (s .pool) i left
 
 abbrev μ-loop : tie.MeasureT-loop
-μ-loop s left₀ i₀ left i = tenants - i
+μ-loop s left₀ i₀ left i = tenantTotal - i
 
 loop-holds : tie.Need-loop-holds Inv-loop μ-loop
 loop-holds c = take-none _ _ _ _

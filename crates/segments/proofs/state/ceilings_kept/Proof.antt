@@ -2,16 +2,16 @@ use borrow.Author.Needs.{needs}
 use Prim.Native.Nat.{_-_}
 use Rattle.common.proofs.BoolLaws.{told-false, told-true}
 use Rattle.common.proofs.IndexLaws.{Tested, test-all, test-next, test-none, test-stop}
-use Rattle.segments.specs.Segments.{tenantId, tenants}
+use Rattle.segments.specs.Segments.{tenantId, tenantTotal}
 use Rattle.segments.specs.Sound.{underCeiling}
 use Rattle.segments.proofs.state.ceilings_kept.Statement.{statement}
 use Rattle.segments.proofs.state.ceilings_kept.Tie as tie
 
 abbrev Inv-loop : tie.InvT-loop
-Inv-loop s i₀ i = Tested (λ k. underCeiling s (tenantId k)) tenants i
+Inv-loop s i₀ i = Tested (λ k. underCeiling s (tenantId k)) tenantTotal i
 
 abbrev μ-loop : tie.MeasureT-loop
-μ-loop s i₀ i = tenants - i
+μ-loop s i₀ i = tenantTotal - i
 
 loop-holds : tie.Need-loop-holds Inv-loop μ-loop
 loop-holds c = test-none

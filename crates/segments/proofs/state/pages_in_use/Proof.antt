@@ -5,8 +5,8 @@ use Prim.Native.Nat.{_≤_, _<_}
 use native.Mathlib.Omega.{arith}
 use Rattle.common.specs.Answer.{granted}
 use Rattle.common.proofs.BoolLaws.{told-false, told-true}
-use Rattle.segments.specs.Parts.{remainingOf}
-use Rattle.segments.specs.Segments.{ceilingAt, tenants}
+use Rattle.segments.specs.Internal.Limits.{remainingOf}
+use Rattle.segments.specs.Segments.{ceilingAt, tenantTotal}
 use Rattle.segments.specs.Slots.{pagesOf}
 use Rattle.segments.specs.Sound.{admitted, sound}
 use Rattle.segments.proofs.LimitLaws.{left-never, left-told}
@@ -20,7 +20,7 @@ is-sound c = told-true (c .before .is-sound .ensures) (c .if1 .left)
 is-admitted : (c : tie.Else2) → let a = c .before .before .before .before .args in admitted (a .t1) (a .t) ≡ true
 is-admitted c = told-true (c .before .admitted .ensures) (c .if2 .left)
 
-inside : (c : tie.Else2) → c .before .before .before .before .args .t .0 < tenants
+inside : (c : tie.Else2) → c .before .before .before .before .args .t .0 < tenantTotal
 inside c = admitted-parts _ _ (is-admitted c) .0
 
 in-ceiling : (c : tie.Else2) → let a = c .before .before .before .before .args in pagesOf (a .t1) (a .t) ≤ ceilingAt (a .t1) (a .t)

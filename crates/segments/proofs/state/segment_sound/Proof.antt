@@ -2,7 +2,8 @@ use borrow.Author.Needs.{needs}
 use mathlib.Core.Bool.{Bool, _&&_}
 use mathlib.Core.Path.{_≡_, ap, sym, _∙_}
 use lib.Dec.{leb}
-use Rattle.segments.specs.Parts.{isOwned, segmentSound}
+use Rattle.segments.specs.Internal.Owners.{isOwned}
+use Rattle.segments.specs.Internal.SoundParts.{segmentSound}
 use Rattle.segments.proofs.state.segment_sound.Statement.{statement}
 use Rattle.segments.proofs.state.segment_sound.Tie as tie
 

@@ -9,8 +9,8 @@ use Rattle.common.proofs.BoolLaws.{told-false, told-true}
 use Rattle.common.proofs.IndexLaws.{Tested, test-all, test-next, test-none, test-stop}
 use Rattle.label.proofs.RegionLaws.{region-within}
 use Rattle.range.specs.Tuple.{regionRangeAt}
-use Rattle.segments.specs.Parts.{segmentSound}
-use Rattle.segments.specs.Segments.{clearanceAt, segmentAt, slot, slots, tenantId, tenants}
+use Rattle.segments.specs.Internal.SoundParts.{segmentSound}
+use Rattle.segments.specs.Segments.{clearanceAt, segmentAt, slot, slotTotal, tenantId, tenantTotal}
 use Rattle.segments.specs.Sound.{slotSound}
 use Rattle.segments.proofs.SoundLaws.{owner-within, sound-as-owned}
 use Rattle.segments.proofs.state.slots_sound.Statement.{statement}
@@ -18,16 +18,16 @@ use Rattle.segments.proofs.state.slots_sound.Tie as tie
 
 -- the slots before i are sound, and the clearance at hand is that of tenant `at`
 abbrev Inv-loop : tie.InvT-loop
-Inv-loop s at₀ clearance₀ i₀ at clearance i = Tested (λ k. slotSound s (slot k)) slots i × (at < tenants) × (clearance ≡ clearanceAt s (tenantId at))
+Inv-loop s at₀ clearance₀ i₀ at clearance i = Tested (λ k. slotSound s (slot k)) slotTotal i × (at < tenantTotal) × (clearance ≡ clearanceAt s (tenantId at))
 
 abbrev μ-loop : tie.MeasureT-loop
-μ-loop s at₀ clearance₀ i₀ at clearance i = slots - i
+μ-loop s at₀ clearance₀ i₀ at clearance i = slotTotal - i
 
 loop-holds : tie.Need-loop-holds Inv-loop μ-loop
 loop-holds c = (test-none, omega arith, refl)
 
 -- the number of the owner at hand
-within : (c : tie.After-owner-or Inv-loop μ-loop) → c .owner-or .result < tenants
+within : (c : tie.After-owner-or Inv-loop μ-loop) → c .owner-or .result < tenantTotal
 within c =
     let o = c .before .before in
     let l = o .before .before in

@@ -5,8 +5,8 @@ use borrow.Author.Tests.{eq-eqb}
 use lib.ListN.{length}
 use Rattle.common.proofs.BoolLaws.{both}
 use Rattle.common.proofs.IndexLaws.{length-mapped}
-use Rattle.segments.specs.Parts.{tenantsSound}
-use Rattle.segments.specs.Segments.{pagesValid, slots, tenants}
+use Rattle.segments.specs.Internal.SoundParts.{tenantsSound}
+use Rattle.segments.specs.Segments.{pagesValid, slotTotal, tenantTotal}
 use Rattle.segments.specs.Slots.{ceilingsOf}
 use Rattle.segments.specs.Sound.{sound, wellSized}
 use Rattle.segments.proofs.LimitLaws.{kept-exact}
@@ -16,8 +16,8 @@ use Rattle.segments.proofs.state.sound.Tie as tie
 -- every state has the lengths of its type
 sized : (c : tie.Start) → wellSized (c .args .s) ≡ true
 sized c =
-    let m : length (c .args .s .tenants) ≡ tenants = search (needs, length-mapped) in
-    let n : length (c .args .s .segments) ≡ slots = search (needs, length-mapped) in
+    let m : length (c .args .s .tenants) ≡ tenantTotal = search (needs, length-mapped) in
+    let n : length (c .args .s .segments) ≡ slotTotal = search (needs, length-mapped) in
     both (eq-eqb _ _ m) (eq-eqb _ _ n)
 
 returns : tie.Need-returns

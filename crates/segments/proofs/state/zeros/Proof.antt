@@ -1,10 +1,10 @@
 use borrow.Author.Needs.{needs}
-use Rattle.segments.specs.Sound.{zeros}
+use Rattle.segments.specs.Sound.{isZeroSegment}
 use Rattle.segments.proofs.state.zeros.Statement.{statement}
 use Rattle.segments.proofs.state.zeros.Tie as tie
 
 returns : tie.Need-returns
-unfolding zeros
+unfolding isZeroSegment
 returns c = rw (c .before .before .is-zero .ensures)
 
 pub zeros-spec : {M : Type 1} → statement M

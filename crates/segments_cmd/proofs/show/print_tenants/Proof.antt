@@ -2,15 +2,15 @@ use borrow.Author.Needs.{needs}
 use mathlib.Core.Path.{_≡_}
 use Prim.Native.Nat.{_-_, _≤_}
 use lib.ListN.{length}
-use Rattle.segments.specs.Segments.{tenants}
+use Rattle.segments.specs.Segments.{tenantTotal}
 use Rattle.segments_cmd.proofs.show.print_tenants.Statement.{statement}
 use Rattle.segments_cmd.proofs.show.print_tenants.Tie as tie
 
 abbrev Inv-loop : tie.InvT-loop
-Inv-loop out₀ s i₀ out i = (length out ≡ length out₀) × (i ≤ tenants)
+Inv-loop out₀ s i₀ out i = (length out ≡ length out₀) × (i ≤ tenantTotal)
 
 abbrev μ-loop : tie.MeasureT-loop
-μ-loop out₀ s i₀ out i = tenants - i
+μ-loop out₀ s i₀ out i = tenantTotal - i
 
 pub print-tenants-spec : {M : Type 1} → statement M
 print-tenants-spec =

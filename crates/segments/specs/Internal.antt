@@ -1,0 +1,4 @@
+pub mod Owners
+pub mod Limits
+pub mod SoundParts
+pub mod CallParts
