@@ -7,7 +7,7 @@ ghost use lib.ListN.{length};
 ghost use Rattle.common.specs.Errno.{carriedOf};
 ghost use Rattle.octets.specs.Bytes.{Appended};
 ghost use Rattle.octets.specs.Internal.Put.{Put};
-ghost use Rattle.console.specs.Format.{carriedText, decimalOf, errorText, refusalText};
+ghost use Rattle.console.specs.Format.{carriedText, decimalOf, errorText, field, refusalText};
 ghost use Rattle.console.specs.Internal.Numbers.{ByteCount};
 
 // How many decimal digits n has.
@@ -46,6 +46,18 @@ pub fn append_decimal(out: &mut [u8], at: usize, n: u64) -> usize
 {
     if octets::fits(out.len(), at, decimal_length(n)) {
         return put_decimal(out, at, n);
+    }
+    at
+}
+
+// Appends a word and the decimal digits of n.
+pub fn append_field(out: &mut [u8], at: usize, word: &[u8], n: u64) -> usize
+    ensures { λ r. ⌜ Appended (now (out .entry)) at (field (now (word .entry)) n) r (now (out .exit)) ⌝ }
+{
+    let size = word.len() + decimal_length(n);
+    if octets::fits(out.len(), at, size) {
+        let next = octets::append(out, at, word);
+        return put_decimal(out, next, n);
     }
     at
 }

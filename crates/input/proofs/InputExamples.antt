@@ -18,7 +18,7 @@ chunk = 97 ∷ 98 ∷ lf ∷ 99 ∷ 7 ∷ 7 ∷ []
 abbrev turn : Input → Line → Turn
 turn i l = record { input = i; line = l }
 
-four-bytes : turnAfterRead (held 0) 4 ≡ turn (inputOf (held 0) 0 4) More
+four-bytes : turnAfterRead (held 0) 4 false ≡ turn (inputOf (held 0) 0 4) More
 unfolding turnAfterRead
 four-bytes = refl
 
@@ -37,7 +37,9 @@ left : (someLeft (inputOf (held 0) 3 4) 6 ≡ true) × (someLeft (inputOf (held 
 unfolding someLeft
 left = (refl, refl)
 
--- the end, with a byte held and with none
-ends : (turnAfterRead (held 1) 0 ≡ turn (emptyInput true) Bad) × (turnAfterRead (held 0) 0 ≡ turn (emptyInput true) More)
+-- the end, with a byte held and with none, and by a read that failed
+ends : (turnAfterRead (held 1) 0 false ≡ turn (emptyInput true false) Bad)
+    × (turnAfterRead (held 0) 0 false ≡ turn (emptyInput true false) More)
+    × (turnAfterRead (held 0) 0 true ≡ turn (emptyInput true true) More)
 unfolding turnAfterRead
-ends = (refl, refl)
+ends = (refl, refl, refl)

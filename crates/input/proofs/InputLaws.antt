@@ -27,11 +27,11 @@ last-whole p m = pick (p .long || ltb 0 (p .length))
     pick false e = let z : _≡_ {A = ℕ} 0 1 = cc in omega arith
 
 -- a read makes no whole line
-read-whole : (p : Partial) (n m : ℕ) → turnAfterRead p n .line ≡ Whole m → ⊥
+read-whole : (p : Partial) (n : ℕ) (failed : Bool) (m : ℕ) → turnAfterRead p n failed .line ≡ Whole m → ⊥
 unfolding turnAfterRead
-read-whole p n m = pick (eqb n 0)
+read-whole p n failed m = pick (eqb n 0)
   where
-    pick : (b : Bool) → cond b (atEnd p) (filledBy p n) .line ≡ Whole m → ⊥
+    pick : (b : Bool) → cond b (atEnd p failed) (filledBy p n) .line ≡ Whole m → ⊥
     pick true e = last-whole p m e
     pick false e = let z : _≡_ {A = ℕ} 0 1 = cc in omega arith
 
@@ -58,5 +58,5 @@ module _ {i : Input} {chunk line : List ℕ} {r : Turn} where
         line-kept = λ _. refl;
         same-chunk-length = l;
         same-line-length = refl;
-        whole = λ n e. absurd (read-whole (i .partial) (s .count) n (rw (s .turn-is) at e));
+        whole = λ n e. absurd (read-whole (i .partial) (s .count) (s .failed) n (rw (s .turn-is) at e));
       }

@@ -16,8 +16,9 @@ pub struct Input {
     // Of the chunk, the bytes from index at up to index filled are left to take.
     pub at: usize,
     pub filled: usize,
-    // The last step found the end of the input.
+    // The last step found the end of the input, and whether that was a read that failed.
     pub ended: bool,
+    pub failed: bool,
 }
 
 // What a step makes: no line yet, a line at the front of the buffer, or a bad one; and where the input stands then.
@@ -27,21 +28,22 @@ pub struct Turn {
 }
 
 // Nothing is held and nothing is left to take.
-fn empty_input(ended: bool) -> Input
-    ensures { λ r. ⌜ r ≡ emptyInput ended ⌝ }
+fn empty_input(ended: bool, failed: bool) -> Input
+    ensures { λ r. ⌜ r ≡ emptyInput ended failed ⌝ }
 {
     Input {
         partial: lines::start(),
         at: 0,
         filled: 0,
         ended,
+        failed,
     }
 }
 
 pub fn start() -> Input
-    ensures { λ r. ⌜ r ≡ emptyInput false ⌝ }
+    ensures { λ r. ⌜ r ≡ emptyInput false false ⌝ }
 {
-    empty_input(false)
+    empty_input(false, false)
 }
 
 // Takes the next piece of the chunk.
@@ -57,16 +59,17 @@ fn next_piece(i: Input, chunk: &[u8], line: &mut [u8]) -> Turn
         at: piece.next,
         filled: i.filled,
         ended: false,
+        failed: false,
     };
     Turn { input, line: l }
 }
 
-// What a read of n bytes makes. No bytes are the end of the input, or a read that failed.
-fn after_read(partial: Partial, n: usize) -> Turn
-    ensures { λ r. ⌜ r ≡ turnAfterRead partial n ⌝ }
+// What a read of n bytes makes. No bytes are the end of the input, or a read that failed, which ends it too.
+fn after_read(partial: Partial, n: usize, failed: bool) -> Turn
+    ensures { λ r. ⌜ r ≡ turnAfterRead partial n failed ⌝ }
 {
     if n == 0 {
-        let input = empty_input(true);
+        let input = empty_input(true, failed);
         return Turn {
             input,
             line: lines::last(partial),
@@ -77,6 +80,7 @@ fn after_read(partial: Partial, n: usize) -> Turn
         at: 0,
         filled: n,
         ended: false,
+        failed: false,
     };
     Turn {
         input,
@@ -89,7 +93,7 @@ fn refill(partial: Partial, chunk: &mut [u8]) -> Turn
     ensures { λ r. ⌜ Refilled partial (length (now (chunk .entry))) r ⌝ }
 {
     let got = libc::read(STDIN_FILENO, chunk);
-    after_read(partial, io::count(got, chunk))
+    after_read(partial, io::count(got, chunk), got < 0)
 }
 
 // Takes the next piece of the chunk where some of it is left, and reads once where none is. What is read is open: the contract says nothing of

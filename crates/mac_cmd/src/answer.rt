@@ -9,11 +9,23 @@ use hexline::entry::EntryAnswer;
 use label::LabelAnswer;
 use label::Next;
 use label::region;
+use libc::STDERR_FILENO;
+use libc::STDOUT_FILENO;
 use range::RangeAnswer;
 use range::tuple::TupleAnswer;
 
 // The size of the buffer for an answer.
 pub(crate) const ANSWER_BYTES: usize = 512;
+
+// Prints an answer. A write that fails is told on descriptor 2, and the requests go on.
+pub(crate) fn print_bytes(bytes: &[u8]) {
+    if !io::write_all(STDOUT_FILENO, bytes) {
+        io::write_all(
+            STDERR_FILENO,
+            b"mac_cmd: can't write to the standard output\n",
+        );
+    }
+}
 
 // What is printed of a request that makes no call.
 pub(crate) fn put_invalid(out: &mut [u8]) -> usize {

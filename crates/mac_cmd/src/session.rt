@@ -6,7 +6,7 @@ use crate::request;
 use crate::request::Request;
 use console::command;
 use console::lines::Line;
-use libc::STDOUT_FILENO;
+use libc::STDERR_FILENO;
 
 // The request whose operand lines are due. Between two requests none is.
 pub(crate) struct Session {
@@ -51,7 +51,7 @@ fn put_answer(r: Request, a: &[u8], b: &[u8], out: &mut [u8]) -> usize {
 fn respond(r: Request, a: &[u8], b: &[u8]) -> Session {
     let mut out = [0u8; ANSWER_BYTES];
     let n = put_answer(r, a, b, &mut out);
-    io::write_all(STDOUT_FILENO, octets::front(&out, n));
+    answer::print_bytes(octets::front(&out, n));
     between()
 }
 
@@ -105,9 +105,12 @@ pub(crate) fn take_piece(s: Session, l: Line, line: &[u8], operand: &mut [u8]) -
     }
 }
 
-// The end of the input: a request that lacks operand lines is refused.
-pub(crate) fn finish(s: Session) {
+// The end of the input: a request that lacks operand lines is refused, and a read that failed is told.
+pub(crate) fn finish(s: Session, failed: bool) {
     if s.due > 0 {
         respond(Request::Invalid, b"", b"");
+    }
+    if failed {
+        io::write_all(STDERR_FILENO, b"mac_cmd: can't read the standard input\n");
     }
 }

@@ -1,6 +1,7 @@
 // Decisions as text.
 use common::errno::Errno;
 use console::format;
+use libc::STDERR_FILENO;
 use libc::STDOUT_FILENO;
 use monitor::Decision;
 
@@ -15,10 +16,20 @@ fn put_decision(d: Decision, out: &mut [u8]) -> usize {
     }
 }
 
+// Prints an answer. A write that fails is told on descriptor 2, and the requests go on.
+fn print_bytes(bytes: &[u8]) {
+    if !io::write_all(STDOUT_FILENO, bytes) {
+        io::write_all(
+            STDERR_FILENO,
+            b"monitor_cmd: can't write to the standard output\n",
+        );
+    }
+}
+
 pub(crate) fn print(d: Decision) {
     let mut out = [0u8; ANSWER_BYTES];
     let n = put_decision(d, &mut out);
-    io::write_all(STDOUT_FILENO, octets::front(&out, n));
+    print_bytes(octets::front(&out, n));
 }
 
 // What is printed of a request that makes no call.

@@ -7,6 +7,7 @@ use crate::request::OPERANDS;
 use console::command;
 use console::command::MAX_NUMBERS;
 use console::lines::Line;
+use libc::STDERR_FILENO;
 
 // The request whose operand lines are due. Between two requests none is.
 pub(crate) struct Session {
@@ -81,9 +82,15 @@ pub(crate) fn take_piece(s: Session, l: Line, line: &[u8]) -> Session {
     }
 }
 
-// The end of the input: a request that lacks operand lines is refused.
-pub(crate) fn finish(s: Session) {
+// The end of the input: a request that lacks operand lines is refused, and a read that failed is told.
+pub(crate) fn finish(s: Session, failed: bool) {
     if s.due > 0 {
         answer::print_invalid();
+    }
+    if failed {
+        io::write_all(
+            STDERR_FILENO,
+            b"monitor_cmd: can't read the standard input\n",
+        );
     }
 }

@@ -5,11 +5,11 @@ use Prim.Native.Nat.{ℕ, _+_, _*_, _≤_, _<_}
 use native.Mathlib.Omega.{arith}
 use lib.ListN.{length, length-append}
 use Rattle.octets.specs.Bytes.{ascii}
+use Rattle.console.specs.Format.{field}
 use Rattle.label.specs.Words.{foundCategoryOf, membersBelow, membersOf, nextCategoryFrom}
 use Rattle.label.specs.declared.words.FoundCategory.{FoundCategory}
 use Rattle.label.specs.declared.words.FoundCategory.the-variants.{At, Nothing}
 use Rattle.label.proofs.ListingLaws.{all-listed, last-listed, next-listed, next-within}
-use Rattle.segments_cmd.specs.Answer.{field}
 use Rattle.segments_cmd.specs.Show.{categoryNumbersText, listText}
 
 -- one category more

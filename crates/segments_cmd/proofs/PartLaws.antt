@@ -10,6 +10,7 @@ use lib.ListN.{drop, length, length-drop}
 use lib.Seq.{drop-drop, take-all, drop-length}
 use borrow.Author.Tests.{le-leb}
 use borrow.Rule.Slice.PartMut.{midOf, putMid, put-same}
+use Rattle.octets.specs.Internal.Put.{PutWithin}
 use Rattle.octets.specs.Bytes.{putAt}
 use Rattle.octets.proofs.ByteLaws.{put-nil}
 use Rattle.hexline.specs.Line.{labelLineOf}
@@ -20,7 +21,7 @@ use Rattle.common.specs.Buffer.{WrittenTo, bufferOf, lengthOf, overlay, written
 use Rattle.common.specs.declared.answer.Written.{Written}
 use Rattle.common.specs.declared.answer.Written.the-variants.{Length, Refused}
 use Rattle.common.specs.declared.errno.Errno.{Errno}
-use Rattle.segments_cmd.specs.Answer.{PutWithin, hexlineBytes, lineText}
+use Rattle.segments_cmd.specs.Answer.{hexlineBytes, lineText}
 
 -- the line of a label is short
 line-bytes : (l : Label) → length (lineText l) ≤ hexlineBytes

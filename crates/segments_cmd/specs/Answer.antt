@@ -1,9 +1,8 @@
 -- The answers of calls as text.
 use mathlib.Core.List.{List, [], _++_}
-use Prim.Native.Nat.{ℕ, _≤_}
+use Prim.Native.Nat.{ℕ}
 use Rattle.octets.specs.Bytes.{ascii}
-use Rattle.octets.specs.Internal.Put.{Put}
-use Rattle.console.specs.Format.{decimalOf, errorText}
+use Rattle.console.specs.Format.{errorText, field}
 use Rattle.hexline.specs.Line.{labelLineOf}
 use Rattle.common.specs.Answer.{valueOr}
 use Rattle.label.specs.declared.Label.{Label}
@@ -11,10 +10,6 @@ use Rattle.segments.specs.declared.Reply.{Reply}
 use Rattle.segments.specs.declared.Reply.the-variants.{Done, Opened, Shown, Refused}
 use Rattle.segments.specs.declared.Shown.{Shown as Numbers}
 use Rattle.segments.specs.declared.Slot.{Slot}
-
--- the most bytes that a number below 2 ^ 64 takes
-abbrev pub numberBytes : ℕ
-numberBytes = 20
 
 -- room for the numbers that a look shows, and for a hex line
 abbrev pub numbersBytes : ℕ
@@ -26,15 +21,6 @@ hexlineBytes = 400
 -- the size of the buffer for an answer
 abbrev pub answerBytes : ℕ
 answerBytes = 512
-
--- a word and a number
-abbrev pub field : List ℕ → ℕ → List ℕ
-field word n = word ++ decimalOf n
-
--- the bytes bs were put in out at index at, and r, the index past them, is at most limit
-pub record PutWithin (limit : ℕ) (out : List ℕ) (at : ℕ) (bs : List ℕ) (r : ℕ) (after : List ℕ) : Type 0 where
-  pub put : Put out at bs r after
-  pub within : r ≤ limit
 
 unfoldable pub placeText : Slot → List ℕ
 placeText p = field (ascii "place ") (p .0) ++ ascii "\n"

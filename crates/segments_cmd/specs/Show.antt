@@ -2,10 +2,10 @@
 use mathlib.Core.List.{List, [], _∷_, _++_}
 use Prim.Native.Nat.{ℕ, _+_, _*_}
 use Rattle.octets.specs.Bytes.{ascii}
+use Rattle.console.specs.Format.{field}
 use Rattle.label.specs.Words.{membersOf, words}
 use Rattle.label.specs.declared.Label.{Label}
 use Rattle.segments.specs.declared.Segment.{Segment}
-use Rattle.segments_cmd.specs.Answer.{field}
 
 -- the most bytes that a label's categories take: a blank and a number each
 abbrev pub categoriesBytes : ℕ

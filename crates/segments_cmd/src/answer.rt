@@ -2,6 +2,7 @@
 use common::answer::Written;
 use console::format;
 use label::Label;
+use libc::STDERR_FILENO;
 use libc::STDOUT_FILENO;
 use segments::CallAnswer;
 use segments::Reply;
@@ -10,18 +11,19 @@ use segments::Slot;
 ghost use Prim.Native.Nat.{_+_, _≤_};
 ghost use lib.ListN.{length};
 ghost use Rattle.octets.specs.Bytes.{Appended};
-ghost use Rattle.segments_cmd.specs.Answer.{PutWithin, answerBytes, field, hexlineBytes, lineText, numberBytes, numbersBytes, placeText, replyText, shownNumbers, shownText};
+ghost use Rattle.console.specs.Format.{field, numberBytes};
+ghost use Rattle.octets.specs.Internal.Put.{PutWithin};
+ghost use Rattle.segments_cmd.specs.Answer.{answerBytes, hexlineBytes, lineText, numbersBytes, placeText, replyText, shownNumbers, shownText};
 
 // The size of the buffer for an answer.
 const ANSWER_BYTES: usize = 512;
 
-// Appends a word and a number.
+// Puts a word and a number where there is room for them.
 pub(crate) fn put_field(out: &mut [u8], at: usize, word: &[u8], n: u64) -> usize
     requires { ⌜ at + length (now word) + numberBytes ≤ length (now out) ⌝ }
     ensures { λ r. ⌜ PutWithin (at + length (now (word .entry)) + numberBytes) (now (out .entry)) at (field (now (word .entry)) n) r (now (out .exit)) ⌝ }
 {
-    let next = octets::append(out, at, word);
-    format::append_decimal(out, next, n)
+    format::append_field(out, at, word, n)
 }
 
 fn put_place(out: &mut [u8], slot: Slot) -> usize
@@ -75,9 +77,19 @@ fn put_reply(out: &mut [u8], reply: Reply, label: Label) -> usize
     }
 }
 
+// Prints an answer. A write that fails is told on descriptor 2, and the requests go on.
+pub(crate) fn print_bytes(bytes: &[u8]) {
+    if !io::write_all(STDOUT_FILENO, bytes) {
+        io::write_all(
+            STDERR_FILENO,
+            b"segments_cmd: can't write to the standard output\n",
+        );
+    }
+}
+
 pub(crate) fn print(a: CallAnswer) {
     let mut out = [0u8; ANSWER_BYTES];
     let reply = a.reply;
     let n = put_reply(&mut out, reply, a.label);
-    io::write_all(STDOUT_FILENO, octets::front(&out, n));
+    print_bytes(octets::front(&out, n));
 }

@@ -6,6 +6,7 @@ use crate::request::Request;
 use crate::show;
 use console::command;
 use console::lines::Line;
+use libc::STDERR_FILENO;
 use segments::CallOutcome;
 use segments::SegmentTable;
 use segments::operator;
@@ -108,10 +109,16 @@ pub(crate) fn take_piece(s: Session, l: Line, line: &[u8]) -> Session
     }
 }
 
-// The end of the input: a request that lacks its operand line is refused.
-pub(crate) fn finish(s: Session) {
+// The end of the input: a request that lacks its operand line is refused, and a read that failed is told.
+pub(crate) fn finish(s: Session, failed: bool) {
     let r = s.request;
     if request::takes_operand(r) {
         reply(call::refused(s.table));
+    }
+    if failed {
+        io::write_all(
+            STDERR_FILENO,
+            b"segments_cmd: can't read the standard input\n",
+        );
     }
 }

@@ -1,12 +1,12 @@
 // The state as text, a line at a time: the pool, the admitted tenants, the filled slots. Every line is shown to fit in the one buffer that they
 // share, so none is cut.
+use crate::answer::print_bytes;
 use crate::answer::put_field;
 use common::answer::Number;
 use label::Label;
 use label::words;
 use label::words::FoundCategory;
 use label::words::WORDS;
-use libc::STDOUT_FILENO;
 use segments::SLOTS;
 use segments::Segment;
 use segments::SegmentTable;
@@ -15,10 +15,9 @@ use segments::TenantId;
 use segments::state;
 ghost use Prim.Native.Nat.{_+_, _<_, _≤_};
 ghost use lib.ListN.{length};
-ghost use Rattle.octets.specs.Internal.Put.{Put};
+ghost use Rattle.octets.specs.Internal.Put.{Put, PutWithin};
 ghost use Rattle.label.specs.Words.{membersOf};
 ghost use Rattle.segments.specs.Segments.{tenantTotal};
-ghost use Rattle.segments_cmd.specs.Answer.{PutWithin};
 ghost use Rattle.segments_cmd.specs.Show.{categoriesBytes, categoryNumbersText, labelTextSize, labelNumbersText, lineBytes, listText, poolText, segmentBytes, segmentText, slotText, tenantText};
 
 // How many categories there can be.
@@ -109,7 +108,7 @@ fn print_slot(out: &mut [u8], slot: u64, x: Segment)
 {
     if x.pages > 0 {
         let n = put_slot(out, slot, x);
-        io::write_all(STDOUT_FILENO, octets::front(out, n));
+        print_bytes(octets::front(out, n));
     }
 }
 
@@ -133,7 +132,7 @@ fn print_tenant(out: &mut [u8], s: SegmentTable, tenant: usize)
     match used {
         Number::Value(pages) => {
             let n = put_tenant(out, tenant as u64, ceiling, pages);
-            io::write_all(STDOUT_FILENO, octets::front(out, n));
+            print_bytes(octets::front(out, n));
         }
         Number::Refused(_) => {}
     }
@@ -153,10 +152,10 @@ fn print_lines(out: &mut [u8], s: SegmentTable)
     requires { ⌜ lineBytes ≤ length (now out) ⌝ }
 {
     let n = put_pool(out, s.pool);
-    io::write_all(STDOUT_FILENO, octets::front(out, n));
+    print_bytes(octets::front(out, n));
     print_tenants(out, s);
     print_slots(out, s);
-    io::write_all(STDOUT_FILENO, b"end\n");
+    print_bytes(b"end\n");
 }
 
 // Prints a state that is sound.

@@ -4,20 +4,31 @@ use common::answer::Written;
 use common::errno::Errno;
 use console::format;
 use label::LabelAnswer;
+use libc::STDERR_FILENO;
 use libc::STDOUT_FILENO;
 use range::RangeAnswer;
 
 // The size of the buffer for an answer that is no text.
 const ANSWER_BYTES: usize = 512;
 
+// Prints an answer. A write that fails is told on descriptor 2, and the requests go on.
+fn print_bytes(bytes: &[u8]) {
+    if !io::write_all(STDOUT_FILENO, bytes) {
+        io::write_all(
+            STDERR_FILENO,
+            b"text_cmd: can't write to the standard output\n",
+        );
+    }
+}
+
 pub(crate) fn print_ok() {
-    io::write_all(STDOUT_FILENO, b"ok\n");
+    print_bytes(b"ok\n");
 }
 
 pub(crate) fn print_refusal(e: Errno) {
     let mut out = [0u8; ANSWER_BYTES];
     let n = format::append_error(&mut out, 0, e);
-    io::write_all(STDOUT_FILENO, octets::front(&out, n));
+    print_bytes(octets::front(&out, n));
 }
 
 // What is printed of a request that makes no call.
@@ -28,10 +39,9 @@ pub(crate) fn print_invalid() {
 // Prints how many entries a table has.
 pub(crate) fn print_count(n: usize) {
     let mut out = [0u8; ANSWER_BYTES];
-    let word = octets::append(&mut out, 0, b"table ");
-    let digits = format::append_decimal(&mut out, word, n as u64);
+    let digits = format::append_field(&mut out, 0, b"table ", n as u64);
     let end = octets::append(&mut out, digits, b"\n");
-    io::write_all(STDOUT_FILENO, octets::front(&out, end));
+    print_bytes(octets::front(&out, end));
 }
 
 // Prints a text that stands at the front of the buffer, and LF. The longest text has 16,453 bytes, so that LF fits behind it.
@@ -39,7 +49,7 @@ pub(crate) fn print_text(written: Written, out: &mut [u8]) {
     match written {
         Written::Length(n) => {
             let end = octets::append(out, n, b"\n");
-            io::write_all(STDOUT_FILENO, octets::front(out, end));
+            print_bytes(octets::front(out, end));
         }
         Written::Refused(e) => print_refusal(e),
     }
@@ -50,9 +60,9 @@ pub(crate) fn print_status(written: Written, status: u8) {
     match written {
         Written::Length(_) => {
             if status == 0 {
-                io::write_all(STDOUT_FILENO, b"0 ");
+                print_bytes(b"0 ");
             } else {
-                io::write_all(STDOUT_FILENO, b"1 ");
+                print_bytes(b"1 ");
             }
         }
         Written::Refused(_) => {}
@@ -62,7 +72,7 @@ pub(crate) fn print_status(written: Written, status: u8) {
 fn print_line(written: Written, out: &[u8]) {
     match written {
         Written::Length(n) => {
-            io::write_all(STDOUT_FILENO, octets::front(out, n));
+            print_bytes(octets::front(out, n));
         }
         Written::Refused(e) => print_refusal(e),
     }

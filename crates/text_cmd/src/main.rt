@@ -52,7 +52,8 @@ fn run(chunk: &mut [u8], line: &mut [u8], text: &mut [u8], table: &mut [u8], out
         p = next(p, chunk, line, text, table, out);
         turns = input::turns_left(turns, p.input);
     }
-    session::finish(p.session, table, out);
+    let i = p.input;
+    session::finish(p.session, i.failed, table, out);
 }
 
 fn main() {

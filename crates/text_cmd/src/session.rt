@@ -8,6 +8,7 @@ use crate::request::Operand;
 use crate::request::Request;
 use console::command;
 use console::lines::Line;
+use libc::STDERR_FILENO;
 
 // What is kept, and the request whose operand is due. Between two requests none is.
 pub(crate) struct Session {
@@ -105,8 +106,11 @@ pub(crate) fn take_piece(
     }
 }
 
-// The end of the input: it ends a table, and a request that lacks its operand has a bad one.
-pub(crate) fn finish(s: Session, table: &[u8], out: &mut [u8]) {
+// The end of the input: it ends a table, a request that lacks its operand has a bad one, and a read that failed is told.
+pub(crate) fn finish(s: Session, failed: bool, table: &[u8], out: &mut [u8]) {
+    if failed {
+        io::write_all(STDERR_FILENO, b"text_cmd: can't read the standard input\n");
+    }
     let r = s.request;
     let operand = request::operand_of(r);
     match operand {
