@@ -1,13 +1,16 @@
 // Hashes of the names in a table: names that have different hashes differ.
 use crate::MAX_LINES;
 use hexline::accept;
+use hexline::accept::ENTRY_BODY;
 ghost use mathlib.Core.Path.{_≡_};
 ghost use mathlib.Core.Bool.{true, cond};
 ghost use lib.Dec.{leb};
 ghost use lib.ListN.{length};
 ghost use Rattle.common.specs.Answer.{isGranted};
+ghost use Rattle.hexline.specs.Accept.{acceptedBody};
+ghost use Rattle.hexline.specs.Body.{lineWords};
 ghost use Rattle.hexline.specs.Entry.{abbreviationBytes, nameBytes};
-ghost use Rattle.hexline.specs.Line.{readEntryLine, standingIn};
+ghost use Rattle.hexline.specs.Line.{entryIn, readEntryLine, standingIn};
 ghost use Rattle.hexline.specs.declared.entry.Entry.{Entry};
 ghost use Rattle.alias.specs.Internal.Hash.{HashesOf, foldedHash, hashOf, collidesBefore};
 
@@ -71,13 +74,12 @@ fn text_hashes(name: &[u8], abbreviation: &[u8]) -> LineHashes
     }
 }
 
-// Whether a line is an accepted line of kind 04, and the hashes of its entry.
-pub(crate) fn line_hashes(line: &[u8]) -> LineHashes
-    ensures { λ r. ⌜ r .accepted ≡ isGranted (readEntryLine (now (line .entry))) ⌝ }
-    ensures { λ r. ⌜ (r .accepted ≡ true → HashesOf (standingIn (now (line .entry))) (r .name) (r .other) (r .unclear)) ⌝ }
+// Whether a body is that of an accepted line of kind 04, and the hashes of its entry.
+fn body_hashes(body: &[u8]) -> LineHashes
+    ensures { λ r. ⌜ r .accepted ≡ acceptedBody (now (body .entry)) ⌝ }
+    ensures { λ r. ⌜ (r .accepted ≡ true → HashesOf (entryIn lineWords (now (body .entry))) (r .name) (r .other) (r .unclear)) ⌝ }
 {
-    let t = accept::judge_entry(line);
-    if !t.accepted {
+    if !accept::accepts(body) {
         return LineHashes {
             accepted: false,
             name: 0,
@@ -85,13 +87,23 @@ pub(crate) fn line_hashes(line: &[u8]) -> LineHashes
             unclear: false,
         };
     }
-    let n = t.name;
-    let a = t.abbreviation;
-    let body = t.body;
+    let p = accept::layout(body);
+    let n = p.name;
+    let a = p.abbreviation;
     text_hashes(
-        octets::front(octets::rest(&body, n.at), n.length),
-        octets::front(octets::rest(&body, a.at), a.length),
+        octets::front(octets::rest(body, n.at), n.length),
+        octets::front(octets::rest(body, a.at), a.length),
     )
+}
+
+// The same of a line: it is decoded once, and judged by the bytes of its body.
+pub(crate) fn line_hashes(line: &[u8]) -> LineHashes
+    ensures { λ r. ⌜ r .accepted ≡ isGranted (readEntryLine (now (line .entry))) ⌝ }
+    ensures { λ r. ⌜ (r .accepted ≡ true → HashesOf (standingIn (now (line .entry))) (r .name) (r .other) (r .unclear)) ⌝ }
+{
+    let mut bytes = [0u8; ENTRY_BODY];
+    let n = frame::decode(line, &mut bytes);
+    body_hashes(octets::front(&bytes, n))
 }
 
 // Whether entry k, by its hashes, may have a name in common with an earlier entry. The loop has no early exit, so that it can take several hashes at

@@ -64,32 +64,39 @@ fn called_as(a: &[u8], b: &[u8], t: Span) -> bool
     requires { ⌜ t .at + t .length < 1024 ⌝ }
     ensures { λ r. ⌜ r ≡ calledOf (standingIn (now (a .entry))) (spanBytes (bodyOf (now (b .entry))) t) ⌝ }
 {
-    let abbreviation = parts::abbreviation(a);
-    alike(a, parts::name(a), b, t) | ((1 <= abbreviation.length) & alike(a, abbreviation, b, t))
+    let u = parts::texts(a);
+    let abbreviation = u.abbreviation;
+    alike(a, u.name, b, t) | ((1 <= abbreviation.length) & alike(a, abbreviation, b, t))
 }
 
 // Whether the entries in two lines have a name in common.
 pub(crate) fn shares(a: &[u8], b: &[u8]) -> bool
     ensures { λ r. ⌜ r ≡ sharesOf (standingIn (now (a .entry))) (standingIn (now (b .entry))) ⌝ }
 {
-    let abbreviation = parts::abbreviation(b);
-    called_as(a, b, parts::name(b)) | ((1 <= abbreviation.length) & called_as(a, b, abbreviation))
+    let t = parts::texts(b);
+    let abbreviation = t.abbreviation;
+    called_as(a, b, t.name) | ((1 <= abbreviation.length) & called_as(a, b, abbreviation))
 }
 
 // Whether the name of the entry in a line is its abbreviation too.
 pub(crate) fn repeats_itself(line: &[u8]) -> bool
     ensures { λ r. ⌜ r ≡ sameBytes (nameBytes (standingIn (now (line .entry)))) (abbreviationBytes (standingIn (now (line .entry)))) ⌝ }
 {
-    alike(line, parts::name(line), line, parts::abbreviation(line))
+    let t = parts::texts(line);
+    alike(line, t.name, line, t.abbreviation)
 }
 
-// Whether two labels are the same, as the labels of entries are compared.
-fn same_label(a: Label, b: Label) -> bool
-    ensures { λ r. ⌜ r ≡ labels.equalOf a b ⌝ }
+// Whether the label of the entry in a line is l. The hierarchy is compared first, where it stands.
+fn has_label(line: &[u8], l: Label) -> bool
+    ensures { λ r. ⌜ r ≡ labels.equalOf (standingIn (now (line .entry)) .label) l ⌝ }
 {
-    let x = a.categories;
-    let y = b.categories;
-    components::equal(a.hierarchy, x, b.hierarchy, y)
+    if parts::hierarchy(line) != l.hierarchy {
+        return false;
+    }
+    let m = parts::label(line);
+    let x = m.categories;
+    let y = l.categories;
+    components::equal(m.hierarchy, x, l.hierarchy, y)
 }
 
 // Whether the entry in a line stands for a value, which for a whole label is the label beside it.
@@ -107,7 +114,7 @@ pub(crate) fn stands_for(line: &[u8], v: Value, l: Label) -> bool
             _ => false,
         },
         Value::WholeLabel => match v {
-            Value::WholeLabel => same_label(parts::label(line), l),
+            Value::WholeLabel => has_label(line, l),
             _ => false,
         },
     }

@@ -19,14 +19,14 @@ use Rattle.frame.specs.Frame.{bodyOf, bytesOf, checkByte, digitOf, digit
 
 low-digit : (c : ℕ) → 48 ≤ c → c ≤ 57 → (isDigit c ≡ true) × (digitValue c ≡ c - 48)
 unfolding isDigit digitValue
-low-digit c l h = let e = or-first (leb 97 c && leb c 102) (both (le-leb 48 c l) (le-leb c 57 h)) in (e, rw (e, le-leb c 57 h))
+low-digit c l h = let e = or-first (leb 97 c && leb c 102) (both (le-leb 48 c l) (le-leb c 57 h)) in let q : c / 64 ≡ 0 = omega arith in (e, rw q (omega arith))
 
 high-digit : (c : ℕ) → 97 ≤ c → c ≤ 102 → (isDigit c ≡ true) × (digitValue c ≡ c - 87)
 unfolding isDigit digitValue
 high-digit c l h =
     let e = or-second (leb 48 c && leb c 57) (both (le-leb 97 c l) (le-leb c 102 h)) in
-    let f : leb c 57 ≡ false = lt-leb c 57 (omega arith) in
-    (e, rw (e, f))
+    let q : c / 64 ≡ 1 = omega arith in
+    (e, rw q (omega arith))
 
 between : (a b c : ℕ) → (leb a c && leb c b) ≡ true → (a ≤ c) × (c ≤ b)
 between a b c e = (leb-true a c (first-true (leb a c) (leb c b) e), leb-true c b (second-true (leb a c) (leb c b) e))
@@ -35,32 +35,9 @@ digit-cases : (c : ℕ) → isDigit c ≡ true → ((48 ≤ c) × (c ≤ 57)) �
 unfolding isDigit
 digit-cases c e = ⊎-elim (λ h. inl (between 48 57 c h)) (λ h. inr (between 97 102 c h)) (either (leb 48 c && leb c 57) (leb 97 c && leb c 102) e)
 
-no-digit : (c : ℕ) → isDigit c ≡ false → digitValue c ≡ 0
-unfolding digitValue
-no-digit c e = rw e
-
--- the value by the test that a byte passes
-pub decimal-value : (c : ℕ) → (leb 48 c && leb c 57) ≡ true → (48 ≤ c) × (c ≤ 57) × (digitValue c ≡ c - 48)
-decimal-value c e = let b = between 48 57 c e in (b .0, b .1, low-digit c (b .0) (b .1) .1)
-
-pub letter-value : (c : ℕ) → (leb 97 c && leb c 102) ≡ true → (97 ≤ c) × (c ≤ 102) × (digitValue c ≡ c - 87)
-letter-value c e = let b = between 97 102 c e in (b .0, b .1, high-digit c (b .0) (b .1) .1)
-
-pub other-value : (c : ℕ) → (leb 48 c && leb c 57) ≡ false → (leb 97 c && leb c 102) ≡ false → digitValue c ≡ 0
-unfolding isDigit
-other-value c e f = no-digit c (rw (e, f) refl)
-
--- the value of a digit by arithmetic alone
-pub value-by : (c : ℕ) → isDigit c ≡ true → digitValue c ≡ c % 16 + 9 * (c / 64)
-value-by c e = ⊎-elim (λ h. low-digit c (h .0) (h .1) .1 ∙ omega arith) (λ h. high-digit c (h .0) (h .1) .1 ∙ omega arith) (digit-cases c e)
-
 pub value-small : (c : ℕ) → digitValue c < 16
-value-small c = pick (isDigit c) refl
-  where
-    pick : (p : Bool) → isDigit c ≡ p → digitValue c < 16
-    pick true e =
-        ⊎-elim (λ h. let v = low-digit c (h .0) (h .1) .1 in omega arith) (λ h. let v = high-digit c (h .0) (h .1) .1 in omega arith) (digit-cases c e)
-    pick false e = let v = no-digit c e in omega arith
+unfolding digitValue
+value-small c = omega arith
 
 spell-low : (n : ℕ) → n < 10 → digitOf n ≡ 48 + n
 unfolding digitOf

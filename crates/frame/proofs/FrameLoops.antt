@@ -17,7 +17,7 @@ use Rattle.common.specs.Index.{every, tabulate}
 use Rattle.common.proofs.BoolLaws.{exactly-both, three-true}
 use Rattle.common.proofs.BufferLaws.{overlay-length, overlay-step}
 use Rattle.common.proofs.IndexLaws.{every-all, every-at, every-same, le-or-lt, tabulate-at, tabulate-is, tabulate-length}
-use Rattle.frame.specs.Frame.{bodyFrom, bodyOf, bytesOf, checkByte, decodedIn, digitOf, digitsOf, frameOf, framedOf, isDigit, soundBody, spelledOf, sumOf, digitValue}
+use Rattle.frame.specs.Frame.{bodyOf, bytesOf, checkByte, decodedIn, digitOf, digitsOf, frameOf, framedOf, isDigit, soundBody, spelledOf, sumOf, digitValue}
 use Rattle.frame.proofs.FrameLaws.{body-length, bytes-at, bytes-length, digits-append, digits-length, framed-parts, sum-append, sum-one, sum-take, value-small}
 
 -- ---- whether a line is spelled in digits
@@ -67,19 +67,6 @@ spelled-odd (a ∷ b ∷ rest) (suc (suc n)) h e =
     ∙ sym (and-assoc (isDigit a) (isDigit b) (every (digitAt rest) n)))
     ∙ and-assoc (isDigit a && isDigit b) (every (digitAt rest) n) last
     ∙ ap (λ (p : Bool). isDigit a && isDigit b && p) (spelled-odd rest n (omega arith) (omega arith))
-
--- a line that is spelled has two digits for each byte
-pub spelled-at : (line : List ℕ) (i : ℕ) → spelledOf line ≡ true → i < length line / 2 → (digitAt line (2 * i) ≡ true) × (digitAt line (2 * i + 1) ≡ true)
-unfolding spelledOf
-spelled-at [] i e h = absurd (omega arith)
-spelled-at (c ∷ []) i e h = absurd (omega arith)
-spelled-at (a ∷ b ∷ rest) zero e h = let t = three-true (isDigit a) (isDigit b) (spelledOf rest) e in (t .0, t .1)
-spelled-at (a ∷ b ∷ rest) (suc i) e h =
-    let t = three-true (isDigit a) (isDigit b) (spelledOf rest) e in
-    let r = spelled-at rest i (t .2) (omega arith) in
-    let m : 2 * suc i ≡ suc (suc (2 * i)) = omega arith in
-    let n : 2 * suc i + 1 ≡ suc (suc (2 * i + 1)) = omega arith in
-    (ap (digitAt (a ∷ b ∷ rest)) m ∙ r .0, ap (digitAt (a ∷ b ∷ rest)) n ∙ r .1)
 
 -- ---- sums modulo 256
 
@@ -140,41 +127,6 @@ module _ (f : ℕ → ℕ) (before : List ℕ) (i : ℕ) where
       let n : i + (k + 1) ≡ suc (i + k) = omega arith in
       ap (λ (j : ℕ). take j (set out (i + k) v)) n ∙ take-suc-set out (i + k) v h
       ∙ ap (λ (l : List ℕ). l ++ (v ∷ [])) inv ∙ rw (e, add-one k) (append-assoc (take i before) (tabulate f k) (f k ∷ []))
-
-pub body-more : (line : List ℕ) (at i n : ℕ) → bodyFrom line at i ++ bodyFrom line (at + i) n ≡ bodyFrom line at (i + n)
-unfolding bodyFrom
-body-more line at i n =
-    let f : ℕ → ℕ = λ k. getD (bodyOf line) (at + k) 0 in
-    ap (λ (l : List ℕ). tabulate f i ++ l) (tabulate-same _ _ n (λ k h. ap (λ (j : ℕ). getD (bodyOf line) j 0) (omega arith))) ∙ tabulate-more f i n
-
-pub low-digit-of : (n m : ℕ) → n % 256 ≡ m → n % 16 ≡ m % 16
-low-digit-of n m e = omega arith
-
--- byte k of a block, of the numbers of its digits
-abbrev pub blockByte : List ℕ → ℕ → ℕ
-blockByte vs k = getD vs (2 * k) 0 % 16 * 16 + getD vs (2 * k + 1) 0 % 16
-
--- the numbers of a block's digits
-abbrev pub blockValues : List ℕ → ℕ → List ℕ
-blockValues line a = tabulate (λ k. digitValue (getD line (2 * a + k) 0)) 32
-
-block-value : (line : List ℕ) (a k j : ℕ) → k < 32 → 2 * a + k ≡ j → getD (blockValues line a) k 0 % 16 ≡ digitValue (getD line j 0)
-block-value line a k j h e =
-    ap (λ (n : ℕ). n % 16) (tabulate-at (λ i. digitValue (getD line (2 * a + i) 0)) 32 k 0 h ∙ ap (λ (i : ℕ). digitValue (getD line i 0)) e)
-    ∙ mod-eq-of-lt (value-small (getD line j 0))
-
--- a block's bytes, of these numbers
-pub block-is : (line : List ℕ) (a : ℕ) → a + 16 ≤ length (bodyOf line)
-    → tabulate (blockByte (blockValues line a)) 16 ≡ bodyFrom line a 16
-unfolding bodyFrom
-block-is line a h = tabulate-same _ _ 16 byte
-  where
-    byte : (k : ℕ) → k < 16 → blockByte (blockValues line a) k ≡ getD (bodyOf line) (a + k) 0
-    byte k l =
-        let n = body-length line in
-        ap₂ (λ (x y : ℕ). x * 16 + y) (block-value line a (2 * k) (2 * (a + k)) (omega arith) (omega arith))
-        (block-value line a (2 * k + 1) (2 * (a + k) + 1) (omega arith) (omega arith))
-        ∙ sym (body-at line (a + k) (omega arith) ∙ bytes-at line (a + k) (omega arith))
 
 -- ---- bytes filled in from the front
 
@@ -276,10 +228,14 @@ module _ (line : List ℕ) where
     unfolding soundBody
     decoded-none e = rw e
 
-    -- a frame that has room is decoded whole
-    pub decoded-whole : framedOf line ≡ true → length (bodyOf line) ≤ length out → (soundBody line (length out) ≡ bodyOf line) × (decodedIn line out ≡ overlay (bodyOf line) out)
-    unfolding soundBody decodedIn
-    decoded-whole e h = rw (e, framed-spelled line e, le-leb (length (bodyOf line)) (length out) h) (refl, refl)
+-- what is decoded is the body, or nothing
+pub sound-whole : (line : List ℕ) (room : ℕ) → (soundBody line room ≡ [] → ⊥) → soundBody line room ≡ bodyOf line
+unfolding soundBody
+sound-whole line room h = go (framedOf line && leb (length (bodyOf line)) room) h
+  where
+    go : (b : Bool) → (cond b (bodyOf line) [] ≡ [] → ⊥) → cond b (bodyOf line) [] ≡ bodyOf line
+    go true h = refl
+    go false h = absurd (h refl)
 
 -- what is decoded has room
 pub sound-short : (line : List ℕ) (room : ℕ) → length (soundBody line room) ≤ room
@@ -291,10 +247,11 @@ sound-short line room = go (framedOf line) (leb (length (bodyOf line)) room) ref
     go true false e = omega arith
     go false l e = omega arith
 
--- the front of the buffer is what is decoded
-pub decoded-front : (line out : List ℕ) (n : ℕ) → n ≡ length (soundBody line (length out)) → take n (decodedIn line out) ≡ soundBody line (length out)
+-- the first n bytes of the buffer are what is decoded
+pub decoded-front : (line out : List ℕ) {xs ys : List ℕ} {n : ℕ} → n ≡ length (soundBody line (length out)) → xs ≡ decodedIn line out → ys ≡ take n xs → ys ≡ soundBody line (length out)
 unfolding soundBody decodedIn
-decoded-front line out n e = go (framedOf line) (spelledOf line) (leb (length (bodyOf line)) (length out)) (framed-spelled line) e
+decoded-front line out {n = n} e h g =
+    g ∙ ap (take n) h ∙ go (framedOf line) (spelledOf line) (leb (length (bodyOf line)) (length out)) (framed-spelled line) e
   where
     go : (f s l : Bool) → (f ≡ true → s ≡ true) → n ≡ length (cond (f && l) (bodyOf line) []) → take n (cond (s && l) (overlay (bodyOf line) out) out) ≡ cond (f && l) (bodyOf line) []
     go true true true h e = take-at (bodyOf line) (drop (length (bodyOf line)) out) n (sym e)

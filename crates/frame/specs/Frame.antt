@@ -3,10 +3,9 @@ use mathlib.Core.Bool.{Bool, false, cond, _&&_, _||_}
 use mathlib.Core.List.{List, [], _∷_, _++_}
 use Prim.Native.Nat.{ℕ, _+_, _*_, _-_, _/_, _%_}
 use lib.Dec.{eqb, leb, ltb}
-use lib.ListN.{getD, length, take}
+use lib.ListN.{length, take}
 use Rattle.common.specs.Answer.{Answer, granted, require}
 use Rattle.common.specs.Buffer.{overlay}
-use Rattle.common.specs.Index.{tabulate}
 
 -- ---- digits: lower-case hex
 
@@ -17,9 +16,10 @@ digitOf n = cond (ltb n 10) (48 + n) (87 + n)
 unfoldable pub isDigit : ℕ → Bool
 isDigit c = (leb 48 c && leb c 57) || (leb 97 c && leb c 102)
 
--- the number of a digit, and 0 for any other byte
+-- the number of a digit: its low bits, and 9 more for a letter (`digit-exact` says that it is this). Any other byte has a number below 16 by it too,
+-- so that bytes stand in any line; a line with such a byte is no frame
 unfoldable pub digitValue : ℕ → ℕ
-digitValue c = cond (isDigit c) (cond (leb c 57) (c - 48) (c - 87)) 0
+digitValue c = (c + 9 * (c / 64)) % 16
 
 -- two digits a byte, the high one first
 unfoldable pub digitsOf : List ℕ → List ℕ
@@ -76,10 +76,6 @@ soundBody line room = cond (framedOf line && leb (length (bodyOf line)) room) (b
 -- what a buffer holds in which a line is decoded: the body at its front where the line is spelled and its body fits, else what it held
 unfoldable pub decodedIn : List ℕ → List ℕ → List ℕ
 decodedIn line out = cond (spelledOf line && leb (length (bodyOf line)) (length out)) (overlay (bodyOf line) out) out
-
--- n bytes of a line's body from index i on, with 0 past its end
-unfoldable pub bodyFrom : List ℕ → ℕ → ℕ → List ℕ
-bodyFrom line i n = tabulate (λ k. getD (bodyOf line) (i + k) 0) n
 
 -- what is read of a line by way of its body: a line that is no frame is refused with 22
 abbrev pub readBody : {A : Type 0} → (List ℕ → Answer A) → List ℕ → Answer A

@@ -11,14 +11,14 @@ ghost use lib.Dec.{eqb};
 ghost use lib.ListN.{getD, length, set, take};
 ghost use Rattle.common.specs.Buffer.{WrittenTo, overlay};
 ghost use Rattle.common.specs.Index.{every, tabulate};
-ghost use Rattle.frame.specs.Frame.{bodyFrom, bodyOf, bytesOf, decodedIn, digitOf, digitsOf, frameAnswerOf, framedOf, isDigit, soundBody, spelledOf, sumOf, digitValue};
+ghost use Rattle.frame.specs.Frame.{bodyOf, bytesOf, decodedIn, digitOf, digitsOf, frameAnswerOf, framedOf, isDigit, soundBody, spelledOf, sumOf, digitValue};
 
 // A longer body is not written.
 pub const MAX_BODY: usize = 65536;
 
 const LINE_FEED: u8 = 10;
 
-// How many bytes are copied together.
+// How many bytes are made together.
 const BLOCK: usize = 16;
 
 // Letters stand 39 past where the decimal digits would go on. This takes fewer instructions than a choice.
@@ -35,17 +35,6 @@ fn is_digit(c: u8) -> bool
     ((48 <= c) & (c <= 57)) | ((97 <= c) & (c <= 102))
 }
 
-// The number of a digit, and 0 for any other byte.
-fn digit_value(c: u8) -> u8
-    ensures { λ r. ⌜ r ≡ digitValue c ⌝ }
-    ensures { λ r. ⌜ r < 16 ⌝ }
-{
-    if (48 <= c) & (c <= 57) {
-        return c - 48;
-    }
-    if (97 <= c) & (c <= 102) { c - 87 } else { 0 }
-}
-
 // The two digits of byte i as one number, the first one lowest: a loop that reads them so takes several bytes at once.
 fn pair(line: &[u8], i: usize) -> u16
     requires { ⌜ i < length (now line) / 2 ⌝ }
@@ -54,13 +43,21 @@ fn pair(line: &[u8], i: usize) -> u16
     line[2 * i] as u16 + line[2 * i + 1] as u16 * 256
 }
 
+// The byte of two digits, by arithmetic that takes fewer instructions than a choice.
+fn pair_value(p: u16) -> u16
+    ensures { λ r. ⌜ r ≡ digitValue (p % 256) * 16 + digitValue (p / 256) ⌝ }
+{
+    let h = p % 256;
+    let l = p / 256;
+    (h + 9 * (h / 64)) % 16 * 16 + (l + 9 * (l / 64)) % 16
+}
+
 // Byte i of a line, the last one, which makes the sum, among them.
 fn byte_at(line: &[u8], i: usize) -> u8
     requires { ⌜ i < length (now line) / 2 ⌝ }
     ensures { λ r. ⌜ r ≡ getD (bytesOf (now (line .entry))) i 0 ⌝ }
 {
-    let p = pair(line, i);
-    digit_value((p % 256) as u8) * 16 + digit_value((p / 256) as u8)
+    pair_value(pair(line, i)) as u8
 }
 
 // Byte i of a line's body, and 0 past its end.
@@ -75,130 +72,6 @@ pub fn byte(line: &[u8], i: usize) -> u8
         return 0;
     }
     byte_at(line, i)
-}
-
-// How many bytes a line's body has.
-pub fn body_length(line: &[u8]) -> usize
-    ensures { λ r. ⌜ r ≡ length (bodyOf (now (line .entry))) ⌝ }
-{
-    let bytes = line.len() / 2;
-    if bytes == 0 { 0 } else { bytes - 1 }
-}
-
-// How many bytes of a line's body there are from index at on.
-fn left_from(line: &[u8], at: usize) -> usize
-    ensures { λ r. ⌜ r ≡ length (bodyOf (now (line .entry))) - at ⌝ }
-{
-    let body = body_length(line);
-    if at <= body { body - at } else { 0 }
-}
-
-// The numbers of the digits of a line from index from on.
-fn digit_values(line: &[u8], from: usize, values: &mut [u8])
-    requires { ⌜ from + length (now values) ≤ length (now line) ⌝ }
-    ensures { λ _. ⌜ now (values .exit) ≡ tabulate (λ k. digitValue (getD (now (line .entry)) (from + k) 0)) (length (now (values .entry))) ⌝ }
-{
-    let mut k = 0;
-    while k < values.len() {
-        values[k] = digit_value(line[from + k]);
-        k += 1;
-    }
-}
-
-// The bytes of a block at index i of out, each by the numbers of its two digits.
-fn put_block(values: &[u8], out: &mut [u8], i: usize)
-    requires { ⌜ (32 ≤ length (now values)) × (i + 16 ≤ length (now out)) ⌝ }
-    ensures { λ _. ⌜ take (i + 16) (now (out .exit)) ≡ take i (now (out .entry)) ++ tabulate (λ k. getD (now (values .entry)) (2 * k) 0 % 16 * 16 + getD (now (values .entry)) (2 * k + 1) 0 % 16) 16 ⌝ }
-    ensures { λ _. ⌜ length (now (out .exit)) ≡ length (now (out .entry)) ⌝ }
-{
-    let mut k = 0;
-    while k < BLOCK {
-        let p = pair(values, k);
-        out[i + k] = (p % 16 * 16 + p / 256 % 16) as u8;
-        k += 1;
-    }
-}
-
-// A block of a line's body from index at + i on, at index i of out. The numbers of all its digits are made first, which takes fewer instructions.
-fn copy_block(line: &[u8], at: usize, out: &mut [u8], i: usize)
-    requires { ⌜ (i + 16 ≤ length (now out)) × (at + i + 16 ≤ length (bodyOf (now line))) ⌝ }
-    ensures { λ _. ⌜ take (i + 16) (now (out .exit)) ≡ take i (now (out .entry)) ++ bodyFrom (now (line .entry)) (at + i) 16 ⌝ }
-    ensures { λ _. ⌜ length (now (out .exit)) ≡ length (now (out .entry)) ⌝ }
-{
-    let mut values = [0u8; 2 * BLOCK];
-    digit_values(line, 2 * (at + i), &mut values);
-    put_block(&values, out, i);
-}
-
-// Fills the front of out with blocks of a line's body from index at on, where all bytes are there; the index past them.
-fn copy_blocks(line: &[u8], at: usize, out: &mut [u8]) -> usize
-    requires { ⌜ length (now out) ≤ length (bodyOf (now line)) - at ⌝ }
-    ensures { λ r. ⌜ (r ≤ length (now (out .entry))) × (take r (now (out .exit)) ≡ bodyFrom (now (line .entry)) at r) ⌝ }
-    ensures { λ _. ⌜ length (now (out .exit)) ≡ length (now (out .entry)) ⌝ }
-{
-    let mut i = 0;
-    while i + BLOCK <= out.len() {
-        copy_block(line, at, out, i);
-        i += BLOCK;
-    }
-    i
-}
-
-// Fills out from index from on, where the bytes before it are there already.
-fn copy_rest(line: &[u8], at: usize, out: &mut [u8], from: usize)
-    requires { ⌜ length (now out) ≤ length (bodyOf (now line)) - at ⌝ }
-    requires { ⌜ (from ≤ length (now out)) × (take from (now out) ≡ bodyFrom (now line) at from) ⌝ }
-    ensures { λ _. ⌜ now (out .exit) ≡ bodyFrom (now (line .entry)) at (length (now (out .entry))) ⌝ }
-{
-    let mut i = from;
-    while i < out.len() {
-        out[i] = byte_at(line, at + i);
-        i += 1;
-    }
-}
-
-// Fills out with bytes of a line's body from index at on, where all of them are there.
-fn copy_inside(line: &[u8], at: usize, out: &mut [u8])
-    requires { ⌜ length (now out) ≤ length (bodyOf (now line)) - at ⌝ }
-    ensures { λ _. ⌜ now (out .exit) ≡ bodyFrom (now (line .entry)) at (length (now (out .entry))) ⌝ }
-{
-    let i = copy_blocks(line, at, out);
-    copy_rest(line, at, out, i);
-}
-
-// Byte i of those from index at on, where there are so many of them left, and 0 past these.
-fn byte_or_0(line: &[u8], at: usize, left: usize, i: usize) -> u8
-    requires { ⌜ left ≡ length (bodyOf (now line)) - at ⌝ }
-    ensures { λ r. ⌜ r ≡ getD (bodyOf (now (line .entry))) (at + i) 0 ⌝ }
-{
-    if i < left {
-        return byte_at(line, at + i);
-    }
-    0
-}
-
-// The same where some of them may lie past the end.
-fn copy_padded(line: &[u8], at: usize, left: usize, out: &mut [u8])
-    requires { ⌜ left ≡ length (bodyOf (now line)) - at ⌝ }
-    ensures { λ _. ⌜ now (out .exit) ≡ bodyFrom (now (line .entry)) at (length (now (out .entry))) ⌝ }
-{
-    let mut i = 0;
-    while i < out.len() {
-        out[i] = byte_or_0(line, at, left, i);
-        i += 1;
-    }
-}
-
-// Fills out with the bytes of a line's body from index at on, and with 0 past its end.
-pub fn copy(line: &[u8], at: usize, out: &mut [u8])
-    ensures { λ _. ⌜ now (out .exit) ≡ bodyFrom (now (line .entry)) at (length (now (out .entry))) ⌝ }
-{
-    let left = left_from(line, at);
-    if out.len() <= left {
-        copy_inside(line, at, out);
-    } else {
-        copy_padded(line, at, left, out);
-    }
 }
 
 // Whether n bytes of a line from index at on are digits. A fault does not end the loop, which tests several at once without a way out.
@@ -237,45 +110,26 @@ fn spelled(line: &[u8]) -> bool
     all_digits(line, n - 1) & (line[n - 1] == LINE_FEED)
 }
 
-// The byte of two digits, by arithmetic that is right for digits alone.
-fn pair_value(p: u16) -> u16
-    requires { ⌜ (isDigit (p % 256) ≡ true) × (isDigit (p / 256) ≡ true) ⌝ }
-    ensures { λ r. ⌜ r ≡ digitValue (p % 256) * 16 + digitValue (p / 256) ⌝ }
-{
-    let h = p % 256;
-    let l = p / 256;
-    (h % 16 * 16 + l % 16) + 9 * (h / 64 * 16 + l / 64)
-}
-
-// Byte i of a line that is spelled, the last one, which makes the sum, among them.
-fn spelled_byte(line: &[u8], i: usize) -> u8
-    requires { ⌜ (spelledOf (now line) ≡ true) × (i < length (now line) / 2) ⌝ }
-    ensures { λ r. ⌜ r ≡ getD (bytesOf (now (line .entry))) i 0 ⌝ }
-{
-    pair_value(pair(line, i)) as u8
-}
-
-// Bytes of a line that is spelled, from index i on, in all of block.
-fn spelled_block(line: &[u8], i: usize, block: &mut [u8])
-    requires { ⌜ (spelledOf (now line) ≡ true) × (i + length (now block) ≤ length (now line) / 2) ⌝ }
+// Bytes of a line from index i on, in all of block.
+fn bytes_from(line: &[u8], i: usize, block: &mut [u8])
+    requires { ⌜ i + length (now block) ≤ length (now line) / 2 ⌝ }
     ensures { λ _. ⌜ now (block .exit) ≡ tabulate (λ k. getD (bytesOf (now (line .entry))) (i + k) 0) (length (now (block .entry))) ⌝ }
 {
     let mut k = 0;
     while k < block.len() {
-        block[k] = spelled_byte(line, i + k);
+        block[k] = byte_at(line, i + k);
         k += 1;
     }
 }
 
-// A block of the bytes of a line that is spelled, at index i of out, where those before it are there already. It is made in an array of its own,
-// which the compiler knows to be apart from the line.
+// A block of the bytes of a line, at index i of out, where those before it are there already. It is made in an array of its own, which the compiler knows to be apart from the line.
 fn fill_block(line: &[u8], out: &mut [u8], i: usize)
-    requires { ⌜ (spelledOf (now line) ≡ true) × (length (now out) ≤ length (now line) / 2) × (i + 16 ≤ length (now out)) × (take i (now out) ≡ take i (bytesOf (now line))) ⌝ }
+    requires { ⌜ (length (now out) ≤ length (now line) / 2) × (i + 16 ≤ length (now out)) × (take i (now out) ≡ take i (bytesOf (now line))) ⌝ }
     ensures { λ _. ⌜ take (i + 16) (now (out .exit)) ≡ take (i + 16) (bytesOf (now (line .entry))) ⌝ }
     ensures { λ _. ⌜ length (now (out .exit)) ≡ length (now (out .entry)) ⌝ }
 {
     let mut block = [0u8; BLOCK];
-    spelled_block(line, i, &mut block);
+    bytes_from(line, i, &mut block);
     let mut k = 0;
     while k < BLOCK {
         out[i + k] = block[k];
@@ -283,9 +137,9 @@ fn fill_block(line: &[u8], out: &mut [u8], i: usize)
     }
 }
 
-// Fills the front of out with blocks of the bytes of a line that is spelled; the index past them.
+// Fills the front of out with blocks of the bytes of a line; the index past them.
 fn fill_blocks(line: &[u8], out: &mut [u8]) -> usize
-    requires { ⌜ (spelledOf (now line) ≡ true) × (length (now out) ≤ length (now line) / 2) ⌝ }
+    requires { ⌜ length (now out) ≤ length (now line) / 2 ⌝ }
     ensures { λ r. ⌜ (r ≤ length (now (out .entry))) × (take r (now (out .exit)) ≡ take r (bytesOf (now (line .entry)))) ⌝ }
     ensures { λ _. ⌜ length (now (out .exit)) ≡ length (now (out .entry)) ⌝ }
 {
@@ -297,14 +151,14 @@ fn fill_blocks(line: &[u8], out: &mut [u8]) -> usize
     i
 }
 
-// Fills out with the first bytes of a line that is spelled.
+// Fills out with the first bytes of a line.
 fn fill(line: &[u8], out: &mut [u8])
-    requires { ⌜ (spelledOf (now line) ≡ true) × (length (now out) ≤ length (now line) / 2) ⌝ }
+    requires { ⌜ length (now out) ≤ length (now line) / 2 ⌝ }
     ensures { λ _. ⌜ now (out .exit) ≡ take (length (now (out .entry))) (bytesOf (now (line .entry))) ⌝ }
 {
     let mut i = fill_blocks(line, out);
     while i < out.len() {
-        out[i] = spelled_byte(line, i);
+        out[i] = byte_at(line, i);
         i += 1;
     }
 }
@@ -329,11 +183,11 @@ fn decode_spelled(line: &[u8], out: &mut [u8]) -> bool
     ensures { λ _. ⌜ now (out .exit) ≡ bodyOf (now (line .entry)) ⌝ }
 {
     fill(line, out);
-    sums_up(out, spelled_byte(line, out.len()))
+    sums_up(out, byte_at(line, out.len()))
 }
 
 // Tests a line and decodes it, its body at the front of out: how many bytes that is, 0 where the line is no frame or has no room. Digits are
-// tested first; then bytes are made by arithmetic that is right for digits alone, and added up where they were put.
+// tested first; then the bytes are made, and added up where they were put.
 pub fn decode(line: &[u8], out: &mut [u8]) -> usize
     ensures { λ r. ⌜ r ≡ length (soundBody (now (line .entry)) (length (now (out .entry)))) ⌝ }
     ensures { λ _. ⌜ now (out .exit) ≡ decodedIn (now (line .entry)) (now (out .entry)) ⌝ }

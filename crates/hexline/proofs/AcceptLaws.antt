@@ -1,5 +1,5 @@
 -- The laws of what a body of an alias entry is judged by: it is the form of the entry that stands in it, and that this is valid.
-use mathlib.Core.Bool.{Bool, true, false, cond, _&&_, _||_, and-true}
+use mathlib.Core.Bool.{Bool, true, false, cond, _&&_, _||_, and-true, true≢false}
 use mathlib.Core.List.{List, []}
 use mathlib.Core.Logic.{⊎-elim}
 use mathlib.Core.Path.{_≡_, refl, sym, ap, ap₂, _∙_}
@@ -7,30 +7,27 @@ use Prim.Native.Nat.{ℕ, zero, suc, _+_, _≤_, _<_}
 use native.Mathlib.Numerals.{add-one}
 use native.Mathlib.Omega.{arith}
 use lib.Dec.{eqb, leb, ltb}
-use lib.ListN.{drop, length, replicate, take, length-drop, length-take}
-use lib.Seq.{getD-drop, getD-take, length-take-le, take-all, take-at}
+use lib.ListN.{drop, length, take, length-drop}
+use lib.Seq.{getD-drop, getD-take, length-take-le, take-all}
 use borrow.Author.Tests.{eq-eqb, le-leb, le-ltb, lt-ltb}
 use Rattle.common.specs.Answer.{isGranted, require, granted}
-use Rattle.common.specs.Buffer.{overlay}
 use Rattle.common.specs.Index.{every, tabulate}
 use Rattle.label.specs.Label
-use Rattle.common.proofs.BoolLaws.{first-true, not-so, same-truth, second-true}
-use Rattle.common.proofs.BufferLaws.{overlay-length}
+use Rattle.common.proofs.BoolLaws.{not-so, same-truth}
 use Rattle.common.proofs.IndexLaws.{every-all, every-at, le-or-lt, tabulate-at, tabulate-is, tabulate-length}
 use Rattle.label.proofs.LabelLaws.{equal-exact}
-use Rattle.frame.specs.Frame.{bodyOf, decodedIn, framedOf, soundBody}
-use Rattle.frame.proofs.FrameLoops.{decoded-whole}
-use Rattle.hexline.specs.Accept.{TextsAt, judgedEntry, noEntry, spanPart, textOk, valueByteOk}
+use Rattle.frame.specs.Frame.{bodyOf, soundBody}
+use Rattle.frame.proofs.FrameLoops.{sound-whole}
+use Rattle.hexline.specs.Accept.{acceptedBody, spanPart, textOk, valueByteOk}
 use Rattle.hexline.specs.Body.{byteAt, labelAt, labelSize, lineWords}
-use Rattle.hexline.specs.Entry.{abbreviationSize, atMost, entryFrom, entrySize, isLetter, isNameByte, labelFrom, layoutOf, maxAbbreviation, maxName, nameByteAt, nameByteOk, nameOf, nameSize, past, spanBytes, textByte, textFrom, validOf, valueByClass, valueOk, valueSize}
-use Rattle.hexline.specs.Line.{abbreviationIn, contentsOf, entryForm, entryIn, nameIn, readEntryLine}
-use Rattle.hexline.specs.declared.accept.Judged.{Judged}
+use Rattle.hexline.specs.Entry.{abbreviationBytes, abbreviationSize, atMost, entryFrom, entrySize, isLetter, isNameByte, labelFrom, layoutOf, maxAbbreviation, maxName, nameByteAt, nameByteOk, nameBytes, nameOf, nameSize, past, spanBytes, textByte, textFrom, validOf, valueByClass, valueOk, valueSize}
+use Rattle.hexline.specs.Line.{contentsOf, entryForm, entryIn, readEntryLine}
 use Rattle.hexline.specs.declared.entry.Entry.{Entry}
 use Rattle.hexline.specs.declared.entry.Layout.{Layout}
 use Rattle.hexline.specs.declared.entry.Span.{Span}
 use Rattle.hexline.proofs.EntryLaws.{text-byte}
 use Rattle.hexline.proofs.LineLaws.{by-contents, entry-form-parts}
-use Rattle.hexline.proofs.StandingLaws.{abbreviation-stands, name-stands}
+use Rattle.hexline.proofs.StandingLaws.{text-stands}
 
 pub every-more : (f : ℕ → Bool) (i : ℕ) → every f (i + 1) ≡ (every f i && f i)
 unfolding every
@@ -148,56 +145,15 @@ body-judged kind w bs small e =
 pub no-entry : (kind w : ℕ) → entryForm kind w [] ≡ false
 no-entry kind w = not-so (entryForm kind w []) (λ e. absurd (omega (arith, form-parts kind w [] refl e .0)))
 
--- ---- a line
+-- ---- the texts of the entry in such a body
 
-pub accepted-as : (line : List ℕ) → isGranted (readEntryLine line) ≡ (framedOf line && (entryForm 4 lineWords (bodyOf line) && validOf (entryIn lineWords (bodyOf line))))
-unfolding contentsOf
-accepted-as line = go (framedOf line) (entryForm 4 lineWords (bodyOf line) && validOf (entryIn lineWords (bodyOf line))) (entryIn lineWords (bodyOf line))
-  where
-    go : (f v : Bool) (x : Entry) → isGranted (require f 22 (require v 22 (granted x))) ≡ (f && v)
-    go true true x = refl
-    go true false x = refl
-    go false v x = refl
-
-accepted-form : (line : List ℕ) → isGranted (readEntryLine line) ≡ true → entryForm 4 lineWords (bodyOf line) ≡ true
-accepted-form line e =
-    let f : Bool = entryForm 4 lineWords (bodyOf line) in
-    let v : Bool = validOf (entryIn lineWords (bodyOf line)) in
-    first-true f v (second-true (framedOf line) (f && v) (sym (accepted-as line) ∙ e))
-
--- the body of an accepted line has at most 83 bytes
-pub accepted-short : (line : List ℕ) → isGranted (readEntryLine line) ≡ true → length (bodyOf line) ≤ 83
-accepted-short line e = form-room 4 lineWords (bodyOf line) (accepted-form line e)
-
--- such a line is judged by what is decoded
-pub accepted-by : (line : List ℕ) → let bs = soundBody line 83 in isGranted (readEntryLine line) ≡ (entryForm 4 lineWords bs && validOf (entryIn lineWords bs))
-unfolding contentsOf
-accepted-by line =
-    ap isGranted (by-contents (entryForm 4 lineWords) (entryIn lineWords) validOf line 83 (no-entry 4 lineWords) (form-room 4 lineWords))
-    ∙ go (entryForm 4 lineWords (soundBody line 83) && validOf (entryIn lineWords (soundBody line 83))) (entryIn lineWords (soundBody line 83))
-  where
-    go : (v : Bool) (x : Entry) → isGranted (require v 22 (granted x)) ≡ v
-    go true x = refl
-    go false x = refl
-
-accepted-framed : (line : List ℕ) → isGranted (readEntryLine line) ≡ true → framedOf line ≡ true
-accepted-framed line e = first-true (framedOf line) (entryForm 4 lineWords (bodyOf line) && validOf (entryIn lineWords (bodyOf line))) (sym (accepted-as line) ∙ e)
-
-pub accepted-whole : (line : List ℕ) → isGranted (readEntryLine line) ≡ true
-    → (soundBody line 83 ≡ bodyOf line) × (decodedIn line (replicate 83 0) ≡ overlay (bodyOf line) (replicate 83 0))
-accepted-whole line e = decoded-whole line (replicate 83 0) (accepted-framed line e) (accepted-short line e)
-
-front-decoded : (bs out : List ℕ) (n : ℕ) → n ≡ length bs → take n (overlay bs out) ≡ bs
-front-decoded bs out n e = take-at bs (drop (length bs) out) n (sym e)
-
--- the bytes of a buffer at a span, where a body is at its front
-part-stands : (bs out : List ℕ) (n : ℕ) (s : Span) → take n out ≡ bs → n ≡ length bs → n ≤ length out → past s ≤ n → spanPart out s ≡ spanBytes bs s
+-- the bytes at a span that lies in a body
+part-stands : (bs : List ℕ) (s : Span) → past s ≤ length bs → spanPart bs s ≡ spanBytes bs s
 unfolding spanBytes
-part-stands bs out n s e m h l =
-    let d = length-drop (s .at) out in
-    tabulate-is (λ k. byteAt bs (s .at + k)) (spanPart out s) (s .length) 0 (length-take-le (s .length) (drop (s .at) out) (omega arith))
-    (λ k b. getD-take (s .length) (drop (s .at) out) k 0 b ∙ getD-drop (s .at) out k 0 ∙ sym (getD-take n out (s .at + k) 0 (omega arith))
-    ∙ ap (λ (xs : List ℕ). byteAt xs (s .at + k)) e)
+part-stands bs s h =
+    let d = length-drop (s .at) bs in
+    tabulate-is (λ k. byteAt bs (s .at + k)) (spanPart bs s) (s .length) 0 (length-take-le (s .length) (drop (s .at) bs) (omega arith))
+    (λ k b. getD-take (s .length) (drop (s .at) bs) k 0 b ∙ getD-drop (s .at) bs k 0)
 
 at-most-all : (most : ℕ) (s : Span) → s .length ≤ most → atMost most s ≡ s
 at-most-all most s h = ap (λ (n : ℕ). spanFor (s .at) n) (omega arith)
@@ -205,51 +161,33 @@ at-most-all most s h = ap (λ (n : ℕ). spanFor (s .at) n) (omega arith)
     spanFor : ℕ → ℕ → Span
     spanFor i n = record { at = i; length = n }
 
-pub texts-at : (line out : List ℕ) (n : ℕ) {name abbreviation : Span} → take n out ≡ bodyOf line → n ≡ length (bodyOf line)
-    → name ≡ layoutOf lineWords (bodyOf line) 1 .name → abbreviation ≡ layoutOf lineWords (bodyOf line) 1 .abbreviation
-    → entryForm 4 lineWords (bodyOf line) ≡ true → TextsAt line name abbreviation out
-unfolding nameIn abbreviationIn
-texts-at line out n e m p q form =
-    let h : n ≤ length out = omega (arith, length-take n out, ap length e) in
-    let f = entry-form-parts 4 lineWords (bodyOf line) form in
-    let at = abbreviation-at lineWords (bodyOf line) 1 in
-    let l = layoutOf lineWords (bodyOf line) 1 in
-    record {
-      name-is = rw p (part-stands (bodyOf line) out n (l .name) e m h (omega (arith, f .size)) ∙ ap (spanBytes (bodyOf line)) (sym (at-most-all nameSize (l .name) (omega (arith, f .name)))) ∙ sym (name-stands line));
-      abbreviation-is = rw q (part-stands (bodyOf line) out n (l .abbreviation) e m h (omega (arith, f .size)) ∙ ap (spanBytes (bodyOf line)) (sym (at-most-all abbreviationSize (l .abbreviation) (omega (arith, f .abbreviation)))) ∙ sym (abbreviation-stands line));
-    }
+pub texts-at : (kind w : ℕ) (bs : List ℕ) {p : Layout} → p ≡ layoutOf w bs 1 → entryForm kind w bs ≡ true
+    → (spanPart bs (p .name) ≡ nameBytes (entryIn w bs)) × (spanPart bs (p .abbreviation) ≡ abbreviationBytes (entryIn w bs))
+unfolding entryFrom
+texts-at kind w bs q form =
+    let f = entry-form-parts kind w bs form in
+    let r = form-parts kind w bs refl form in
+    let n = layoutOf w bs 1 .name in
+    let a = layoutOf w bs 1 .abbreviation in
+    rw q (
+      part-stands bs n (r .1) ∙ ap (spanBytes bs) (sym (at-most-all nameSize n (omega (arith, f .name)))) ∙ sym (text-stands nameSize bs n),
+      part-stands bs a (r .2) ∙ ap (spanBytes bs) (sym (at-most-all abbreviationSize a (omega (arith, f .abbreviation)))) ∙ sym (text-stands abbreviationSize bs a),
+    )
 
--- ---- what a line is judged to be
+-- ---- a line is judged by what is decoded
 
-pub judged-accepted : (line : List ℕ) → judgedEntry line .accepted ≡ isGranted (readEntryLine line)
-unfolding judgedEntry
-judged-accepted line = go (isGranted (readEntryLine line)) _ refl
+pub accepted-by : (line : List ℕ) → isGranted (readEntryLine line) ≡ acceptedBody (soundBody line (1 + entrySize lineWords))
+unfolding contentsOf
+accepted-by line =
+    let bs = soundBody line (1 + entrySize lineWords) in
+    ap isGranted (by-contents (entryForm 4 lineWords) (entryIn lineWords) validOf line (1 + entrySize lineWords) (no-entry 4 lineWords) (form-room 4 lineWords))
+    ∙ go (acceptedBody bs) (entryIn lineWords bs)
   where
-    go : (b : Bool) (x : Judged) → x .accepted ≡ true → cond b x noEntry .accepted ≡ b
-    go true x e = e
-    go false x e = refl
+    go : (v : Bool) (x : Entry) → isGranted (require v 22 (granted x)) ≡ v
+    go true x = refl
+    go false x = refl
 
-pub judged-not : (line : List ℕ) → isGranted (readEntryLine line) ≡ false → noEntry ≡ judgedEntry line
-unfolding judgedEntry
-judged-not line e = rw e
-
-pub judged-as : (line : List ℕ) {p : Layout} {bs : List ℕ} → isGranted (readEntryLine line) ≡ true → p ≡ layoutOf lineWords (bodyOf line) 1 → bs ≡ overlay (bodyOf line) (replicate 83 0)
-    → record { accepted = true; name = p .name; abbreviation = p .abbreviation; body = bs } ≡ judgedEntry line
-unfolding judgedEntry
-judged-as line e h k = rw (e, h, k)
-
-pub judged-length : (line : List ℕ) → length (judgedEntry line .body) ≡ 83
-unfolding judgedEntry
-judged-length line = go (isGranted (readEntryLine line)) refl
-  where
-    go : (b : Bool) → isGranted (readEntryLine line) ≡ b → length (judgedEntry line .body) ≡ 83
-    go true e = rw e (overlay-length (bodyOf line) (replicate 83 0) (accepted-short line e))
-    go false e = rw e
-
--- the texts of an accepted line
-pub judged-texts : (line : List ℕ) → isGranted (readEntryLine line) ≡ true → TextsAt line (judgedEntry line .name) (judgedEntry line .abbreviation) (judgedEntry line .body)
-unfolding judgedEntry
-judged-texts line e =
-    rw e
-    (texts-at line (overlay (bodyOf line) (replicate 83 0)) (length (bodyOf line)) (front-decoded (bodyOf line) (replicate 83 0) (length (bodyOf line)) refl)
-    refl refl refl (accepted-form line e))
+-- what is decoded of an accepted line is its body
+pub accepted-whole : (line : List ℕ) → isGranted (readEntryLine line) ≡ true → soundBody line (1 + entrySize lineWords) ≡ bodyOf line
+accepted-whole line e = sound-whole line (1 + entrySize lineWords)
+    (λ n. true≢false (sym e ∙ accepted-by line ∙ ap acceptedBody n ∙ ap (λ (f : Bool). f && validOf (entryIn lineWords [])) (no-entry 4 lineWords)))

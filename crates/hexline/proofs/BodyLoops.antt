@@ -1,6 +1,7 @@
 -- What the functions of `body` need at each turn of a loop.
 use mathlib.Core.Bool.{cond}
 use mathlib.Core.List.{List, _∷_, [], _++_, append-assoc, append-nil}
+use mathlib.Core.Logic.{_⊎_, inl, inr}
 use mathlib.Core.Path.{_≡_, refl, sym, ap, ap₂, _∙_}
 use Prim.Native.Nat.{ℕ, _+_, _*_, _/_, _%_, _^_, _≤_, _<_}
 use native.Mathlib.Nat.{add-zero, lt-of-lt-of-le, pow-le-pow-right, zero-lt-suc}
@@ -9,12 +10,12 @@ use native.Mathlib.Omega.{arith}
 use lib.Dec.{ltb}
 use lib.ListN.{length, set, take, length-append, length-set}
 use lib.Seq.{length-take-le, take-at, take-length, take-suc-set}
+use borrow.Author.Tests.{le-ltb}
 use Rattle.common.specs.Index.{tabulate}
 use Rattle.label.specs.Label.{labelOf}
 use Rattle.label.specs.Words.{wordAt, words as setWords}
-use Rattle.common.proofs.IndexLaws.{tabulate-at, tabulate-length}
+use Rattle.common.proofs.IndexLaws.{le-or-lt, tabulate-length}
 use Rattle.label.specs.declared.Label.{Label}
-use Rattle.frame.specs.Frame.{bodyFrom, bodyOf}
 use Rattle.frame.proofs.FrameLaws.{Bytes}
 use Rattle.frame.proofs.FrameLoops.{store-next, store-none, tabulate-more, tabulate-same}
 use Rattle.hexline.specs.Body.{BodyAppended, byteAt, categoryByte, labelAt, labelBytes, labelSize, baseNumber, wordFrom}
@@ -92,26 +93,15 @@ label-put before out at w j l h e p =
     let q = appended-both (appended-byte before at (l .hierarchy) h) p in
     rw (sym e) q
 
--- ---- a label's bytes, copied out of a line's body
+-- ---- the label is the same where its bytes are
 
-copied-byte : (line : List ℕ) (at i : ℕ) → i < labelSize setWords → byteAt (bodyFrom line at (labelSize setWords)) i ≡ byteAt (bodyOf line) (at + i)
-unfolding bodyFrom
-copied-byte line at i h = tabulate-at (λ k. byteAt (bodyOf line) (at + k)) (labelSize setWords) i 0 h
-
--- the first is the hierarchy,
-pub copied-hierarchy : (line : List ℕ) (at : ℕ) → byteAt (bodyFrom line at (labelSize setWords)) 0 ≡ byteAt (bodyOf line) at
-copied-hierarchy line at = copied-byte line at 0 (omega arith) ∙ ap (byteAt (bodyOf line)) (add-zero at)
-
--- and the others are the words of the set
-pub copied-word : (line : List ℕ) (at w j : ℕ) → j < setWords → wordFrom w (bodyFrom line at (labelSize setWords)) 1 j ≡ wordFrom w (bodyOf line) (at + 1) j
-unfolding wordFrom
-copied-word line at w j h =
-    ap (λ (n : ℕ). cond (ltb j w) n 0)
-    (number-moved 256 (byteAt (bodyFrom line at (labelSize setWords))) (byteAt (bodyOf line)) (1 + 8 * j) (at + 1 + 8 * j) 8
-    (λ k l. copied-byte line at (1 + 8 * j + k) (omega arith) ∙ ap (byteAt (bodyOf line)) (omega arith)))
-
--- together they are the label
-pub copied-label : (line : List ℕ) (at w : ℕ) → labelAt w (bodyFrom line at (labelSize setWords)) 0 ≡ labelAt w (bodyOf line) at
-unfolding labelAt
-copied-label line at w =
-    ap₂ labelOf (copied-hierarchy line at) (tabulate-same _ _ setWords (λ j h. copied-word line at w j h))
+pub moved-label : (w : ℕ) (xs ys : List ℕ) (i j : ℕ) → ((k : ℕ) → k < labelSize w → byteAt xs (i + k) ≡ byteAt ys (j + k)) → labelAt w xs i ≡ labelAt w ys j
+unfolding labelAt wordFrom
+moved-label w xs ys i j h =
+    ap₂ labelOf (ap (byteAt xs) (sym (add-zero i)) ∙ h 0 (omega arith) ∙ ap (byteAt ys) (add-zero j)) (tabulate-same _ _ setWords (λ m l. word m (le-or-lt w m)))
+  where
+    word : (m : ℕ) → (w ≤ m) ⊎ (m < w) → cond (ltb m w) (baseNumber 256 (byteAt xs) (i + 1 + 8 * m) 8) 0 ≡ cond (ltb m w) (baseNumber 256 (byteAt ys) (j + 1 + 8 * m) 8) 0
+    word m (inl p) = rw (le-ltb m w p)
+    word m (inr p) =
+        ap (λ (n : ℕ). cond (ltb m w) n 0) (number-moved 256 (byteAt xs) (byteAt ys) (i + 1 + 8 * m) (j + 1 + 8 * m) 8
+        (λ k l. ap (byteAt xs) (omega arith) ∙ h (1 + 8 * m + k) (omega arith) ∙ ap (byteAt ys) (omega arith)))

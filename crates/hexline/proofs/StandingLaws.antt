@@ -43,7 +43,7 @@ span-at bs s k h = tabulate-at (λ k. byteAt bs (s .at + k)) (s .length) k 0 h
 
 -- ---- in any line, the texts of what stands there are the bytes at their spans
 
-text-stands : (most : ℕ) (bs : List ℕ) (s : Span) → take (s .length) (textFrom most bs (s .at) (s .length)) ≡ spanBytes bs (atMost most s)
+pub text-stands : (most : ℕ) (bs : List ℕ) (s : Span) → take (s .length) (textFrom most bs (s .at) (s .length)) ≡ spanBytes bs (atMost most s)
 unfolding textFrom
 text-stands most bs s = ext-getD 0 xs (spanBytes bs (atMost most s)) (size ∙ sym (span-length bs (atMost most s))) at-index
   where

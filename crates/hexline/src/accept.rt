@@ -1,4 +1,4 @@
-// Lines of alias entries judged by the bytes of their bodies: no entry is made, and its texts can be read where the body was put.
+// Bodies of alias entries judged by their bytes: no entry is made, and its texts can be read where they stand in the body.
 use crate::body::LABEL_BYTES;
 use crate::body::LINE_WORDS;
 use crate::body::byte;
@@ -7,7 +7,6 @@ use crate::entry::EntryAnswer;
 use crate::entry::Layout;
 use crate::entry::MAX_ABBREVIATION;
 use crate::entry::MAX_NAME;
-use crate::entry::Span;
 use crate::entry::entry_from;
 use crate::entry::is_letter;
 use crate::entry::is_name_byte;
@@ -22,21 +21,13 @@ ghost use lib.ListN.{length};
 ghost use Rattle.common.specs.Answer.{Answered};
 ghost use Rattle.common.specs.Index.{every};
 ghost use Rattle.label.specs.Words.{words as setWords};
-ghost use Rattle.hexline.specs.Accept.{judgedEntry, noEntry, textOk, valueByteOk};
-ghost use Rattle.hexline.specs.Body.{byteAt};
+ghost use Rattle.hexline.specs.Accept.{acceptedBody, textOk, valueByteOk};
+ghost use Rattle.hexline.specs.Body.{byteAt, lineWords};
 ghost use Rattle.hexline.specs.Entry.{isNameByte, layoutOf, validOf, zeroEntry};
 ghost use Rattle.hexline.specs.Line.{contentsOf, entryForm, entryIn};
 
 // The longest body of an entry: kind, class, label, and two lengths with their texts.
 pub const ENTRY_BODY: usize = 2 + LABEL_BYTES + (1 + MAX_NAME) + (1 + MAX_ABBREVIATION);
-
-// Whether a line is accepted; then its body, with zeros behind it, and where the texts of its entry stand there. Zeros where it is not.
-pub struct Judged {
-    pub accepted: bool,
-    pub name: Span,
-    pub abbreviation: Span,
-    pub body: [u8; ENTRY_BODY],
-}
 
 // Whether a body has the form of an alias entry's.
 fn formed(body: &[u8], p: Layout, kind: u8, words: usize) -> bool
@@ -79,7 +70,7 @@ fn text_ok(text: &[u8]) -> bool
 }
 
 // Whether a body is that of a valid alias entry: no entry is made.
-fn accepts(body: &[u8], kind: u8, words: usize) -> bool
+fn judge(body: &[u8], kind: u8, words: usize) -> bool
     requires { ⌜ words ≤ setWords ⌝ }
     ensures { λ r. ⌜ r ≡ (entryForm kind words (now (body .entry)) && validOf (entryIn words (now (body .entry)))) ⌝ }
 {
@@ -99,7 +90,7 @@ pub(crate) fn entry_of(body: &[u8], kind: u8, words: usize) -> EntryAnswer
     requires { ⌜ words ≤ setWords ⌝ }
     ensures { λ r. ⌜ Answered (r .outcome) (r .entry) zeroEntry (contentsOf (entryForm kind words) (entryIn words) validOf (now (body .entry))) ⌝ }
 {
-    if !accepts(body, kind, words) {
+    if !judge(body, kind, words) {
         return EntryAnswer {
             outcome: Outcome::Refused(Errno::Invalid),
             entry: entry::zero(),
@@ -111,33 +102,16 @@ pub(crate) fn entry_of(body: &[u8], kind: u8, words: usize) -> EntryAnswer
     }
 }
 
-fn refused() -> Judged
-    ensures { λ r. ⌜ r ≡ noEntry ⌝ }
+// Whether a body is that of an accepted line of kind 04.
+pub fn accepts(body: &[u8]) -> bool
+    ensures { λ r. ⌜ r ≡ acceptedBody (now (body .entry)) ⌝ }
 {
-    Judged {
-        accepted: false,
-        name: Span { at: 0, length: 0 },
-        abbreviation: Span { at: 0, length: 0 },
-        body: [0u8; ENTRY_BODY],
-    }
+    judge(body, 4, LINE_WORDS)
 }
 
-// What a line is judged to be: an accepted line of kind 04, or not.
-pub fn judge_entry(line: &[u8]) -> Judged
-    ensures { λ r. ⌜ r ≡ judgedEntry (now (line .entry)) ⌝ }
+// The class of the entry in any body, and where its texts stand.
+pub fn layout(body: &[u8]) -> Layout
+    ensures { λ r. ⌜ r ≡ layoutOf lineWords (now (body .entry)) 1 ⌝ }
 {
-    let mut body = [0u8; ENTRY_BODY];
-    let n = frame::decode(line, &mut body);
-    if !accepts(octets::front(&body, n), 4, LINE_WORDS) {
-        return refused();
-    }
-    let p = layout_in(octets::front(&body, n), LINE_WORDS);
-    let name = p.name;
-    let abbreviation = p.abbreviation;
-    Judged {
-        accepted: true,
-        name,
-        abbreviation,
-        body,
-    }
+    layout_in(body, LINE_WORDS)
 }

@@ -112,21 +112,11 @@ fn all_name_bytes(bytes: &[u8], n: usize) -> bool
     true
 }
 
-// The first byte, and 0 where there is none.
-fn first(bytes: &[u8]) -> u8
-    ensures { λ r. ⌜ r ≡ byteAt (now (bytes .entry)) 0 ⌝ }
-{
-    if 0 < bytes.len() {
-        return bytes[0];
-    }
-    0
-}
-
 // Whether the first n bytes are a name or nothing, and the rest are zeros, of which there is one at least.
 fn is_name(bytes: &[u8], n: usize) -> bool
     ensures { λ r. ⌜ r ≡ nameOf (now (bytes .entry)) n ⌝ }
 {
-    (n < bytes.len()) & ((n == 0) | is_letter(first(bytes))) & all_name_bytes(bytes, n)
+    (n < bytes.len()) & ((n == 0) | is_letter(byte(bytes, 0))) & all_name_bytes(bytes, n)
 }
 
 fn value_ok(v: Value, l: Label) -> bool
@@ -225,8 +215,8 @@ pub struct Span {
     pub length: usize,
 }
 
-// Where the parts of an entry stand in a line's body. A table can be walked by it without making entries.
-pub(crate) struct Layout {
+// The class of an entry, and where its texts stand in a line's body.
+pub struct Layout {
     pub class: u8,
     pub name: Span,
     pub abbreviation: Span,

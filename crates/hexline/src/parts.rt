@@ -1,5 +1,6 @@
 // The parts of the alias entry that stands in a line, read where they stand: for a table of lines that were tested, which is then walked without
 // making entries. These functions are total: in any bytes something stands.
+use crate::body::LABEL_BYTES;
 use crate::body::LINE_WORDS;
 use crate::body::label_at;
 use crate::entry::ABBREVIATION_BYTES;
@@ -10,16 +11,14 @@ use crate::entry::Value;
 use crate::entry::value_from;
 use crate::entry::value_size;
 use label::Label;
-use label::words::WORDS;
 ghost use mathlib.Core.Path.{_≡_};
 ghost use Prim.Native.Nat.{_+_, _<_, _≤_};
+ghost use lib.ListN.{length};
+ghost use Rattle.common.specs.Index.{tabulate};
 ghost use Rattle.frame.specs.Frame.{bodyOf};
 ghost use Rattle.hexline.specs.Body.{byteAt, lineWords};
 ghost use Rattle.hexline.specs.Entry.{abbreviationSize, atMost, layoutOf, nameSize, spanOf};
 ghost use Rattle.hexline.specs.Line.{abbreviationIn, nameIn, standingIn};
-
-// How many bytes a label takes with all words of its set.
-const LABEL_BYTES: usize = 1 + 8 * WORDS;
 
 // Where the texts of an entry stand in its line's body.
 pub struct TextSpans {
@@ -77,37 +76,41 @@ pub fn value(line: &[u8]) -> Value
     value_from(frame::byte(line, 1), frame::byte(line, 2))
 }
 
+// Bytes of a line's body from index at on, in all of out.
+fn bytes_from(line: &[u8], at: usize, out: &mut [u8])
+    requires { ⌜ at + length (now out) < 1024 ⌝ }
+    ensures { λ _. ⌜ now (out .exit) ≡ tabulate (λ k. byteAt (bodyOf (now (line .entry))) (at + k)) (length (now (out .entry))) ⌝ }
+{
+    let mut k = 0;
+    while k < out.len() {
+        out[k] = frame::byte(line, at + k);
+        k += 1;
+    }
+}
+
+// The hierarchy of that label.
+pub fn hierarchy(line: &[u8]) -> u64
+    ensures { λ r. ⌜ r ≡ standingIn (now (line .entry)) .label .hierarchy ⌝ }
+{
+    if frame::byte(line, 1) == 3 {
+        return frame::byte(line, 2) as u64;
+    }
+    0
+}
+
 // The label of the entry, zeros where its class has none.
 pub fn label(line: &[u8]) -> Label
     ensures { λ r. ⌜ r ≡ standingIn (now (line .entry)) .label ⌝ }
 {
     if frame::byte(line, 1) == 3 {
         let mut bytes = [0u8; LABEL_BYTES];
-        frame::copy(line, 2, &mut bytes);
+        bytes_from(line, 2, &mut bytes);
         return label_at(&bytes, 0, LINE_WORDS);
     }
     label::zero()
 }
 
-// Where the name stands in the line's body. The second clause follows, and is stated for callers.
-pub fn name(line: &[u8]) -> Span
-    ensures { λ r. ⌜ r ≡ nameIn (now (line .entry)) ⌝ }
-    ensures { λ r. ⌜ r .at + r .length < 1024 ⌝ }
-{
-    let p = layout_at(line);
-    at_most(NAME_BYTES, p.name)
-}
-
-// Where the abbreviation stands in the line's body.
-pub fn abbreviation(line: &[u8]) -> Span
-    ensures { λ r. ⌜ r ≡ abbreviationIn (now (line .entry)) ⌝ }
-    ensures { λ r. ⌜ r .at + r .length < 1024 ⌝ }
-{
-    let p = layout_at(line);
-    at_most(ABBREVIATION_BYTES, p.abbreviation)
-}
-
-// Both at once.
+// Where the texts of the entry stand in the line's body. The second clause follows, and is stated for callers.
 pub fn texts(line: &[u8]) -> TextSpans
     ensures { λ r. ⌜ (r .name ≡ nameIn (now (line .entry))) × (r .abbreviation ≡ abbreviationIn (now (line .entry))) ⌝ }
     ensures { λ r. ⌜ (r .name .at + r .name .length < 1024) × (r .name .length ≤ nameSize) × (r .abbreviation .at + r .abbreviation .length < 1024) × (r .abbreviation .length ≤ abbreviationSize) ⌝ }

@@ -4,7 +4,7 @@ use mathlib.Core.Bool.{Bool, true, false, cond, _&&_, and-assoc, and-true}
 use mathlib.Core.List.{List, [], _∷_, _++_, append-assoc, append-nil}
 use mathlib.Core.Option.{none, some}
 use mathlib.Core.Path.{_≡_, refl, sym, ap, _∙_}
-use Prim.Native.Nat.{ℕ, suc, _+_, _*_, _≤_}
+use Prim.Native.Nat.{ℕ, suc, _+_, _*_, _-_, _≤_, _<_}
 use native.Mathlib.Omega.{arith}
 use lib.Dec.{leb}
 use lib.ListN.{length, length-append}
@@ -99,17 +99,26 @@ module _ {isNamed : Bool} {text : List ℕ} {most : ℕ} where
 
 -- ---- the name for a value, by the line that the last entry for it stands in
 
-module _ (bytes starts : List ℕ) (v : Variant) (value : Value) (l : Label) where
-  module _ {k : ℕ} {line : List ℕ} (e : lastEntryFor (entriesBy bytes starts) value l ≡ some k) (f : line ≡ lineAt (linesBy bytes starts) k) where
-    pub name-found : nameFor (entriesBy bytes starts) v value l ≡ spanBytes (bodyOf line) (writtenIn v line)
-    unfolding nameFor lastEntryFor
-    name-found =
-        let n = entries-length bytes starts in
-        let u = last-holds (λ j. standsFor value l (entryAt (entriesBy bytes starts) j)) (length (entriesBy bytes starts)) k e .0 in
-        rw (e, entries-at bytes starts k (omega arith), ← f) (written-stands v line)
+-- the name that is written of entry k
+pub entry-written : (bytes starts : List ℕ) (v : Variant) {k : ℕ} {line : List ℕ} → k < length starts - 1 → line ≡ lineAt (linesBy bytes starts) k
+    → writtenName v (entryAt (entriesBy bytes starts) k) ≡ spanBytes (bodyOf line) (writtenIn v line)
+entry-written bytes starts v {k} {line} h f = rw (entries-at bytes starts k h, ← f) (written-stands v line)
 
-    pub name-length : length (nameFor (entriesBy bytes starts) v value l) ≡ writtenIn v line .length
-    name-length = rw name-found (span-length (bodyOf line) (writtenIn v line))
+module _ (bytes starts : List ℕ) (v : Variant) (value : Value) (l : Label) where
+  module _ {k : ℕ} (e : lastEntryFor (entriesBy bytes starts) value l ≡ some k) where
+    pub found-below : k < length starts - 1
+    unfolding lastEntryFor
+    found-below =
+        let n = entries-length bytes starts in
+        let u = last-holds (λ j. standsFor value l (entryAt (entriesBy bytes starts) j)) (length (entriesBy bytes starts)) k e .0 in omega arith
+
+    pub name-found : nameFor (entriesBy bytes starts) v value l ≡ writtenName v (entryAt (entriesBy bytes starts) k)
+    unfolding nameFor
+    name-found = rw e
+
+  module _ {k : ℕ} {line : List ℕ} (e : lastEntryFor (entriesBy bytes starts) value l ≡ some k) (f : line ≡ lineAt (linesBy bytes starts) k) where
+    name-length : length (nameFor (entriesBy bytes starts) v value l) ≡ writtenIn v line .length
+    name-length = rw (name-found e, entry-written bytes starts v (found-below e) f) (span-length (bodyOf line) (writtenIn v line))
 
     pub name-counted : {s : Span} → s ≡ writtenIn v line
         → MeasuredText (named (entriesBy bytes starts) value l) (nameFor (entriesBy bytes starts) v value l) nameSize (Bytes (s .length))

@@ -7,14 +7,14 @@ use hexline::entry::Value;
 use hexline::parts;
 use label::Label;
 ghost use mathlib.Core.Path.{_≡_};
-ghost use Prim.Native.Nat.{_+_, _<_, _≤_};
+ghost use Prim.Native.Nat.{_+_, _-_, _<_, _≤_};
 ghost use lib.ListN.{length};
 ghost use Rattle.frame.specs.Frame.{bodyOf};
 ghost use Rattle.hexline.specs.Entry.{nameSize, spanBytes};
 ghost use Rattle.octets.specs.Internal.Put.{Put};
-ghost use Rattle.alias.specs.Lines.{entriesBy};
+ghost use Rattle.alias.specs.Lines.{entriesBy, entryAt};
 ghost use Rattle.text.specs.Internal.Measure.{MeasuredText, writtenIn};
-ghost use Rattle.text.specs.Write.{nameFor, named};
+ghost use Rattle.text.specs.Write.{nameFor, named, writtenName};
 
 // How many bytes a text has, or that a name is missing.
 pub(crate) enum Measure {
@@ -27,15 +27,15 @@ fn written_in(line: &[u8], v: Variant) -> Span
     ensures { λ r. ⌜ r ≡ writtenIn v (now (line .entry)) ⌝ }
     ensures { λ r. ⌜ (r .at + r .length < 1024) × (r .length ≤ nameSize) ⌝ }
 {
-    let name = parts::name(line);
+    let t = parts::texts(line);
+    let abbreviation = t.abbreviation;
     match v {
-        Variant::Names => name,
+        Variant::Names => t.name,
         Variant::Abbreviations => {
-            let abbreviation = parts::abbreviation(line);
             if 1 <= abbreviation.length {
                 return abbreviation;
             }
-            name
+            t.name
         }
     }
 }
@@ -45,8 +45,12 @@ fn put_span(out: &mut [u8], at: usize, line: &[u8], s: Span) -> usize
     requires { ⌜ (s .at + s .length < 1024) × (at + s .length ≤ length (now out)) ⌝ }
     ensures { λ r. ⌜ Put (now (out .entry)) at (spanBytes (bodyOf (now (line .entry))) s) r (now (out .exit)) ⌝ }
 {
-    frame::copy(line, s.at, &mut out[at..at + s.length]);
-    at + s.length
+    let mut i = 0;
+    while i < s.length {
+        out[at + i] = frame::byte(line, s.at + i);
+        i += 1;
+    }
+    at + i
 }
 
 // How long the name for a value is.
@@ -69,6 +73,22 @@ pub(crate) fn measure_name(
     }
 }
 
+// Puts the name of entry k in out at index at, and answers the index past it.
+pub(crate) fn put_found(
+    table: &[u8],
+    starts: &[usize],
+    v: Variant,
+    k: usize,
+    out: &mut [u8],
+    at: usize,
+) -> usize
+    requires { ⌜ (k < length (now starts) - 1) × (at + length (writtenName v (entryAt (entriesBy (now table) (now starts)) k)) ≤ length (now out)) ⌝ }
+    ensures { λ r. ⌜ Put (now (out .entry)) at (writtenName v (entryAt (entriesBy (now (table .entry)) (now (starts .entry))) k)) r (now (out .exit)) ⌝ }
+{
+    let line = lookup::line(table, starts, k);
+    put_span(out, at, line, written_in(line, v))
+}
+
 // Puts the name for a value in out at index at, nothing where there is none, and answers the index past it.
 pub(crate) fn put_name(
     table: &[u8],
@@ -84,10 +104,7 @@ pub(crate) fn put_name(
 {
     let found = lookup::last(table, starts, value, l);
     match found {
-        FoundEntry::At(k) => {
-            let line = lookup::line(table, starts, k);
-            put_span(out, at, line, written_in(line, v))
-        }
+        FoundEntry::At(k) => put_found(table, starts, v, k, out, at),
         FoundEntry::Nothing => at,
     }
 }

@@ -5,6 +5,7 @@ use crate::Style;
 use crate::Variant;
 use crate::name::Measure;
 use crate::name::measure_name;
+use crate::name::put_found;
 use crate::name::put_name;
 use crate::tested::sees;
 use alias::lookup;
@@ -211,15 +212,7 @@ fn put_label(
         Form::Alias => {
             let alias = lookup::last(table, starts, Value::WholeLabel, l);
             match alias {
-                alias::FoundEntry::At(_) => put_name(
-                    table,
-                    starts,
-                    v,
-                    Value::WholeLabel,
-                    l,
-                    out,
-                    at,
-                ),
+                alias::FoundEntry::At(k) => put_found(table, starts, v, k, out, at),
                 alias::FoundEntry::Nothing => put_definition(table, starts, v, l, out, at),
             }
         }

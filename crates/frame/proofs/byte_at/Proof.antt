@@ -1,19 +1,21 @@
 use borrow.Author.Needs.{needs}
-use mathlib.Core.Path.{sym, ap, ap₂, _∙_}
-use Prim.Native.Nat.{ℕ, _+_, _*_}
-use Rattle.frame.specs.Frame.{digitValue}
-use Rattle.frame.proofs.FrameLaws.{bytes-at}
+use Prim.Native.Nat.{_/_, _%_}
+use native.Mathlib.Omega.{arith}
+use Rattle.frame.proofs.FrameLaws.{value-small}
+use Rattle.frame.proofs.FrameLoops.{pair-byte}
 use Rattle.frame.proofs.byte_at.Statement.{statement}
 use Rattle.frame.proofs.byte_at.Tie as tie
 
+cast-result : tie.Need-cast-result
+cast-result c =
+    let p = c .before .pair .result in
+    record { fits = omega (arith, c .pair-value .ensures, value-small (p % 256), value-small (p / 256)) }
+
 returns : tie.Need-returns
 returns c =
-    let p = c .before .before in
-    let e = p .pair .ensures in
-    let a = c .before .digit-value .ensures .0 ∙ ap digitValue (e .0) in
-    let b = c .digit-value2 .ensures .0 ∙ ap digitValue (e .1) in
-    ap₂ (λ (x y : ℕ). x * 16 + y) a b ∙ sym (bytes-at _ _ (p .before .before .pre))
+    let p = c .before in
+    let s = p .before .before in
+    pair-byte (s .args .line .now) (s .args .i) (p .pair .result) (s .pre) (p .pair .ensures .0) (p .pair .ensures .1) (c .pair-value .ensures)
 
 pub byte-at-spec : {M : Type 1} → statement M
-byte-at-spec =
-    tie.close (tie.spec (search needs) (search needs) (search needs) (search needs) (search needs) (search needs) (search needs) returns)
+byte-at-spec = tie.close (tie.spec (search needs) (search needs) cast-result returns)

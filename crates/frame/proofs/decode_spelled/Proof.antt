@@ -20,11 +20,11 @@ filled f e =
     let b = e ∙ body-taken line (length (s .args .out .now)) (s .pre .1) in
     (b, omega (arith, ap length b, body-length line, s .pre .1))
 
-spelled-byte-requires : tie.Need-spelled-byte-requires
-spelled-byte-requires c κs =
+byte-at-requires : tie.Need-byte-at-requires
+byte-at-requires c κs =
     let f = c .before .before .before in
     let s = f .before .before .before .before in
-    (s .pre .0, omega (arith, s .pre .1, filled f (f .fill .ensures) .1))
+    omega (arith, s .pre .1, filled f (f .fill .ensures) .1)
 
 same-length : tie.Need-same-length
 same-length c = let f = c .before .before .before .before .before in filled f (f .fill .ensures) .1
@@ -36,10 +36,10 @@ returns c =
     let s = f .before .before .before .before in
     let line = s .args .line .now in
     let e = filled f (f .fill .ensures) in (
-      c .sums-up .ensures ∙ ap₂ (λ (l : List ℕ) (x : ℕ). eqb ((sumOf l + x) % 256) 0) (e .0) (b .spelled-byte .ensures ∙ ap (λ (n : ℕ). getD (bytesOf line) n 0) (e .1))
+      c .sums-up .ensures ∙ ap₂ (λ (l : List ℕ) (x : ℕ). eqb ((sumOf l + x) % 256) 0) (e .0) (b .byte-at .ensures ∙ ap (λ (n : ℕ). getD (bytesOf line) n 0) (e .1))
           ∙ framed-by line (length (s .args .out .now)) (s .pre .1) (s .pre .0),
       e .0,
     )
 
 pub decode-spelled-spec : {M : Type 1} → statement M
-decode-spelled-spec = tie.close (tie.spec (λ c κs. search needs) spelled-byte-requires (search needs) same-length returns)
+decode-spelled-spec = tie.close (tie.spec (λ c κs. search needs) byte-at-requires (search needs) same-length returns)

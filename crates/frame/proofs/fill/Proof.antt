@@ -19,12 +19,12 @@ abbrev μ-loop : tie.MeasureT-loop
 loop-holds : tie.Need-loop-holds Inv-loop μ-loop
 loop-holds c = let e = c .before .before .fill-blocks .ensures in (omega (arith, e .0 .0, e .1), e .0 .1, refl)
 
-spelled-byte-requires : tie.Need-spelled-byte-requires Inv-loop μ-loop
-spelled-byte-requires c κs =
+byte-at-requires : tie.Need-byte-at-requires Inv-loop μ-loop
+byte-at-requires c κs =
     let h = c .before in
     let b = h .before .before .before in
     let p = b .before .before .before .before .pre in
-    (p .0, omega (arith, p .1, b .fill-blocks .ensures .1, h .loop .inv .2))
+    omega (arith, p, b .fill-blocks .ensures .1, h .loop .inv .2)
 
 loop-again : tie.Need-loop-again Inv-loop μ-loop
 loop-again c =
@@ -34,7 +34,7 @@ loop-again c =
     let line = s .args .line .now in
     let n = h .loop .inv .2 in (
       omega arith,
-      front-next (bytesOf line) (h .loop .out) (h .loop .i) _ (omega (arith, bytes-length line, s .pre .1, b .fill-blocks .ensures .1)) (omega arith) (h .loop .inv .1) (c .spelled-byte .ensures),
+      front-next (bytesOf line) (h .loop .out) (h .loop .i) _ (omega (arith, bytes-length line, s .pre, b .fill-blocks .ensures .1)) (omega arith) (h .loop .inv .1) (c .byte-at .ensures),
       length-set (h .loop .out) _ _ ∙ n,
     )
 
@@ -51,4 +51,4 @@ returns c =
     sym (take-all (h .loop .i) (h .loop .out) (omega arith)) ∙ h .loop .inv .1 ∙ ap (λ (k : ℕ). take k (bytesOf (s .args .line .now))) e
 
 pub fill-spec : {M : Type 1} → statement M
-fill-spec = tie.close (tie.spec Inv-loop μ-loop (λ c κs. search needs) loop-holds spelled-byte-requires (search needs) (search needs) (search needs) loop-again same-length returns)
+fill-spec = tie.close (tie.spec Inv-loop μ-loop (λ c κs. search needs) loop-holds byte-at-requires (search needs) (search needs) (search needs) loop-again same-length returns)

@@ -18,14 +18,14 @@ Inv-loop line out₀ i block k₀ out k = (k ≤ 16) × (take (i + k) out ≡ ta
 abbrev μ-loop : tie.MeasureT-loop
 μ-loop line out₀ i block k₀ out k = 16 - k
 
-spelled-block-requires : tie.Need-spelled-block-requires Inv-loop μ-loop
-spelled-block-requires c κs = let p = c .before .before .before .pre in (p .0, omega (arith, p .1, p .2))
+bytes-from-requires : tie.Need-bytes-from-requires Inv-loop μ-loop
+bytes-from-requires c κs = omega (arith, c .before .before .before .pre .0, c .before .before .before .pre .1)
 
 loop-holds : tie.Need-loop-holds Inv-loop μ-loop
-loop-holds c = let s = c .before .before .before .before .before in (search needs, rw (add-zero (s .args .i)) (s .pre .3), refl)
+loop-holds c = let s = c .before .before .before .before .before in (search needs, rw (add-zero (s .args .i)) (s .pre .2), refl)
 
 slice-write-out : tie.Need-slice-write-out Inv-loop μ-loop
-slice-write-out c = let h = c .before in let n = h .loop .inv .2 in let p = h .before .before .before .before .before .before .pre in omega (arith, p .2)
+slice-write-out c = let h = c .before in let n = h .loop .inv .2 in let p = h .before .before .before .before .before .before .pre in omega (arith, p .1)
 
 loop-again : tie.Need-loop-again Inv-loop μ-loop
 loop-again c =
@@ -39,9 +39,9 @@ loop-again c =
     let k = h .loop .k in
     let l = bytes-length line in
     let e : i + (k + 1) ≡ i + k + 1 = omega arith in
-    let v = ap (λ (bs : List ℕ). getD bs k 0) (b .spelled-block .ensures) ∙ tabulate-at (λ j. getD (bytesOf line) (i + j) 0) 16 k 0 (c .loop-test .taken) in (
+    let v = ap (λ (bs : List ℕ). getD bs k 0) (b .bytes-from .ensures) ∙ tabulate-at (λ j. getD (bytesOf line) (i + j) 0) 16 k 0 (c .loop-test .taken) in (
       search needs,
-      rw e (front-next (bytesOf line) (h .loop .out) (i + k) _ (omega (arith, p .1, p .2)) (omega (arith, p .2)) (h .loop .inv .1) v),
+      rw e (front-next (bytesOf line) (h .loop .out) (i + k) _ (omega (arith, p .0, p .1)) (omega (arith, p .1)) (h .loop .inv .1) v),
       length-set (h .loop .out) _ _ ∙ n,
     )
 
@@ -55,4 +55,4 @@ returns c =
     (rw e at (h .loop .inv .1), h .loop .inv .2)
 
 pub fill-block-spec : {M : Type 1} → statement M
-fill-block-spec = tie.close (tie.spec Inv-loop μ-loop (search needs) spelled-block-requires loop-holds (search needs) (search needs) slice-write-out (search needs) (search needs) loop-again same-length returns)
+fill-block-spec = tie.close (tie.spec Inv-loop μ-loop (search needs) bytes-from-requires loop-holds (search needs) (search needs) slice-write-out (search needs) (search needs) loop-again same-length returns)

@@ -21,7 +21,7 @@ fill-block-requires c κs =
     let h = c .before .before in
     let n = h .loop .inv .2 in
     let p = h .before .before .before .pre in
-    (p .0, omega (arith, p .1), omega arith, h .loop .inv .1)
+    (omega (arith, p), omega arith, h .loop .inv .1)
 
 loop-less : tie.Need-loop-less Inv-loop μ-loop
 loop-less c = let h = c .before .before .before .before .before in let n = h .loop .inv .2 in omega arith

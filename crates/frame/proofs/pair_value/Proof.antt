@@ -1,11 +1,12 @@
 use borrow.Author.Needs.{needs}
-use native.Mathlib.Omega.{arith}
-use Rattle.frame.proofs.FrameLaws.{value-by}
+use mathlib.Core.Path.{refl}
+use Rattle.frame.specs.Frame.{digitValue}
 use Rattle.frame.proofs.pair_value.Statement.{statement}
 use Rattle.frame.proofs.pair_value.Tie as tie
 
 returns : tie.Need-returns
-returns c = let a = value-by _ (c .pre .0) in let b = value-by _ (c .pre .1) in omega arith
+unfolding digitValue
+returns c = refl
 
 pub pair-value-spec : {M : Type 1} → statement M
 pair-value-spec =

@@ -1,9 +1,6 @@
 use borrow.Author.Needs.{needs}
-use mathlib.Core.List.{List}
-use mathlib.Core.Path.{_≡_, ap, _∙_}
 use Prim.Native.Nat.{_+_}
 use native.Mathlib.Omega.{arith}
-use lib.ListN.{replicate, take}
 use Rattle.hexline.specs.Entry.{entrySize, validOf}
 use Rattle.frame.proofs.FrameLoops.{decoded-front}
 use Rattle.hexline.specs.Body.{lineWords}
@@ -19,7 +16,7 @@ returns c =
     let d = f .before .before .before in
     let line = d .before .before .before .args .line .now in
     line-read (entryForm 4 lineWords) (entryIn lineWords) validOf line (1 + entrySize lineWords) _
-    (f .front .ensures ∙ ap (take (d .decode .result)) (d .decode .ensures .1) ∙ decoded-front line (replicate (1 + entrySize lineWords) 0) (d .decode .result) (d .decode .ensures .0))
+    (decoded-front line _ (d .decode .ensures .0) (d .decode .ensures .1) (f .front .ensures))
     (no-entry 4 lineWords) (form-room 4 lineWords) (c .entry-of .ensures)
 
 pub read-entry-spec : {M : Type 1} → statement M

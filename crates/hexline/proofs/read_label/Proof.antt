@@ -1,9 +1,6 @@
 use borrow.Author.Needs.{needs}
-use mathlib.Core.List.{List}
-use mathlib.Core.Path.{_≡_, ap, _∙_}
 use Prim.Native.Nat.{_+_}
 use native.Mathlib.Omega.{arith}
-use lib.ListN.{replicate, take}
 use Rattle.label.specs.Label.{validOf}
 use Rattle.frame.proofs.FrameLoops.{decoded-front}
 use Rattle.hexline.specs.Body.{labelSize, lineWords}
@@ -19,7 +16,7 @@ returns c =
     let d = f .before .before .before in
     let line = d .before .before .before .args .line .now in
     line-read (labelForm 1 lineWords) (labelInBody lineWords) validOf line (1 + labelSize lineWords) _
-    (f .front .ensures ∙ ap (take (d .decode .result)) (d .decode .ensures .1) ∙ decoded-front line (replicate (1 + labelSize lineWords) 0) (d .decode .result) (d .decode .ensures .0))
+    (decoded-front line _ (d .decode .ensures .0) (d .decode .ensures .1) (f .front .ensures))
     (form-empty (labelSize lineWords) 1) (λ bs e. omega (arith, form-length bs (1 + labelSize lineWords) 1 e)) (c .label-of .ensures)
 
 pub read-label-spec : {M : Type 1} → statement M

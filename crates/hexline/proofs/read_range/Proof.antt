@@ -1,9 +1,6 @@
 use borrow.Author.Needs.{needs}
-use mathlib.Core.List.{List}
-use mathlib.Core.Path.{_≡_, ap, _∙_}
 use Prim.Native.Nat.{_+_}
 use native.Mathlib.Omega.{arith}
-use lib.ListN.{replicate, take}
 use Rattle.range.specs.Range.{validOf}
 use Rattle.frame.proofs.FrameLoops.{decoded-front}
 use Rattle.hexline.specs.Body.{rangeSize, lineWords}
@@ -19,7 +16,7 @@ returns c =
     let d = f .before .before .before in
     let line = d .before .before .before .args .line .now in
     line-read (rangeForm 2 lineWords) (rangeIn lineWords) validOf line (1 + rangeSize lineWords) _
-    (f .front .ensures ∙ ap (take (d .decode .result)) (d .decode .ensures .1) ∙ decoded-front line (replicate (1 + rangeSize lineWords) 0) (d .decode .result) (d .decode .ensures .0))
+    (decoded-front line _ (d .decode .ensures .0) (d .decode .ensures .1) (f .front .ensures))
     (form-empty (rangeSize lineWords) 2) (λ bs e. omega (arith, form-length bs (1 + rangeSize lineWords) 2 e)) (c .range-of .ensures)
 
 pub read-range-spec : {M : Type 1} → statement M

@@ -1,7 +1,4 @@
 use borrow.Author.Needs.{needs}
-use mathlib.Core.List.{List}
-use mathlib.Core.Path.{_≡_, ap, _∙_}
-use lib.ListN.{replicate, take}
 use Rattle.range.specs.Tuple.{validOf}
 use Rattle.frame.proofs.FrameLoops.{decoded-front}
 use Rattle.hexline.specs.Body.{lineWords}
@@ -16,7 +13,7 @@ returns c =
     let d = f .before .before .before in
     let line = d .before .before .before .args .line .now in
     line-read (tupleForm 3 lineWords) (tupleIn lineWords) validOf line (longestBody lineWords) _
-    (f .front .ensures ∙ ap (take (d .decode .result)) (d .decode .ensures .1) ∙ decoded-front line (replicate (longestBody lineWords) 0) (d .decode .result) (d .decode .ensures .0))
+    (decoded-front line _ (d .decode .ensures .0) (d .decode .ensures .1) (f .front .ensures))
     no-tuple tuple-room (c .tuple-of .ensures)
 
 pub read-tuple-spec : {M : Type 1} → statement M

@@ -10,9 +10,10 @@ use Rattle.alias.proofs.names.called_as.Tie as tie
 returns : tie.Need-returns
 unfolding calledOf
 returns c =
-    let d = c .before .before .before in
-    let a = d .before .before .before .before .args in
-    named-by (λ xs. sameBytes xs (spanBytes (bodyOf (a .b .now)) (a .t))) (a .a .now) (d .name .ensures .0) (d .before .abbreviation .ensures .0) (c .before .before .alike .ensures) (c .alike2 .ensures)
+    let s = c .before .before in
+    let t = s .before .before in
+    let a = t .before .before .before .args in
+    named-by (λ xs. sameBytes xs (spanBytes (bodyOf (a .b .now)) (a .t))) (a .a .now) (t .texts .ensures .0 .0) (t .texts .ensures .0 .1) (s .alike .ensures) (c .alike2 .ensures)
 
 pub called-as-spec : {M : Type 1} → statement M
-called-as-spec = tie.close (tie.spec (search needs) (search needs) (search needs) (search needs) returns)
+called-as-spec = tie.close (tie.spec (search needs) (search needs) (search needs) returns)

@@ -32,7 +32,7 @@ returns-4 c =
 returns-5 : tie.Need-returns-5
 unfolding standsFor sameValue
 returns-5 c =
-    rw (← c .before .before .before .before .before .before .value .ensures, c .before .before .before .before .enum-told .given .1, c .before .before .enum-told2 .given .1, c .same-label .ensures, c .before .label .ensures)
+    rw (← c .before .before .before .before .before .value .ensures, c .before .before .before .enum-told .given .1, c .before .enum-told2 .given .1, c .has-label .ensures)
 
 returns-6 : tie.Need-returns-6
 unfolding standsFor
@@ -43,4 +43,4 @@ returns-6 c =
 pub stands-for-spec : {M : Type 1} → statement M
 stands-for-spec =
     tie.close (tie.spec (search needs) (search needs) (search needs) (search needs) (search needs) (search needs) (search needs)
-    (search needs) (search needs) returns returns-2 returns-3 returns-4 returns-5 returns-6)
+    (search needs) returns returns-2 returns-3 returns-4 returns-5 returns-6)

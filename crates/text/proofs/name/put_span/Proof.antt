@@ -1,43 +1,51 @@
 use borrow.Author.Needs.{needs}
-use mathlib.Core.List.{List, _++_, append-assoc}
-use mathlib.Core.Path.{_≡_, sym, ap, _∙_}
+use mathlib.Core.List.{List}
+use mathlib.Core.Path.{_≡_, refl, sym, ap, _∙_}
 use Prim.Native.Nat.{ℕ, _+_, _-_, _≤_}
+use native.Mathlib.Numerals.{add-one}
 use native.Mathlib.Omega.{arith}
-use lib.ListN.{drop, length, take, length-drop}
-use lib.Seq.{length-take-le}
-use borrow.Rule.Slice.PartMut.{midOf, post-is, postOf, putMid}
-use Rattle.frame.specs.Frame.{bodyFrom, bodyOf}
+use lib.ListN.{length, set, length-set}
+use lib.Seq.{paste, paste-suc, paste-zero}
+use Rattle.frame.specs.Frame.{bodyOf}
 use Rattle.hexline.specs.Entry.{spanBytes}
-use Rattle.hexline.specs.declared.entry.Span.{Span}
-use Rattle.hexline.proofs.StandingLaws.{span-length}
-use Rattle.octets.specs.Bytes.{putAt}
+use Rattle.hexline.proofs.StandingLaws.{span-at, span-length}
+use Rattle.octets.proofs.ByteLaws.{put-all}
 use Rattle.text.proofs.name.put_span.Statement.{statement}
 use Rattle.text.proofs.name.put_span.Tie as tie
 
--- a part of a buffer that the bytes at a span were copied to
-span-put : (line out copied : List ℕ) (at : ℕ) (s : Span) → at + s .length ≤ length out → copied ≡ bodyFrom line (s .at) (length (midOf at (at + s .length - at) out))
-    → putMid at (at + s .length - at) out copied ≡ putAt out at (spanBytes (bodyOf line) s)
-unfolding bodyFrom spanBytes putAt
-span-put line out copied at s h e =
-    let n = s .length in
-    let bs = spanBytes (bodyOf line) s in
-    let d = length-drop at out in
-    let m : length (midOf at (at + n - at) out) ≡ n = length-take-le (at + n - at) (drop at out) (omega arith) ∙ omega arith in
-    let l : at + n ≡ at + length bs = ap (λ (k : ℕ). at + k) (sym (span-length (bodyOf line) s)) in
-    ap (λ (t : List ℕ). take at out ++ (t ++ postOf at (at + n - at) out)) (e ∙ ap (bodyFrom line (s .at)) m)
-    ∙ ap (λ (t : List ℕ). take at out ++ (bs ++ t)) (post-is at (at + n) out (omega arith) ∙ ap (λ (k : ℕ). drop k out) l)
-    ∙ sym (append-assoc (take at out) bs (drop (at + length bs) out))
+abbrev Inv-loop : tie.InvT-loop
+Inv-loop out₀ at line s i₀ out i = (i ≤ s .length) × (length out ≡ length out₀) × (out ≡ paste out₀ at (spanBytes (bodyOf line) s) i)
 
-returns : tie.Need-returns
-returns c =
-    let p = c .before .before .before in
-    let start = p .before .before .before .before .before in
+abbrev μ-loop : tie.MeasureT-loop
+μ-loop out₀ at line s i₀ out i = s .length - i
+
+loop-holds : tie.Need-loop-holds Inv-loop μ-loop
+loop-holds c = let a = c .before .before .args in (search needs, refl, paste-zero (a .out .now) (a .at) (spanBytes (bodyOf (a .line .now)) (a .s)))
+
+loop-again : tie.Need-loop-again Inv-loop μ-loop
+loop-again c =
+    let h = c .before .before .before .before in
+    let start = h .before .before .before in
     let a = start .args in
-    record {
-      past = ap (λ (k : ℕ). a .at + k) (sym (span-length (bodyOf (a .line .now)) (a .s)));
-      written = span-put (a .line .now) (a .out .now) _ (a .at) (a .s) (start .pre .1) (p .copy .ensures);
-    }
+    let i = h .loop .i in
+    let bs = spanBytes (bodyOf (a .line .now)) (a .s) in
+    let n = span-length (bodyOf (a .line .now)) (a .s) in
+    let v = c .byte .ensures ∙ sym (span-at (bodyOf (a .line .now)) (a .s) i (omega arith)) in (
+      search needs,
+      length-set (h .loop .out) (a .at + i) _ ∙ h .loop .inv .1,
+      ap (λ (b : ℕ). set (h .loop .out) (a .at + i) b) v
+          ∙ (rw (h .loop .inv .2, add-one) (paste-suc (a .out .now) (a .at) bs i 0 (omega arith) (omega (arith, start .pre .1)))),
+    )
+
+returns : tie.Need-returns Inv-loop μ-loop
+returns c =
+    let h = c .before .before in
+    let a = h .before .before .before .args in
+    let bs = spanBytes (bodyOf (a .line .now)) (a .s) in
+    let e : h .loop .i ≡ length bs = omega (arith, span-length (bodyOf (a .line .now)) (a .s)) in
+    record { past = ap (λ (k : ℕ). a .at + k) e; written = rw (h .loop .inv .2, e) (put-all (a .out .now) (a .at) bs) }
 
 pub put-span-spec : {M : Type 1} → statement M
 put-span-spec =
-    tie.close (tie.spec (search needs) (search needs) (search needs) (search needs) (search needs) (search needs) (search needs) returns)
+    tie.close (tie.spec Inv-loop μ-loop loop-holds (search needs) (search needs) (search needs) (search needs) (search needs) (search needs) loop-again
+    (search needs) (search needs) returns)

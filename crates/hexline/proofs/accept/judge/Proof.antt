@@ -3,8 +3,8 @@ use Prim.Native.Nat.{_<_}
 use Rattle.common.proofs.BoolLaws.{told-false, told-true}
 use Rattle.hexline.specs.Body.{byteAt}
 use Rattle.hexline.proofs.AcceptLaws.{body-judged}
-use Rattle.hexline.proofs.accept.accepts.Statement.{statement}
-use Rattle.hexline.proofs.accept.accepts.Tie as tie
+use Rattle.hexline.proofs.accept.judge.Statement.{statement}
+use Rattle.hexline.proofs.accept.judge.Tie as tie
 
 formed-requires : tie.Need-formed-requires
 formed-requires c κs = (c .layout-in .ensures .0, search needs)
@@ -39,7 +39,7 @@ returns-2 c =
       l .layout-in .ensures .0,
     )
 
-pub accepts-spec : {M : Type 1} → statement M
-accepts-spec =
+pub judge-spec : {M : Type 1} → statement M
+judge-spec =
     tie.close (tie.spec (λ c κs. search needs) formed-requires returns (search needs) (search needs) (search needs) (search needs) (search needs) (search needs)
     (search needs) returns-2)
