@@ -3,6 +3,7 @@
 use crate::body::byte;
 use crate::body::label_at;
 use crate::body::put_label;
+use crate::tested::is_zero;
 use common::answer::Outcome;
 use label::Label;
 use label::MAX_HIERARCHY;
@@ -123,8 +124,8 @@ fn value_ok(v: Value, l: Label) -> bool
     ensures { λ r. ⌜ r ≡ valueOk v l ⌝ }
 {
     match v {
-        Value::Hierarchy(h) => (h <= MAX_HIERARCHY) & label::is_zero(l),
-        Value::Category(c) => (c < 256) & label::is_zero(l),
+        Value::Hierarchy(h) => (h <= MAX_HIERARCHY) & is_zero(l),
+        Value::Category(c) => (c < 256) & is_zero(l),
         Value::WholeLabel => label::valid(l),
     }
 }

@@ -5,6 +5,7 @@ mod body;
 pub mod entry;
 pub mod parts;
 mod regions;
+mod tested;
 
 use crate::accept::ENTRY_BODY;
 use crate::accept::entry_of;

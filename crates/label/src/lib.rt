@@ -1,5 +1,5 @@
 // Labels for mandatory access control: a hierarchy number and a set of categories. Each function tests the labels that it is handed and
-// refuses an invalid one with 22; only `valid` and `is_zero` answer a bare yes or no.
+// refuses an invalid one with 22; only `valid` answers a bare yes or no.
 pub mod caller;
 pub mod components;
 pub mod region;
@@ -58,16 +58,6 @@ pub fn valid(a: Label) -> bool
     ensures { λ r. ⌜ r ≡ validOf a ⌝ }
 {
     a.hierarchy <= MAX_HIERARCHY
-}
-
-// Whether a label is the label of zeros, as is held where there is none.
-pub fn is_zero(a: Label) -> bool
-    ensures { λ r. ⌜ r ≡ equalOf a zeroLabel ⌝ }
-{
-    let x = a.categories;
-    let z = zero();
-    let y = z.categories;
-    components::equal(a.hierarchy, x, z.hierarchy, y)
 }
 
 // Whether each of two labels is valid.

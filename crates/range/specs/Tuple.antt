@@ -17,12 +17,15 @@ use Rattle.range.specs.declared.tuple.Tuple.{Tuple}
 abbrev pub tupleOf : List RegionRange → Tuple
 tupleOf ranges = record { ranges = ranges }
 
+abbrev pub regionRangeOf : ℕ → Range → RegionRange
+regionRangeOf flag x = record { present = flag; range = x }
+
 abbrev pub present : Range → RegionRange
-present x = record { present = 1; range = x }
+present x = regionRangeOf 1 x
 
 -- no range: zeros are held there
 abbrev pub absent : RegionRange
-absent = record { present = 0; range = Range.zeroRange }
+absent = regionRangeOf 0 Range.zeroRange
 
 abbrev pub emptyTuple : Tuple
 emptyTuple = tupleOf (replicate regions absent)

@@ -3,7 +3,6 @@
 pub mod components;
 mod tested;
 pub mod tuple;
-pub mod unchecked;
 
 use crate::tested::dominates;
 use common::answer::Outcome;

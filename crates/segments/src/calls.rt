@@ -23,11 +23,13 @@ use crate::refuses;
 use crate::slots;
 use crate::slots::SlotOption;
 use crate::state;
+use crate::tested::dominates;
+use crate::tested::equal;
 use common::answer;
+use common::answer::Test;
 use common::errno::Errno;
 use label::Label;
-use label::components;
-use range::unchecked;
+use range::tuple;
 ghost use mathlib.Core.Path.{_≡_};
 ghost use mathlib.Core.Bool.{true};
 ghost use Prim.Native.Nat.{_<_};
@@ -126,12 +128,16 @@ fn valid(table: SegmentTable, call: Call, v: View) -> bool
     (1 <= v.tenant.ceiling) & label::valid(call.label) & numbers_valid(action)
 }
 
-// Whether the subject's label is in its tenant's clearance.
+// Whether the subject's label is in its tenant's clearance. Both are valid by what was tested before, so that nothing is refused here.
 fn cleared(table: SegmentTable, call: Call, v: View) -> bool
-    requires { ⌜ Viewed table call v ⌝ }
+    requires { ⌜ (sound table ≡ true) × (rules.callValid table call ≡ true) × Viewed table call v ⌝ }
     ensures { λ r. ⌜ r ≡ rules.cleared table call ⌝ }
 {
-    unchecked::contains(v.tenant.clearance, call.label)
+    let test = tuple::contains(v.tenant.clearance, call.label);
+    match test {
+        Test::Holds(inside) => inside,
+        Test::Refused(_) => false,
+    }
 }
 
 // The checks that every call on a sound state starts with, in document 01's order.
@@ -150,24 +156,6 @@ fn start(table: SegmentTable, call: Call, v: View) -> answer::Outcome
 }
 
 // ---- the checks that look into slots
-
-// Whether two labels that were tested are equal.
-fn equal(a: Label, b: Label) -> bool
-    ensures { λ r. ⌜ r ≡ labels.equalOf a b ⌝ }
-{
-    let x = a.categories;
-    let y = b.categories;
-    components::equal(a.hierarchy, x, b.hierarchy, y)
-}
-
-// Whether a dominates b, of labels that were tested.
-fn dominates(a: Label, b: Label) -> bool
-    ensures { λ r. ⌜ r ≡ labels.dominatesOf a b ⌝ }
-{
-    let x = a.categories;
-    let y = b.categories;
-    components::dominates(a.hierarchy, x, b.hierarchy, y)
-}
 
 // Whether the slot is the tenant's own, filled, and its label the subject's.
 fn writable(table: SegmentTable, tenant: TenantId, label: Label, slot: Slot, x: Segment) -> bool

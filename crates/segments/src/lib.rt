@@ -3,6 +3,7 @@ pub mod calls;
 pub mod operator;
 mod slots;
 pub mod state;
+mod tested;
 
 use common::errno::Errno;
 use label::Label;

@@ -10,13 +10,13 @@ use crate::TenantId;
 use crate::slots;
 use crate::slots::Owner;
 use crate::slots::Remaining;
+use crate::tested;
 use common::answer::Number;
 use common::answer::Test;
 use common::errno::Errno;
 use label::region;
 use range::tuple;
 use range::tuple::RegionRange;
-use range::unchecked;
 ghost use mathlib.Core.Path.{_≡_};
 ghost use Prim.Native.Nat.{_<_};
 ghost use Rattle.common.specs.Answer.{granted, numberAnswerOf, require};
@@ -71,7 +71,7 @@ fn tenants_sound(s: SegmentTable) -> bool
 fn zeros(x: Segment) -> bool
     ensures { λ r. ⌜ r ≡ rules.isZeroSegment x ⌝ }
 {
-    label::is_zero(x.label) & (x.pages == 0) & (x.version == 0)
+    tested::is_zero(x.label) & (x.pages == 0) & (x.version == 0)
 }
 
 // Whether a slot may hold x: a filled one that somebody owns a label in e, which the owner's clearance has for the region of x; any other one
@@ -80,7 +80,7 @@ fn segment_sound(x: Segment, owner: Owner, e: RegionRange) -> bool
     ensures { λ r. ⌜ r ≡ segmentSound x owner e ⌝ }
 {
     if (1 <= x.pages) & slots::owned(owner) {
-        return unchecked::contains_at(e, x.label);
+        return tested::contains_at(e, x.label);
     }
     zeros(x)
 }

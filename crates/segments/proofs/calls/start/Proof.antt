@@ -10,11 +10,11 @@ use Rattle.segments.proofs.calls.start.Tie as tie
 valid-requires : tie.Need-valid-requires
 valid-requires c κs = c .pre .1
 
-cleared-requires : tie.Need-cleared-requires
-cleared-requires c κs = c .before .before .pre .1
-
 is-valid : (c : tie.Else1) → let a = c .before .before .args in callValid (a .table) (a .call) ≡ true
 is-valid c = told-true (c .before .valid .ensures) (c .if1 .left)
+
+cleared-requires : tie.Need-cleared-requires
+cleared-requires c κs = let p = c .before .before .pre in (p .0, is-valid c, p .1)
 
 returns : tie.Need-returns
 unfolding firstChecksOf
