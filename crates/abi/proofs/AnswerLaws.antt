@@ -14,10 +14,10 @@ use Rattle.common.specs.declared.answer.Outcome.the-variants.{Granted, Refused}
 use Rattle.common.specs.declared.answer.Written.{Written}
 use Rattle.common.specs.declared.errno.Errno.{Errno}
 use Rattle.common.specs.declared.errno.Errno.the-variants.{Perm, NoEnt, TooBig, NoMem, Access, Busy, Invalid, BadLine, NoSpace, Domain}
-use Rattle.segments.specs.Replies.{Results, Step, replyOf}
-use Rattle.segments.specs.declared.CallOutcome as coreOutcome
-use Rattle.segments.specs.declared.Reply.{Reply}
-use Rattle.segments.specs.declared.Reply.the-variants.{Done, Opened, Shown, Refused as RefusedReply}
+use Rattle.segment_table.specs.Replies.{Results, Step, replyOf}
+use Rattle.segment_table.specs.declared.CallOutcome as coreOutcome
+use Rattle.segment_table.specs.declared.Reply.{Reply}
+use Rattle.segment_table.specs.declared.Reply.the-variants.{Done, Opened, Shown, Refused as RefusedReply}
 use Rattle.text.specs.Write as texts
 use Rattle.text.specs.declared.RangeWritten as coreWritten
 use Rattle.abi.specs.Answer.{CRangeWrittenTo, CWrittenTo, bareAnswer, numberAnswer, numbered, outcomeAnswer, rangeWritten}

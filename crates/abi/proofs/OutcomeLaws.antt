@@ -5,14 +5,14 @@ use mathlib.Core.Path.{_≡_, refl, _∙_}
 use Prim.Native.Nat.{ℕ, _<_}
 use borrow.Author.Tests.{lt-leb}
 use Rattle.common.specs.Answer.{refused}
-use Rattle.segments.specs.Calls.{Decides, stepOf}
-use Rattle.segments.specs.Replies.{applied, isRefusal, leaving}
-use Rattle.segments.specs.Segments.{slotTotal}
+use Rattle.segments.specs.Calls.{Decides, applied, stepOf}
+use Rattle.segment_table.specs.Replies.{isRefusal, leaving}
+use Rattle.segment_table.specs.Segments.{slotTotal}
 use Rattle.segments.specs.declared.Call.{Call}
 use Rattle.segments.specs.declared.Change.{Change}
-use Rattle.segments.specs.declared.SegmentTable.{SegmentTable}
+use Rattle.segment_table.specs.declared.SegmentTable.{SegmentTable}
 use Rattle.segments.proofs.CallsLaws.{refused-next}
-use Rattle.segments.proofs.ResultsLaws.{decides-results, decides-slot}
+use Rattle.segments.proofs.DecidesLaws.{decides-results, decides-slot}
 use Rattle.abi.specs.Outcome as outcomes
 use Rattle.abi.specs.declared.outcome.COutcome.{COutcome}
 use Rattle.abi.proofs.AnswerLaws.{call-answered}

@@ -4,14 +4,14 @@ use Prim.Native.Nat.{ℕ}
 use lib.Dec.{leb}
 use Rattle.common.specs.Answer as answers
 use Rattle.label.specs.declared.Label.{Label}
-use Rattle.segments.specs.Replies.{Grant, Step, done, isRefusal, opened, shown}
-use Rattle.segments.specs.Segments as core
+use Rattle.segment_table.specs.Replies.{Grant, Step, done, isRefusal, opened, shown}
+use Rattle.segment_table.specs.Segments as core
 use Rattle.segments.specs.declared.Change.{Change}
-use Rattle.segments.specs.declared.CallOutcome as coreOutcome
-use Rattle.segments.specs.declared.Reply.{Reply}
-use Rattle.segments.specs.declared.Reply.the-variants.{Done, Opened, Shown, Refused}
-use Rattle.segments.specs.declared.Segment.{Segment}
-use Rattle.segments.specs.declared.SegmentTable.{SegmentTable}
+use Rattle.segment_table.specs.declared.CallOutcome as coreOutcome
+use Rattle.segment_table.specs.declared.Reply.{Reply}
+use Rattle.segment_table.specs.declared.Reply.the-variants.{Done, Opened, Shown, Refused}
+use Rattle.segment_table.specs.declared.Segment.{Segment}
+use Rattle.segment_table.specs.declared.SegmentTable.{SegmentTable}
 use Rattle.abi.specs.Answer.{grant, numbered, refusalBy}
 use Rattle.abi.specs.declared.answer.CAnswer.{CAnswer}
 use Rattle.abi.specs.declared.outcome.COutcome.{COutcome}

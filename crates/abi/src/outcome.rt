@@ -2,17 +2,17 @@
 use crate::answer;
 use crate::answer::CAnswer;
 use label::Label;
+use segment_table::Reply;
+use segment_table::SLOTS;
+use segment_table::Segment;
+use segment_table::SegmentTable;
+use segment_table::Slot;
 use segments::Change;
-use segments::Reply;
-use segments::SLOTS;
-use segments::Segment;
-use segments::SegmentTable;
-use segments::Slot;
 ghost use mathlib.Core.Path.{_≡_};
 ghost use Prim.Native.Nat.{_<_};
-ghost use Rattle.segments.specs.Replies.{applied};
-ghost use Rattle.segments.specs.Segments as core;
-ghost use Rattle.segments.specs.Segments.{withSegment, zeroSegment};
+ghost use Rattle.segments.specs.Calls.{applied};
+ghost use Rattle.segment_table.specs.Segments as core;
+ghost use Rattle.segment_table.specs.Segments.{withSegment, zeroSegment};
 ghost use Rattle.abi.specs.Outcome.{appliedTo, handedBack, replyAnswer, segmentBeside};
 
 // The state that a call leaves, its answer, and what a look shows: zeros beside any other.
@@ -60,7 +60,7 @@ fn shown(r: Reply, label: Label) -> Segment
 }
 
 // What a call of the state hands back.
-pub fn hand_back(o: segments::CallOutcome) -> COutcome
+pub fn hand_back(o: segment_table::CallOutcome) -> COutcome
     ensures { λ r. ⌜ r ≡ handedBack o ⌝ }
 {
     let a = o.answer;
@@ -90,7 +90,7 @@ pub fn apply(state: SegmentTable, change: Change) -> COutcome
 {
     let a = change.answer;
     let r = a.reply;
-    if segments::refuses(r) | (SLOTS as u64 <= change.slot.0) {
+    if segment_table::refuses(r) | (SLOTS as u64 <= change.slot.0) {
         return COutcome {
             state,
             answer: reply(r),

@@ -13,11 +13,11 @@ use Rattle.range.specs.Range
 use Rattle.range.specs.Tuple
 use Rattle.segments.specs.Calls
 use Rattle.segments.specs.Calls.{closeCall, lookCall, openCall, postCall}
-use Rattle.segments.specs.Operator
-use Rattle.segments.specs.Replies.{done, opened, shown}
-use Rattle.segments.specs.Segments.{emptyTable, segmentOf, slot, tenantId}
-use Rattle.segments.specs.Slots
-use Rattle.segments.specs.Sound
+use Rattle.segment_table.specs.Operator
+use Rattle.segment_table.specs.Replies.{done, opened, shown}
+use Rattle.segment_table.specs.Segments.{emptyTable, segmentOf, slot, tenantId}
+use Rattle.segment_table.specs.Slots
+use Rattle.segment_table.specs.Sound
 use Rattle.examples.specs.Examples.{AnsweredRequest, Request, _gets_, admit, board, call, ceiling, l, make, openBy, played, sizeBy}
 
 abbrev postBy : ℕ → ℕ → ℕ → Request

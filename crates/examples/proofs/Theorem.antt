@@ -23,9 +23,9 @@ use Rattle.alias.specs.Lookup.{calledOf, lastEntryFor, sameValue, standsFor}
 use Rattle.alias.specs.Table
 use Rattle.text.specs.Write
 use Rattle.segments.specs.Calls
-use Rattle.segments.specs.Operator
-use Rattle.segments.specs.Slots
-use Rattle.segments.specs.Sound
+use Rattle.segment_table.specs.Operator
+use Rattle.segment_table.specs.Slots
+use Rattle.segment_table.specs.Sound
 use Rattle.examples.specs.Examples.{Example, ExamplesHold, Hold, examples}
 
 -- a list of examples holds where its first n do and the others do

@@ -24,11 +24,11 @@ use Rattle.text.specs.declared.Form.the-variants.{Definition}
 use Rattle.text.specs.declared.Style.{Style}
 use Rattle.text.specs.declared.Variant.the-variants.{Names}
 use Rattle.segments.specs.Calls.{openCall, sizeCall, stepOf}
-use Rattle.segments.specs.Operator.{admitOf, makeOf, setCeilingOf}
-use Rattle.segments.specs.Replies.{Grant, Step, done, opened}
-use Rattle.segments.specs.Segments.{emptyTable, slot, tenantId}
+use Rattle.segment_table.specs.Operator.{admitOf, makeOf, setCeilingOf}
+use Rattle.segment_table.specs.Replies.{Grant, Step, done, opened}
+use Rattle.segment_table.specs.Segments.{emptyTable, slot, tenantId}
 use Rattle.segments.specs.declared.Call.{Call}
-use Rattle.segments.specs.declared.SegmentTable.{SegmentTable}
+use Rattle.segment_table.specs.declared.SegmentTable.{SegmentTable}
 
 -- ---- ranges
 

@@ -3,7 +3,7 @@
 -- `stepOf` is not opened here: CallsLaws and CallSoundLaws of `segments` say what is needed of it.
 use mathlib.Core.Bool.{Bool, true, false, cond, true≢false}
 use mathlib.Core.List.{List, [], _∷_, Forall₂, Forall₂·cons, Forall₂·nil, List-discrete}
-use mathlib.Core.Logic.{_⊎_, inl, inr, ⊎-elim, _↔_}
+use mathlib.Core.Logic.{_⊎_, inl, inr, ⊎-elim}
 use mathlib.Core.Option.{Option, none, some}
 use mathlib.Core.Path.{_≡_, refl, sym, ap, ap₂, _∙_, subst}
 use Prim.Native.Nat.{ℕ}
@@ -18,21 +18,21 @@ use Rattle.label.specs.declared.Label.{Label}
 use Rattle.common.proofs.BoolLaws.{not-so}
 use Rattle.common.proofs.SearchLaws.{any-then, none-of}
 use Rattle.segments.specs.Calls.{callRow, stepOf, visible}
-use Rattle.segments.specs.Replies.{shown}
-use Rattle.segments.specs.Segments.{segmentAt, segmentOf, tenantId, tenantTotal}
-use Rattle.segments.specs.Slots.{owns}
-use Rattle.segments.specs.Sound.{sound}
+use Rattle.segment_table.specs.Replies.{shown}
+use Rattle.segment_table.specs.Segments.{segmentAt, segmentOf, tenantId, tenantTotal}
+use Rattle.segment_table.specs.Slots.{owns}
+use Rattle.segment_table.specs.Sound.{sound}
 use Rattle.segments.specs.declared.Call.{Call}
-use Rattle.segments.specs.declared.Segment.{Segment}
-use Rattle.segments.specs.declared.SegmentTable.{SegmentTable}
-use Rattle.segments.specs.declared.Slot.{Slot}
-use Rattle.segments.specs.declared.Tenant.{Tenant}
-use Rattle.segments.specs.declared.TenantId.{TenantId}
+use Rattle.segment_table.specs.declared.Segment.{Segment}
+use Rattle.segment_table.specs.declared.SegmentTable.{SegmentTable}
+use Rattle.segment_table.specs.declared.Slot.{Slot}
+use Rattle.segment_table.specs.declared.Tenant.{Tenant}
+use Rattle.segment_table.specs.declared.TenantId.{TenantId}
 use Rattle.segments.proofs.CallSoundLaws.{call-sound}
 use Rattle.segments.proofs.CallsLaws.{Alike, Checked, alike-itself, alike-join, alike-swap, answer-same, both-passed, both-refused, checked, look-access, looks-at-own, own-next, pool-kept, records-kept, untouched, visible-same}
-use Rattle.segments.proofs.SegmentsLaws.{same-table, tenant-same}
-use Rattle.segments.proofs.SlotsLaws.{own-parts, owner-unique, owns-kept, same-tenant}
-use Rattle.segments.proofs.SoundLaws.{sound-parts}
+use Rattle.segment_table.proofs.SegmentsLaws.{same-table, tenant-same}
+use Rattle.segment_table.proofs.SlotsLaws.{own-parts, owner-unique, owns-kept, same-tenant}
+use Rattle.segment_table.proofs.SoundLaws.{sound-parts}
 use Rattle.isolation.specs.Isolation.{Agree, Compared, Different, Each, Entry, Interleaving, Isolation, Limited, LookCompared, Not22or1, callsOf, next, otherSlot, project, run, states, tenantEntries, trace}
 
 -- ---- a call keeps two states alike for a tenant: its own in both, another's in either

@@ -8,14 +8,14 @@ use Prim.Native.Nat.{ℕ, _<_, _≤_}
 use lib.Dec.{eqb}
 use Rattle.common.specs.Answer.{Answer, refused}
 use Rattle.segments.specs.Calls.{callRow, stepOf, visible}
-use Rattle.segments.specs.Replies.{Grant}
-use Rattle.segments.specs.Segments.{ceilingAt, clearanceAt, segmentAt, tenantTotal}
-use Rattle.segments.specs.Slots.{owns, pagesOf}
-use Rattle.segments.specs.Sound.{sound}
+use Rattle.segment_table.specs.Replies.{Grant}
+use Rattle.segment_table.specs.Segments.{ceilingAt, clearanceAt, segmentAt, tenantTotal}
+use Rattle.segment_table.specs.Slots.{owns, pagesOf}
+use Rattle.segment_table.specs.Sound.{sound}
 use Rattle.segments.specs.declared.Call.{Call}
-use Rattle.segments.specs.declared.SegmentTable.{SegmentTable}
-use Rattle.segments.specs.declared.Slot.{Slot}
-use Rattle.segments.specs.declared.TenantId.{TenantId}
+use Rattle.segment_table.specs.declared.SegmentTable.{SegmentTable}
+use Rattle.segment_table.specs.declared.Slot.{Slot}
+use Rattle.segment_table.specs.declared.TenantId.{TenantId}
 
 -- "Take any sound board and any list of tenant calls (open, size, post, look, close; refused ones too). The first gets that board, each
 -- later one the board that the last one left, and nobody else touches it."

@@ -5,6 +5,10 @@ use abi::outcome;
 use abi::outcome::COutcome;
 use label::Label;
 use range::tuple::Tuple;
+use segment_table::SegmentTable;
+use segment_table::Slot;
+use segment_table::TenantId;
+use segment_table::operator;
 use segments::Action;
 use segments::Call;
 use segments::Change;
@@ -12,18 +16,14 @@ use segments::CloseCall;
 use segments::LookCall;
 use segments::OpenCall;
 use segments::PostCall;
-use segments::SegmentTable;
 use segments::SizeCall;
-use segments::Slot;
-use segments::TenantId;
 use segments::calls;
-use segments::operator;
 ghost use mathlib.Core.Path.{_≡_};
 ghost use Rattle.common.specs.Answer.{granted, require};
 ghost use Rattle.segments.specs.Calls.{Decides, callOf, closeCall, lookCall, openCall, postCall, sizeCall, stepOf};
-ghost use Rattle.segments.specs.Operator.{admitOf, makeOf, setCeilingOf};
-ghost use Rattle.segments.specs.Slots.{pagesOf};
-ghost use Rattle.segments.specs.Sound.{admitted, sound};
+ghost use Rattle.segment_table.specs.Operator.{admitOf, makeOf, setCeilingOf};
+ghost use Rattle.segment_table.specs.Slots.{pagesOf};
+ghost use Rattle.segment_table.specs.Sound.{admitted, sound};
 ghost use Rattle.abi.specs.Answer.{numberAnswer, testAnswer};
 ghost use Rattle.abi.specs.Outcome.{stepOutcome};
 
@@ -137,7 +137,7 @@ pub extern "C" fn lurm_look(
 pub extern "C" fn lurm_sound(state: SegmentTable) -> CAnswer
     ensures { λ r. ⌜ r ≡ testAnswer (granted (sound state)) ⌝ }
 {
-    if segments::state::sound(state) {
+    if segment_table::state::sound(state) {
         return answer::granted(1);
     }
     answer::granted(0)
@@ -147,5 +147,5 @@ pub extern "C" fn lurm_sound(state: SegmentTable) -> CAnswer
 pub extern "C" fn lurm_pages_in_use(state: SegmentTable, tenant: TenantId) -> CAnswer
     ensures { λ r. ⌜ r ≡ numberAnswer (require (sound state) 22 (require (admitted state tenant) 22 (granted (pagesOf state tenant)))) ⌝ }
 {
-    answer::of_number(segments::state::pages_in_use(state, tenant))
+    answer::of_number(segment_table::state::pages_in_use(state, tenant))
 }

@@ -14,19 +14,19 @@ use Rattle.label.specs.declared.Label.{Label}
 use Rattle.common.proofs.BoolLaws.{both, first-true, second-true, three-true}
 use Rattle.range.specs.Tuple
 use Rattle.segments.specs.Calls.{CallEffect, callOf, callRow, callValid, cleared, slotFor, slotValid, stepOf, writable}
-use Rattle.segments.specs.Segments.{ceilingAt, clearanceAt, maxPages, pagesAt, pagesValid, segmentAt, segmentOf, tenantAt, withSegment}
-use Rattle.segments.specs.Slots.{owns, pagesOf}
-use Rattle.segments.specs.Sound.{admitted, sound}
+use Rattle.segment_table.specs.Segments.{ceilingAt, clearanceAt, maxPages, pagesAt, pagesValid, segmentAt, segmentOf, tenantAt, withSegment}
+use Rattle.segment_table.specs.Slots.{owns, pagesOf}
+use Rattle.segment_table.specs.Sound.{admitted, sound}
 use Rattle.segments.specs.declared.Action.{Action}
 use Rattle.segments.specs.declared.Action.the-variants.{Open, Size, Post, Look, Close}
 use Rattle.segments.specs.declared.Call.{Call}
-use Rattle.segments.specs.declared.Segment.{Segment}
-use Rattle.segments.specs.declared.SegmentTable.{SegmentTable}
-use Rattle.segments.specs.declared.Slot.{Slot}
-use Rattle.segments.specs.declared.TenantId.{TenantId}
+use Rattle.segment_table.specs.declared.Segment.{Segment}
+use Rattle.segment_table.specs.declared.SegmentTable.{SegmentTable}
+use Rattle.segment_table.specs.declared.Slot.{Slot}
+use Rattle.segment_table.specs.declared.TenantId.{TenantId}
 use Rattle.segments.proofs.CallsLaws.{Effect, Passed, effect, look-next, looking, next-granted, next-refused, refusing, valid-numbers, valid-tenant, writable-at, writable-own, writing}
-use Rattle.segments.proofs.SlotsLaws.{lowest-own, own-pages, own-parts, own-slot}
-use Rattle.segments.proofs.SoundLaws.{Sound, admitted-parts, filled-pages, held, held-cleared, held-filled, parts-sound, slot-held, sound-parts, tenant-clearance, written-sound, zeros-held}
+use Rattle.segment_table.proofs.SlotsLaws.{lowest-own, own-pages, own-parts, own-slot}
+use Rattle.segment_table.proofs.SoundLaws.{Sound, admitted-parts, filled-pages, held, held-cleared, held-filled, parts-sound, slot-held, sound-parts, tenant-clearance, written-sound, zeros-held}
 
 cleared-label : (s : SegmentTable) (t : TenantId) (l : Label) (a : Action) → cleared s (callOf t l a) ≡ true → Tuple.containsOf (clearanceAt s t) l ≡ true
 unfolding cleared

@@ -1,6 +1,6 @@
 -- What a tenant call reads and what it changes: its caller's own slots, what no tenant call changes, and, for a look at another's slot,
 -- what is visible of that slot. Nothing above these laws opens `stepOf`.
-use mathlib.Core.Bool.{Bool, true, false, not, _&&_, true≢false}
+use mathlib.Core.Bool.{Bool, true, false, cond, not, _&&_, true≢false}
 use mathlib.Core.Logic.{_⊎_, inl, inr}
 use mathlib.Core.Option.{Option, none, some, Option·none-ne-some}
 use mathlib.Core.Path.{_≡_, refl, sym, ap, ap₂, _∙_}
@@ -16,21 +16,21 @@ use Rattle.common.proofs.BoolLaws.{first-true, three-true}
 use Rattle.common.proofs.SearchLaws.{first-same, sum-same}
 use Rattle.range.specs.Tuple
 use Rattle.segments.specs.Calls.{CallEffect, accessOf, answeredBy, callOf, callRow, callValid, cleared, decisionOn, effectOn, requireSlot, slotFor, slotValid, stepOf, tableBy, visible, writable}
-use Rattle.segments.specs.Replies.{Grant, shown}
-use Rattle.segments.specs.Segments.{ceilingAt, pagesAt, segmentAt, slot, slotTotal, tenantTotal, withSegment}
-use Rattle.segments.specs.Slots.{asSlot, emptyAt, filled, firstSlot, lowestEmpty, owns, pagesOf, slotCount}
-use Rattle.segments.specs.Sound.{admitted, sound}
+use Rattle.segment_table.specs.Replies.{shown}
+use Rattle.segment_table.specs.Segments.{ceilingAt, pagesAt, segmentAt, slot, slotTotal, tenantTotal, withSegment}
+use Rattle.segment_table.specs.Slots.{asSlot, emptyAt, filled, firstSlot, lowestEmpty, owns, pagesOf, slotCount}
+use Rattle.segment_table.specs.Sound.{admitted, sound}
 use Rattle.segments.specs.declared.Action.{Action}
 use Rattle.segments.specs.declared.Action.the-variants.{Open, Size, Post, Look, Close}
 use Rattle.segments.specs.declared.Call.{Call}
-use Rattle.segments.specs.declared.Segment.{Segment}
-use Rattle.segments.specs.declared.SegmentTable.{SegmentTable}
-use Rattle.segments.specs.declared.Slot.{Slot}
-use Rattle.segments.specs.declared.Tenant.{Tenant}
-use Rattle.segments.specs.declared.TenantId.{TenantId}
-use Rattle.segments.proofs.SegmentsLaws.{segment-kept, segment-same, segment-written, tenant-same}
-use Rattle.segments.proofs.SlotsLaws.{by-slot, lowest-own, count-kept, first-kept, own-of, own-slot, owns-kept, same-slot}
-use Rattle.segments.proofs.SoundLaws.{sound-parts}
+use Rattle.segment_table.specs.declared.Segment.{Segment}
+use Rattle.segment_table.specs.declared.SegmentTable.{SegmentTable}
+use Rattle.segment_table.specs.declared.Slot.{Slot}
+use Rattle.segment_table.specs.declared.Tenant.{Tenant}
+use Rattle.segment_table.specs.declared.TenantId.{TenantId}
+use Rattle.segment_table.proofs.SegmentsLaws.{segment-kept, segment-same, segment-written, tenant-same}
+use Rattle.segment_table.proofs.SlotsLaws.{by-slot, lowest-own, count-kept, first-kept, own-of, own-slot, owns-kept, same-slot}
+use Rattle.segment_table.proofs.SoundLaws.{sound-parts}
 
 -- ---- the slot that a call is about
 
@@ -134,7 +134,7 @@ module _ (t : TenantId) (s u : SegmentTable) (k : Alike t s u) where
   lowest-same : t .0 < tenantTotal → lowestEmpty s t ≡ lowestEmpty u t
   unfolding lowestEmpty filled
   lowest-same h =
-      ap asSlot
+      ap (λ (o : Option ℕ). cond (ltb (t .0) tenantTotal) (asSlot o) none)
       (first-same (emptyAt s) (emptyAt u) (firstSlot s t .0) (slotCount s t)
       (λ j a b. ap (λ (x : Segment). not (leb 1 (x .pages))) (k .own (slot j) (own-of s t (slot j) h a b)))
       ∙ ap₂ (firstFrom (emptyAt u)) (ap (λ (p : Slot). p .0) (first-kept s u t (k .records))) (count-kept s u t (k .records)))

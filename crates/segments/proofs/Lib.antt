@@ -1,8 +1,3 @@
-pub mod SegmentsLaws
-pub mod SlotsLaws
 pub mod CallsLaws
-pub mod SoundLaws
 pub mod CallSoundLaws
-pub mod OperatorLaws
-pub mod LimitLaws
-pub mod ResultsLaws
+pub mod DecidesLaws

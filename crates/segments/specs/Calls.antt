@@ -1,5 +1,5 @@
 -- Document 01, "The board": the tenant calls.
-use mathlib.Core.Bool.{Bool, true, false, _&&_}
+use mathlib.Core.Bool.{Bool, true, cond, _&&_}
 use mathlib.Core.Option.{Option, none, some}
 use mathlib.Core.Path.{_≡_}
 use Prim.Native.Nat.{ℕ, _+_, _-_}
@@ -8,18 +8,19 @@ use Rattle.common.specs.Answer.{Answer, granted, refused, require}
 use Rattle.label.specs.Label
 use Rattle.label.specs.declared.Label.{Label}
 use Rattle.range.specs.Tuple
-use Rattle.segments.specs.Replies.{Answers, Grant, Step, done, opened, shown}
-use Rattle.segments.specs.Segments.{ceilingAt, clearanceAt, pagesAt, pagesValid, segmentAt, segmentOf, slot, slotTotal, withSegment, zeroSegment}
-use Rattle.segments.specs.Slots.{filled, lowestEmpty, owns, pagesOf}
-use Rattle.segments.specs.Sound.{admitted, sound}
+use Rattle.segment_table.specs.Replies.{Answers, Grant, Step, done, isRefusal, opened, shown}
+use Rattle.segment_table.specs.Segments.{ceilingAt, clearanceAt, pagesAt, pagesValid, segmentAt, segmentOf, slot, slotTotal, withSegment, zeroSegment}
+use Rattle.segment_table.specs.Slots.{filled, lowestEmpty, owns, pagesOf}
+use Rattle.segment_table.specs.Sound.{admitted, sound}
 use Rattle.segments.specs.declared.Action.{Action}
 use Rattle.segments.specs.declared.Action.the-variants.{Open, Size, Post, Look, Close}
 use Rattle.segments.specs.declared.Call.{Call}
 use Rattle.segments.specs.declared.Change.{Change}
-use Rattle.segments.specs.declared.Segment.{Segment}
-use Rattle.segments.specs.declared.SegmentTable.{SegmentTable}
-use Rattle.segments.specs.declared.Slot.{Slot}
-use Rattle.segments.specs.declared.TenantId.{TenantId}
+use Rattle.segment_table.specs.declared.CallOutcome.{CallOutcome}
+use Rattle.segment_table.specs.declared.Segment.{Segment}
+use Rattle.segment_table.specs.declared.SegmentTable.{SegmentTable}
+use Rattle.segment_table.specs.declared.Slot.{Slot}
+use Rattle.segment_table.specs.declared.TenantId.{TenantId}
 
 abbrev pub callOf : TenantId → Label → Action → Call
 callOf t l a = record { tenant = t; label = l; action = a }
@@ -192,3 +193,7 @@ pub record Decides (s : SegmentTable) (c : Call) (x : Change) : Type 0 where
   pub slot : x .slot ≡ changedSlot (decisionOn s c)
   pub segment : x .segment ≡ changedSegment (decisionOn s c)
   pub answer : Answers (x .answer) (answeredBy (decisionOn s c))
+
+-- the outcome of a change: the slot gets the segment, and a refusal leaves the state as it was
+abbrev pub applied : SegmentTable → Change → CallOutcome
+applied s c = record { table = cond (isRefusal (c .answer .reply)) s (withSegment s (c .slot) (c .segment)); answer = c .answer }

@@ -1,4 +1,1 @@
-pub mod Owners
-pub mod Limits
-pub mod SoundParts
 pub mod CallParts

@@ -1,28 +1,12 @@
 // The tenant calls. `step` makes document 01's checks in its order; a refusal hands the state back as it was.
 use crate::Action;
 use crate::Call;
-use crate::CallAnswer;
-use crate::CallOutcome;
 use crate::Change;
 use crate::CloseCall;
 use crate::LookCall;
 use crate::OpenCall;
 use crate::PostCall;
-use crate::Reply;
-use crate::SLOTS;
-use crate::Segment;
-use crate::SegmentTable;
-use crate::Shown;
 use crate::SizeCall;
-use crate::Slot;
-use crate::TENANTS;
-use crate::Tenant;
-use crate::TenantId;
-use crate::no_label;
-use crate::refuses;
-use crate::slots;
-use crate::slots::SlotOption;
-use crate::state;
 use crate::tested::dominates;
 use crate::tested::equal;
 use common::answer;
@@ -30,6 +14,22 @@ use common::answer::Test;
 use common::errno::Errno;
 use label::Label;
 use range::tuple;
+use segment_table::CallAnswer;
+use segment_table::CallOutcome;
+use segment_table::Reply;
+use segment_table::SLOTS;
+use segment_table::Segment;
+use segment_table::SegmentTable;
+use segment_table::Shown;
+use segment_table::Slot;
+use segment_table::TENANTS;
+use segment_table::Tenant;
+use segment_table::TenantId;
+use segment_table::no_label;
+use segment_table::refuses;
+use segment_table::slots;
+use segment_table::slots::SlotOption;
+use segment_table::state;
 ghost use mathlib.Core.Path.{_≡_};
 ghost use mathlib.Core.Bool.{true};
 ghost use Prim.Native.Nat.{_<_};
@@ -37,14 +37,12 @@ ghost use Rattle.common.specs.Answer as answers;
 ghost use Rattle.common.specs.Answer.{outcomeOf};
 ghost use Rattle.label.specs.Label as labels;
 ghost use Rattle.segments.specs.Calls as rules;
-ghost use Rattle.segments.specs.Calls.{Decides, callOf, callRow, closeCall, lookCall, openCall, postCall, sizeCall, slotFor, slotValid, stepOf};
+ghost use Rattle.segments.specs.Calls.{Decides, applied, callOf, callRow, closeCall, lookCall, openCall, postCall, sizeCall, slotFor, slotValid, stepOf};
 ghost use Rattle.segments.specs.Internal.CallParts.{Started, Viewed, firstChecksOf, namedSegment, namedValid, refusedWith};
-ghost use Rattle.segments.specs.Internal.Limits.{fitsIn, limitLeft};
-ghost use Rattle.segments.specs.Internal.Owners.{slotOptionOf};
-ghost use Rattle.segments.specs.Replies.{Answers, Results, applied, done};
-ghost use Rattle.segments.specs.Segments.{segmentAt, slotTotal, tenantAt, tenantTotal};
-ghost use Rattle.segments.specs.Slots.{pagesOf};
-ghost use Rattle.segments.specs.Sound.{sound};
+ghost use Rattle.segment_table.specs.Slots.{slotOptionOf};
+ghost use Rattle.segment_table.specs.Replies.{Answers, Results, done};
+ghost use Rattle.segment_table.specs.Segments.{segmentAt, tenantAt, tenantTotal};
+ghost use Rattle.segment_table.specs.Sound.{sound};
 
 // What the state has for a call.
 pub(crate) struct View {
@@ -173,14 +171,6 @@ fn visible(table: SegmentTable, label: Label, slot: Slot, x: Segment) -> bool
     (1 <= x.pages) & dominates(label, x.label)
 }
 
-// Whether the tenant's ceiling has room for pages, some of which take the place of others.
-fn has_room(table: SegmentTable, tenant: TenantId, ceiling: u64, replaced: u64, pages: u64) -> bool
-    requires { ⌜ tenant .0 < tenantTotal ⌝ }
-    ensures { λ r. ⌜ r ≡ fitsIn (limitLeft ceiling (pagesOf table tenant)) replaced pages ⌝ }
-{
-    slots::fits(slots::pages_left(table, tenant, ceiling), replaced, pages)
-}
-
 // ---- what each action asks, writes and answers
 
 // Whether the subject may do that to the slot that it names. An open names none.
@@ -223,8 +213,8 @@ fn pages_fit(table: SegmentTable, call: Call, v: View) -> bool
     let action = call.action;
     let ceiling = v.tenant.ceiling;
     match action {
-        Action::Open(x) => has_room(table, tenant, ceiling, 0, x.pages),
-        Action::Size(x) => has_room(table, tenant, ceiling, v.segment.pages, x.pages),
+        Action::Open(x) => slots::has_room(table, tenant, ceiling, 0, x.pages),
+        Action::Size(x) => slots::has_room(table, tenant, ceiling, v.segment.pages, x.pages),
         Action::Post(_) => true,
         Action::Look(_) => true,
         Action::Close(_) => true,
@@ -331,11 +321,19 @@ fn checked(table: SegmentTable, call: Call, v: View) -> Change
     }
 }
 
+// Whether a state is sound, for a function that goes on with the state: the copy that the test is handed is gone from the stack when it has
+// answered.
+fn is_sound(s: SegmentTable) -> bool
+    ensures { λ r. ⌜ r ≡ sound s ⌝ }
+{
+    state::sound(s)
+}
+
 // What a call answers, and what it changes.
 pub fn decide(table: SegmentTable, call: Call) -> Change
     ensures { λ r. ⌜ Decides table call r ⌝ }
 {
-    if !state::is_sound(table) {
+    if !is_sound(table) {
         return refused(Errno::Invalid);
     }
     let tenant = call.tenant;
@@ -349,7 +347,6 @@ pub fn decide(table: SegmentTable, call: Call) -> Change
 
 // Makes a change.
 fn apply(table: SegmentTable, change: Change) -> CallOutcome
-    requires { ⌜ change .slot .0 < slotTotal ⌝ }
     ensures { λ r. ⌜ r ≡ applied table change ⌝ }
 {
     let answer = change.answer;

@@ -1,55 +1,12 @@
-// The account of shared memory segments: who holds which slot, with how many pages, under which label.
+// The tenant calls on a table of shared memory segments.
 pub mod calls;
-pub mod operator;
-mod slots;
-pub mod state;
 mod tested;
 
-use common::errno::Errno;
 use label::Label;
-use range::tuple::Tuple;
-ghost use mathlib.Core.Path.{_≡_};
-ghost use Rattle.segments.specs.Internal.CallParts as parts;
-ghost use Rattle.segments.specs.Replies.{isRefusal};
-ghost use Rattle.segments.specs.Internal.CallParts.{unlabeledAnswer};
-
-// How many tenants, and how many slots, a machine has.
-pub const TENANTS: usize = 8;
-
-pub const SLOTS: usize = 64;
-
-// The greatest pool, and the most pages that a call may name.
-pub const MAX_PAGES: u64 = 1048576;
-
-// A tenant's number, and a slot's (document 01: place): two kinds, so that neither is taken for the other.
-#[repr(C)]
-pub struct TenantId(pub u64);
-
-#[repr(C)]
-pub struct Slot(pub u64);
-
-// A tenant's record: zeros where the tenant is not admitted.
-#[repr(C)]
-pub struct Tenant {
-    pub ceiling: u64,
-    pub clearance: Tuple,
-}
-
-// What a slot holds (version is document 01's edition): zeros where the slot is empty.
-#[repr(C)]
-pub struct Segment {
-    pub label: Label,
-    pub pages: u64,
-    pub version: u64,
-}
-
-// The state (document 01: the board).
-#[repr(C)]
-pub struct SegmentTable {
-    pub pool: u64,
-    pub tenants: [Tenant; TENANTS],
-    pub segments: [Segment; SLOTS],
-}
+use segment_table::CallAnswer;
+use segment_table::Segment;
+use segment_table::Slot;
+use segment_table::TenantId;
 
 // ---- the tenant calls, each with its numbers
 
@@ -90,68 +47,9 @@ pub struct Call {
     pub action: Action,
 }
 
-// ---- what a call answers
-
-// The numbers that a look shows.
-pub struct Shown {
-    pub pages: u64,
-    pub version: u64,
-}
-
-pub enum Reply {
-    Done,
-    Opened(Slot),
-    Shown(Shown),
-    Refused(Errno),
-}
-
-// A reply, and the label that a look shows: zeros beside any other.
-pub struct CallAnswer {
-    pub reply: Reply,
-    pub label: Label,
-}
-
 // What a call changes, and its answer: the slot gets the segment. Beside a refusal both are zeros and nothing changes.
 pub struct Change {
     pub slot: Slot,
     pub segment: Segment,
     pub answer: CallAnswer,
-}
-
-// The state that a call leaves, and its answer.
-pub struct CallOutcome {
-    pub table: SegmentTable,
-    pub answer: CallAnswer,
-}
-
-// Whether a reply is a refusal.
-pub fn refuses(reply: Reply) -> bool
-    ensures { λ r. ⌜ r ≡ isRefusal reply ⌝ }
-{
-    match reply {
-        Reply::Done => false,
-        Reply::Opened(_) => false,
-        Reply::Shown(_) => false,
-        Reply::Refused(_) => true,
-    }
-}
-
-// A reply that shows no label.
-pub(crate) fn no_label(reply: Reply) -> CallAnswer
-    ensures { λ r. ⌜ r ≡ unlabeledAnswer reply ⌝ }
-{
-    CallAnswer {
-        reply,
-        label: label::zero(),
-    }
-}
-
-// A state and a reply that shows no label.
-pub(crate) fn unlabeled(table: SegmentTable, reply: Reply) -> CallOutcome
-    ensures { λ r. ⌜ r ≡ parts.unlabeled table reply ⌝ }
-{
-    CallOutcome {
-        table,
-        answer: no_label(reply),
-    }
 }

@@ -1,11 +1,8 @@
 // Labels that were tested, taken apart: the one place of this crate that does it.
 use label::Label;
 use label::components;
-use range::components as regions;
-use range::tuple::RegionRange;
 ghost use mathlib.Core.Path.{_≡_};
-ghost use Rattle.label.specs.Label.{dominatesOf, equalOf, zeroLabel};
-ghost use Rattle.range.specs.Tuple.{containsAt};
+ghost use Rattle.label.specs.Label.{dominatesOf, equalOf};
 
 pub(crate) fn equal(a: Label, b: Label) -> bool
     ensures { λ r. ⌜ r ≡ equalOf a b ⌝ }
@@ -21,32 +18,4 @@ pub(crate) fn dominates(a: Label, b: Label) -> bool
     let x = a.categories;
     let y = b.categories;
     components::dominates(a.hierarchy, x, b.hierarchy, y)
-}
-
-// Whether a label is zeros, as an empty slot holds.
-pub(crate) fn is_zero(a: Label) -> bool
-    ensures { λ r. ⌜ r ≡ equalOf a zeroLabel ⌝ }
-{
-    let x = a.categories;
-    components::is_zero(a.hierarchy, x)
-}
-
-// Whether a label is in what a clearance has for its region.
-pub(crate) fn contains_at(e: RegionRange, l: Label) -> bool
-    ensures { λ r. ⌜ r ≡ containsAt e l ⌝ }
-{
-    let low = e.range.low;
-    let high = e.range.high;
-    let x = low.categories;
-    let y = high.categories;
-    let z = l.categories;
-    regions::contains_at(
-        e.present,
-        low.hierarchy,
-        x,
-        high.hierarchy,
-        y,
-        l.hierarchy,
-        z,
-    )
 }

@@ -6,11 +6,11 @@ use Rattle.common.specs.declared.answer.Outcome.{Outcome}
 use Rattle.common.specs.declared.answer.Outcome.the-variants.{Granted, Refused}
 use Rattle.label.specs.declared.Label.{Label}
 use Rattle.common.specs.declared.errno.Errno.{Errno}
-use Rattle.segments.specs.Replies.{Results, Step, left, replyOf}
-use Rattle.segments.specs.declared.CallOutcome.{CallOutcome}
-use Rattle.segments.specs.declared.Reply.{Reply}
-use Rattle.segments.specs.declared.Reply.the-variants.{Done, Opened, Shown, Refused as Refusal}
-use Rattle.segments.specs.declared.SegmentTable.{SegmentTable}
+use Rattle.segment_table.specs.Replies.{Results, Step, left, replyOf}
+use Rattle.segment_table.specs.declared.CallOutcome.{CallOutcome}
+use Rattle.segment_table.specs.declared.Reply.{Reply}
+use Rattle.segment_table.specs.declared.Reply.the-variants.{Done, Opened, Shown, Refused as Refusal}
+use Rattle.segment_table.specs.declared.SegmentTable.{SegmentTable}
 use Rattle.segments_cmd.specs.Session.{between, invalidStep, madeIn, onOperand}
 use Rattle.segments_cmd.specs.declared.session.Session.{Session}
 

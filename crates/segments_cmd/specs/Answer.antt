@@ -6,10 +6,10 @@ use Rattle.console.specs.Format.{errorText, field}
 use Rattle.hexline.specs.Line.{labelLineOf}
 use Rattle.common.specs.Answer.{valueOr}
 use Rattle.label.specs.declared.Label.{Label}
-use Rattle.segments.specs.declared.Reply.{Reply}
-use Rattle.segments.specs.declared.Reply.the-variants.{Done, Opened, Shown, Refused}
-use Rattle.segments.specs.declared.Shown.{Shown as Numbers}
-use Rattle.segments.specs.declared.Slot.{Slot}
+use Rattle.segment_table.specs.declared.Reply.{Reply}
+use Rattle.segment_table.specs.declared.Reply.the-variants.{Done, Opened, Shown, Refused}
+use Rattle.segment_table.specs.declared.Shown.{Shown as Numbers}
+use Rattle.segment_table.specs.declared.Slot.{Slot}
 
 -- room for the numbers that a look shows, and for a hex line
 abbrev pub numbersBytes : ℕ

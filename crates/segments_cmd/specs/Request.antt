@@ -7,10 +7,10 @@ use lib.ListN.{getD}
 use Rattle.octets.specs.Bytes.{ascii, sameBytes}
 use Rattle.console.specs.Command.{commandOf, commandWord}
 use Rattle.console.specs.declared.command.Command.{Command}
-use Rattle.segments.specs.Segments.{slot, tenantId}
+use Rattle.segment_table.specs.Segments.{slot, tenantId}
 use Rattle.segments.specs.declared.Action.the-variants.{Open, Size, Post, Look, Close}
-use Rattle.segments.specs.declared.Slot.{Slot}
-use Rattle.segments.specs.declared.TenantId.{TenantId}
+use Rattle.segment_table.specs.declared.Slot.{Slot}
+use Rattle.segment_table.specs.declared.TenantId.{TenantId}
 use Rattle.segments_cmd.specs.declared.request.Request.{Request}
 use Rattle.segments_cmd.specs.declared.request.Request.the-variants.{Invalid, Make, Admit, SetCeiling, Call, Show}
 

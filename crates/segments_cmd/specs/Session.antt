@@ -10,11 +10,11 @@ use Rattle.console.specs.declared.lines.Line.the-variants.{More, Whole, Bad}
 use Rattle.hexline.specs.Line.{readLabelLine, readTupleLine}
 use Rattle.common.specs.Answer.{Answer, granted, refused}
 use Rattle.segments.specs.Calls.{callOf, stepOf}
-use Rattle.segments.specs.Operator.{admitOf, makeOf, setCeilingOf}
-use Rattle.segments.specs.Replies.{Step, leaving}
+use Rattle.segment_table.specs.Operator.{admitOf, makeOf, setCeilingOf}
+use Rattle.segment_table.specs.Replies.{Step, leaving}
 use Rattle.segments.specs.declared.Action.{Action}
-use Rattle.segments.specs.declared.SegmentTable.{SegmentTable}
-use Rattle.segments.specs.declared.TenantId.{TenantId}
+use Rattle.segment_table.specs.declared.SegmentTable.{SegmentTable}
+use Rattle.segment_table.specs.declared.TenantId.{TenantId}
 use Rattle.segments_cmd.specs.Request.{requestOfLine, takesOperand}
 use Rattle.segments_cmd.specs.declared.request.Request.{Request}
 use Rattle.segments_cmd.specs.declared.request.Request.the-variants.{Invalid, Make, Admit, SetCeiling, Call, Show}

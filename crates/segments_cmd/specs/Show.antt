@@ -5,7 +5,7 @@ use Rattle.octets.specs.Bytes.{ascii}
 use Rattle.console.specs.Format.{field}
 use Rattle.label.specs.Words.{membersOf, words}
 use Rattle.label.specs.declared.Label.{Label}
-use Rattle.segments.specs.declared.Segment.{Segment}
+use Rattle.segment_table.specs.declared.Segment.{Segment}
 
 -- the most bytes that a label's categories take: a blank and a number each
 abbrev pub categoriesBytes : ℕ

@@ -1,17 +1,17 @@
 // The call that a request makes: its operand line is read, and where it is bad no call is made.
 use common::answer::granted;
 use common::errno::Errno;
+use segment_table::CallAnswer;
+use segment_table::CallOutcome;
+use segment_table::Reply;
+use segment_table::SegmentTable;
+use segment_table::TenantId;
+use segment_table::operator;
 use segments::Action;
 use segments::Call;
-use segments::CallAnswer;
-use segments::CallOutcome;
-use segments::Reply;
-use segments::SegmentTable;
-use segments::TenantId;
 use segments::calls;
-use segments::operator;
-ghost use Rattle.segments.specs.Operator.{makeOf};
-ghost use Rattle.segments.specs.Replies.{Results};
+ghost use Rattle.segment_table.specs.Operator.{makeOf};
+ghost use Rattle.segment_table.specs.Replies.{Results};
 ghost use Rattle.segments_cmd.specs.Session.{admitOn, callOn, invalidStep, madeIn};
 
 // The outcome of a request that makes no call.

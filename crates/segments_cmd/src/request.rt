@@ -1,13 +1,13 @@
 // A command line as a request: which call it asks for, with its numbers. The library tests the numbers.
 use console::command;
+use segment_table::Slot;
+use segment_table::TenantId;
 use segments::Action;
 use segments::CloseCall;
 use segments::LookCall;
 use segments::OpenCall;
 use segments::PostCall;
 use segments::SizeCall;
-use segments::Slot;
-use segments::TenantId;
 ghost use mathlib.Core.Path.{_≡_};
 ghost use Rattle.console.specs.Command.{commandWord};
 ghost use Rattle.segments_cmd.specs.Request.{ofNone, ofOne, ofThree, ofTwo, requestOfLine, takesOperand};

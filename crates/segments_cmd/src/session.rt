@@ -7,12 +7,12 @@ use crate::show;
 use console::command;
 use console::lines::Line;
 use libc::STDERR_FILENO;
-use segments::CallOutcome;
-use segments::SegmentTable;
-use segments::operator;
-use segments::state;
+use segment_table::CallOutcome;
+use segment_table::SegmentTable;
+use segment_table::operator;
+use segment_table::state;
 ghost use mathlib.Core.Path.{_≡_};
-ghost use Rattle.segments.specs.Segments.{emptyTable};
+ghost use Rattle.segment_table.specs.Segments.{emptyTable};
 ghost use Rattle.segments_cmd.specs.Session.{afterCommand, afterLine, afterPiece, between, tableAfter};
 
 // The state, and the request whose operand line is due. Between two requests none is.

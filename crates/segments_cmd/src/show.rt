@@ -7,17 +7,17 @@ use label::Label;
 use label::words;
 use label::words::FoundCategory;
 use label::words::WORDS;
-use segments::SLOTS;
-use segments::Segment;
-use segments::SegmentTable;
-use segments::TENANTS;
-use segments::TenantId;
-use segments::state;
+use segment_table::SLOTS;
+use segment_table::Segment;
+use segment_table::SegmentTable;
+use segment_table::TENANTS;
+use segment_table::TenantId;
+use segment_table::state;
 ghost use Prim.Native.Nat.{_+_, _<_, _≤_};
 ghost use lib.ListN.{length};
 ghost use Rattle.octets.specs.Internal.Put.{Put, PutWithin};
 ghost use Rattle.label.specs.Words.{membersOf};
-ghost use Rattle.segments.specs.Segments.{tenantTotal};
+ghost use Rattle.segment_table.specs.Segments.{tenantTotal};
 ghost use Rattle.segments_cmd.specs.Show.{categoriesBytes, categoryNumbersText, labelTextSize, labelNumbersText, lineBytes, listText, poolText, segmentBytes, segmentText, slotText, tenantText};
 
 // How many categories there can be.

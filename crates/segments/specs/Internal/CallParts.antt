@@ -3,26 +3,20 @@
 use mathlib.Core.Bool.{Bool, true}
 use mathlib.Core.Option.{Option, none, some}
 use mathlib.Core.Path.{_≡_}
-use Prim.Native.Nat.{ℕ, _+_, _-_, _<_}
-use lib.Dec.{leb}
+use Prim.Native.Nat.{_-_, _<_}
 use Rattle.common.specs.Answer as answers
-use Rattle.label.specs.Label
 use Rattle.common.specs.declared.errno.Errno.{Errno}
 use Rattle.segments.specs.Calls.{callRow, callValid, cleared, slotValid}
-use Rattle.segments.specs.Replies.{Grant, done}
-use Rattle.segments.specs.Segments.{ceilingAt, segmentAt, slot, tenantAt, tenantTotal, zeroSegment}
-use Rattle.segments.specs.Slots.{ceilingsOf}
-use Rattle.segments.specs.Sound.{sound}
-use Rattle.segments.specs.declared.CallAnswer.{CallAnswer}
+use Rattle.segment_table.specs.Replies.{Grant, done, unlabeledAnswer}
+use Rattle.segment_table.specs.Segments.{segmentAt, slot, tenantAt, tenantTotal, zeroSegment}
+use Rattle.segment_table.specs.Sound.{sound}
+use Rattle.segment_table.specs.declared.CallAnswer.{CallAnswer}
 use Rattle.segments.specs.declared.Call.{Call}
 use Rattle.segments.specs.declared.Change.{Change}
-use Rattle.segments.specs.declared.CallOutcome.{CallOutcome}
-use Rattle.segments.specs.declared.Reply.{Reply}
-use Rattle.segments.specs.declared.Reply.the-variants.{Refused}
-use Rattle.segments.specs.declared.Segment.{Segment}
-use Rattle.segments.specs.declared.SegmentTable.{SegmentTable}
-use Rattle.segments.specs.declared.Slot.{Slot}
-use Rattle.segments.specs.declared.TenantId.{TenantId}
+use Rattle.segment_table.specs.declared.Reply.the-variants.{Refused}
+use Rattle.segment_table.specs.declared.Segment.{Segment}
+use Rattle.segment_table.specs.declared.SegmentTable.{SegmentTable}
+use Rattle.segment_table.specs.declared.Slot.{Slot}
 use Rattle.segments.specs.declared.calls.View.{View}
 
 -- ---- what the state has for a call
@@ -54,20 +48,7 @@ pub record Started (s : SegmentTable) (c : Call) : Type 0 where
   pub valid : callValid s c ≡ true
   pub cleared : cleared s c ≡ true
 
--- ---- a record that an operator's call gives
-
--- whether the pool has room for the ceiling n in place of t's: 12 if not
-abbrev pub poolAnswer : SegmentTable → TenantId → ℕ → answers.Answer Grant
-poolAnswer s t n = answers.require (leb (ceilingsOf s - ceilingAt s t + n) (s .pool)) 12 (answers.granted done)
-
--- ---- outcomes that show no label
-
--- an answer that shows no label
-abbrev pub unlabeledAnswer : Reply → CallAnswer
-unlabeledAnswer r = record { reply = r; label = Label.zeroLabel }
-
-abbrev pub unlabeled : SegmentTable → Reply → CallOutcome
-unlabeled s r = record { table = s; answer = unlabeledAnswer r }
+-- ---- refusals
 
 -- the change of a refusal
 abbrev pub refusedWith : Errno → Change

@@ -5,8 +5,9 @@ use Prim.Native.Nat.{_<_}
 use borrow.Author.Tests.{leb-false}
 use lib.Dec.{leb}
 use Rattle.common.proofs.BoolLaws.{neither}
-use Rattle.segments.specs.Replies.{applied, isRefusal}
-use Rattle.segments.specs.Segments.{slotTotal}
+use Rattle.segments.specs.Calls.{applied}
+use Rattle.segment_table.specs.Replies.{isRefusal}
+use Rattle.segment_table.specs.Segments.{slotTotal}
 use Rattle.segments.specs.declared.Change.{Change}
 use Rattle.abi.specs.Outcome.{appliedTo, handedBack}
 use Rattle.abi.specs.declared.outcome.COutcome.{COutcome}

@@ -2,8 +2,8 @@ use borrow.Author.Needs.{needs}
 use mathlib.Core.Path.{sym, ap, _∙_}
 use Rattle.common.specs.Answer.{outcomeOf}
 use Rattle.common.specs.declared.answer.Outcome.{Outcome}
-use Rattle.segments.specs.Replies.{done}
-use Rattle.segments.proofs.ResultsLaws.{decides-stopped, start-passed}
+use Rattle.segment_table.specs.Replies.{done}
+use Rattle.segments.proofs.DecidesLaws.{decides-stopped, start-passed}
 use Rattle.segments.proofs.calls.checked.Statement.{statement}
 use Rattle.segments.proofs.calls.checked.Tie as tie
 

@@ -1,6 +1,8 @@
+-- The two refusals are those of an unsound state and of a number out of bounds, which makes the call invalid (`out-of-bounds`). Past them
+-- the view has the tenant's record and the named slot's segment, which is what `checked` asks for.
 use borrow.Author.Needs.{needs}
 use mathlib.Core.Bool.{Bool, true, _&&_}
-use mathlib.Core.Path.{_≡_, sym, ap, _∙_}
+use mathlib.Core.Path.{_≡_, ap, _∙_}
 use borrow.Author.Tests.{ltb-true}
 use lib.Dec.{ltb}
 use Rattle.common.specs.declared.errno.Errno.the-variants.{Invalid}
@@ -8,9 +10,9 @@ use Rattle.common.proofs.BoolLaws.{first-true, second-true, told-false, told-tr
 use Prim.Native.Nat.{_<_}
 use Rattle.segments.specs.Calls.{callRow}
 use Rattle.segments.specs.Internal.CallParts.{namedValid}
-use Rattle.segments.specs.Segments.{tenantTotal}
-use Rattle.segments.specs.Sound.{sound}
-use Rattle.segments.proofs.ResultsLaws.{decides-refused, out-of-bounds, unsound}
+use Rattle.segment_table.specs.Segments.{tenantTotal}
+use Rattle.segment_table.specs.Sound.{sound}
+use Rattle.segments.proofs.DecidesLaws.{decides-refused, out-of-bounds, unsound}
 use Rattle.segments.proofs.calls.decide.Statement.{statement}
 use Rattle.segments.proofs.calls.decide.Tie as tie
 

@@ -1,13 +1,13 @@
+-- Each test that fails is a refusal of `accessOf` (`access-refused`), the tests before it passed; what is left at the end are the facts of a
+-- grant, which `decides-granted` puts together.
 use borrow.Author.Needs.{needs}
 use mathlib.Core.Bool.{true}
-use mathlib.Core.Option.{Option, none, some}
 use mathlib.Core.Path.{_≡_, sym, ap, _∙_}
 use Rattle.common.specs.declared.errno.Errno.the-variants.{Access, NoMem, NoSpace}
 use Rattle.common.proofs.BoolLaws.{told-false, told-true}
 use Rattle.segments.specs.Calls.{accessOf, callRow, slotFor}
-use Rattle.segments.specs.Internal.Owners.{slotOptionOf}
-use Rattle.segments.specs.declared.slots.SlotOption.{SlotOption}
-use Rattle.segments.proofs.ResultsLaws.{decides-granted, access-refused}
+use Rattle.segment_table.specs.Slots.{slotOptionOf}
+use Rattle.segments.proofs.DecidesLaws.{decides-granted, access-refused}
 use Rattle.segments.proofs.calls.started.Statement.{statement}
 use Rattle.segments.proofs.calls.started.Tie as tie
 

@@ -1,8 +1,8 @@
 use borrow.Author.Needs.{needs}
 use borrow.Author.Tests.{lt-ltb}
 use Rattle.segments.specs.Calls.{callValid}
-use Rattle.segments.specs.Segments.{tenantTotal}
-use Rattle.segments.specs.Sound.{admitted}
+use Rattle.segment_table.specs.Segments.{tenantTotal}
+use Rattle.segment_table.specs.Sound.{admitted}
 use Rattle.segments.proofs.calls.valid.Statement.{statement}
 use Rattle.segments.proofs.calls.valid.Tie as tie
 

@@ -1,12 +1,12 @@
 use borrow.Author.Needs.{needs}
-use mathlib.Core.Path.{_≡_, refl, sym, ap, _∙_}
+use mathlib.Core.Path.{refl, sym, ap, _∙_}
 use Prim.Native.Nat.{_<_}
 use native.Mathlib.Omega.{arith}
 use borrow.Author.Tests.{ltb-true}
 use Rattle.segments.specs.Internal.CallParts.{namedValid}
-use Rattle.segments.specs.Internal.Owners.{slotOptionOf}
-use Rattle.segments.specs.Segments.{slotTotal}
-use Rattle.segments.specs.declared.slots.SlotOption.{SlotOption}
+use Rattle.segment_table.specs.Slots.{slotOptionOf}
+use Rattle.segment_table.specs.Segments.{slotTotal}
+use Rattle.segment_table.specs.declared.slots.SlotOption.{SlotOption}
 use Rattle.segments.proofs.calls.view_of.Statement.{statement}
 use Rattle.segments.proofs.calls.view_of.Tie as tie
 

@@ -1,6 +1,6 @@
 use borrow.Author.Needs.{needs}
 use Rattle.segments.specs.Calls.{visible}
-use Rattle.segments.specs.Slots.{filled}
+use Rattle.segment_table.specs.Slots.{filled}
 use Rattle.segments.proofs.calls.visible.Statement.{statement}
 use Rattle.segments.proofs.calls.visible.Tie as tie
 

@@ -1,6 +1,6 @@
 use borrow.Author.Needs.{needs}
 use Rattle.segments.specs.Calls.{writable}
-use Rattle.segments.specs.Slots.{filled}
+use Rattle.segment_table.specs.Slots.{filled}
 use Rattle.segments.proofs.calls.writable.Statement.{statement}
 use Rattle.segments.proofs.calls.writable.Tie as tie
 

@@ -1,5 +1,5 @@
 use borrow.Author.Needs.{needs}
-use Rattle.segments.specs.Operator.{makeAnswer, makeOf}
+use Rattle.segment_table.specs.Operator.{makeAnswer, makeOf}
 use Rattle.segments_cmd.proofs.CallLaws.{replied}
 use Rattle.segments_cmd.proofs.session.start.Statement.{statement}
 use Rattle.segments_cmd.proofs.session.start.Tie as tie

@@ -2,7 +2,7 @@ use borrow.Author.Needs.{needs}
 use mathlib.Core.Path.{_≡_}
 use Prim.Native.Nat.{_-_, _≤_}
 use lib.ListN.{length}
-use Rattle.segments.specs.Segments.{tenantTotal}
+use Rattle.segment_table.specs.Segments.{tenantTotal}
 use Rattle.segments_cmd.proofs.show.print_tenants.Statement.{statement}
 use Rattle.segments_cmd.proofs.show.print_tenants.Tie as tie
 

@@ -1,0 +1,4 @@
+pub mod Owners
+pub mod Remainders
+pub mod SoundParts
+pub mod TableParts
