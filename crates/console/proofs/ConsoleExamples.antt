@@ -66,17 +66,17 @@ ends = (refl, refl, refl)
 -- ---- commands
 
 -- `abc 007 12`, LF
-two-numbers : commandOf (abc ++ (blank ∷ 48 ∷ 48 ∷ 55 ∷ blank ∷ 49 ∷ 50 ∷ lf ∷ [])) ≡ withNumbers (7 ∷ 12 ∷ [])
+two-numbers : commandOf (abc ++ (blank ∷ 48 ∷ 48 ∷ 55 ∷ blank ∷ 49 ∷ 50 ∷ lf ∷ [])) ≡ withNumbers 3 (7 ∷ 12 ∷ [])
 unfolding commandOf bodyCommandOf beforeLf endedOf indexOf split numbersOf fieldNumber digits decimalFrom
 two-numbers = refl
 
 -- no numbers
-word-alone : commandOf (abc ++ (lf ∷ [])) ≡ withNumbers []
+word-alone : commandOf (abc ++ (lf ∷ [])) ≡ withNumbers 3 []
 unfolding commandOf bodyCommandOf beforeLf endedOf indexOf split numbersOf
 word-alone = refl
 
 -- six numbers, and seven
-six-numbers : commandOf (97 ∷ blank ∷ 49 ∷ blank ∷ 49 ∷ blank ∷ 49 ∷ blank ∷ 49 ∷ blank ∷ 49 ∷ blank ∷ 49 ∷ lf ∷ []) ≡ withNumbers (replicate 6 1)
+six-numbers : commandOf (97 ∷ blank ∷ 49 ∷ blank ∷ 49 ∷ blank ∷ 49 ∷ blank ∷ 49 ∷ blank ∷ 49 ∷ blank ∷ 49 ∷ lf ∷ []) ≡ withNumbers 1 (replicate 6 1)
 unfolding commandOf bodyCommandOf beforeLf endedOf indexOf split numbersOf fieldNumber digits decimalFrom
 six-numbers = refl
 

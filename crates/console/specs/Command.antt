@@ -53,19 +53,19 @@ unfoldable pub commandWord : List ℕ → List ℕ
 commandWord line = firstField (split blank (beforeLf line))
 
 abbrev pub invalidCommand : Command
-invalidCommand = record { valid = false; count = 0; numbers = replicate most 0 }
+invalidCommand = record { valid = false; word = 0; count = 0; numbers = replicate most 0 }
 
-abbrev pub withNumbers : List ℕ → Command
-withNumbers ns = record { valid = true; count = length ns; numbers = ns ++ replicate (most - length ns) 0 }
+abbrev pub withNumbers : ℕ → List ℕ → Command
+withNumbers word ns = record { valid = true; word = word; count = length ns; numbers = ns ++ replicate (most - length ns) 0 }
 
--- the command with those numbers, if there are no more than a command may have
-abbrev pub ofNumbers : Option (List ℕ) → Command
-ofNumbers none = invalidCommand
-ofNumbers (some ns) = cond (leb (length ns) most) (withNumbers ns) invalidCommand
+-- the command with a word of so many bytes and those numbers, if there are no more than a command may have
+abbrev pub ofNumbers : ℕ → Option (List ℕ) → Command
+ofNumbers word none = invalidCommand
+ofNumbers word (some ns) = cond (leb (length ns) most) (withNumbers word ns) invalidCommand
 
--- the fields after the first, which is the word, are the numbers
+-- the first field, which ends at the first blank, is the word, and those after it are the numbers
 unfoldable pub bodyCommandOf : List ℕ → Command
-bodyCommandOf body = ofNumbers (numbersOf (otherFields (split blank body)))
+bodyCommandOf body = ofNumbers (indexOf blank body) (numbersOf (otherFields (split blank body)))
 
 -- what a command line says
 unfoldable pub commandOf : List ℕ → Command

@@ -2,16 +2,17 @@
 use octets::BLANK;
 use octets::LF;
 ghost use mathlib.Core.Path.{_≡_};
-ghost use Rattle.octets.specs.Bytes.{sameBytes};
-ghost use Rattle.console.specs.Command.{bodyCommandOf, commandOf, invalidCommand, fieldNumber, skippedOf, commandWord};
+ghost use Rattle.console.specs.Command.{bodyCommandOf, commandOf, invalidCommand, fieldNumber, skippedOf};
 ghost use Rattle.console.specs.Internal.Numbers.{numberReadOf};
 
 // How many numbers a command has at most.
 pub const MAX_NUMBERS: usize = 6;
 
-// The numbers of a command line. Those past count are zeros; where the line is not valid, count is 0.
+// The word of a command line, which is so many bytes at the line's front, and its numbers. The numbers past count are zeros; where the line is not valid,
+// word and count are 0.
 pub struct Command {
     pub valid: bool,
+    pub word: usize,
     pub count: usize,
     pub numbers: [u64; MAX_NUMBERS],
 }
@@ -31,6 +32,7 @@ fn invalid() -> Command
     let numbers = [0u64; MAX_NUMBERS];
     Command {
         valid: false,
+        word: 0,
         count: 0,
         numbers,
     }
@@ -63,11 +65,12 @@ fn read_number(text: &[u8]) -> Number
     Number::Value(value)
 }
 
-// The numbers after the first blank.
+// The word up to the first blank, and the numbers after it.
 fn parse_body(body: &[u8]) -> Command
     ensures { λ r. ⌜ r ≡ bodyCommandOf (now (body .entry)) ⌝ }
 {
-    let mut at = octets::index_of(BLANK, body);
+    let word = octets::index_of(BLANK, body);
+    let mut at = word;
     let mut count = 0;
     let mut numbers = [0u64; MAX_NUMBERS];
     while at < body.len() {
@@ -85,6 +88,7 @@ fn parse_body(body: &[u8]) -> Command
     }
     Command {
         valid: true,
+        word,
         count,
         numbers,
     }
@@ -99,16 +103,6 @@ pub fn parse(line: &[u8]) -> Command
         return parse_body(&line[..end]);
     }
     invalid()
-}
-
-// Whether the line's word, its bytes up to the first blank or LF, is word.
-pub fn is_word(line: &[u8], word: &[u8]) -> bool
-    ensures { λ r. ⌜ r ≡ sameBytes (commandWord (now (line .entry))) (now (word .entry)) ⌝ }
-{
-    let end = octets::index_of(LF, line);
-    let body = &line[..end];
-    let n = octets::index_of(BLANK, body);
-    octets::same(&body[..n], word)
 }
 
 // Whether a line between requests gets no answer: an empty line or a comment. A bad line, which comes as no bytes at all, gets one.

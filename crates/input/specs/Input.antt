@@ -1,15 +1,17 @@
--- Lines of standard input, one step at a time.
-use mathlib.Core.Bool.{Bool, true, false, _&&_, cond}
+-- Lines of standard input: one step at a time, and one line at a time.
+use mathlib.Core.Bool.{Bool, true, false, not, _&&_, cond}
 use mathlib.Core.List.{List}
 use mathlib.Core.Path.{_≡_}
-use Prim.Native.Nat.{ℕ, _-_, _≤_}
+use Prim.Native.Nat.{ℕ, zero, suc, _-_, _≤_, _<_}
 use lib.Dec.{eqb, ltb}
 use lib.ListN.{drop, length, take}
 use Rattle.console.specs.Lines.{pieceBuffer, held, lineAtEnd, pieceOf}
-use Rattle.console.specs.declared.lines.Line.the-variants.{More, Whole}
+use Rattle.console.specs.declared.lines.Line.{Line}
+use Rattle.console.specs.declared.lines.Line.the-variants.{More, Whole, Bad}
 use Rattle.console.specs.declared.lines.Partial.{Partial}
 use Rattle.console.specs.declared.lines.Piece.{Piece}
 use Rattle.input.specs.declared.Input.{Input}
+use Rattle.input.specs.declared.Lines.{Lines}
 use Rattle.input.specs.declared.Turn.{Turn}
 
 -- nothing is held and nothing is left to take
@@ -69,7 +71,68 @@ pub record Stepped (i : Input) (chunk line : List ℕ) (r : Turn) (chunkThen lin
   pub same-line-length : length lineThen ≡ length line
   pub whole : (n : ℕ) → r .line ≡ Whole n → n ≤ length lineThen
 
--- r turns are left. The second follows, and is stated for the measure of a loop
-pub record TurnsLeft (turns : ℕ) (i : Input) (r : ℕ) : Type 0 where
-  pub turns-is : r ≡ cond (i .ended) 0 (turns - 1)
-  pub fewer : r ≤ turns - 1
+-- ---- lines
+
+-- more lines than any input has
+abbrev pub mostLines : ℕ
+mostLines = 18446744073709551615
+
+abbrev pub linesWith : Input → ℕ → ℕ → Lines
+linesWith i length left = record { input = i; length = length; left = left }
+
+-- whether a step is to be followed by another: it made no line and did not find the end
+abbrev pub waitsBy : Line → Bool → Bool
+waitsBy More ended = not ended
+waitsBy (Whole n) ended = false
+waitsBy Bad ended = false
+
+abbrev pub waitsOf : Turn → Bool
+waitsOf t = waitsBy (t .line) (t .input .ended)
+
+-- one step more, after steps that made a turn and buffers of which P holds
+pub record StepMore (P : Turn → List ℕ → List ℕ → Type 0) (t : Turn) (chunkThen lineThen : List ℕ) : Type 0 where
+  pub turn : Turn
+  pub chunk : List ℕ
+  pub line : List ℕ
+  pub before : P turn chunk line
+  pub waiting : waitsOf turn ≡ true
+  pub step : Stepped (turn .input) chunk line t chunkThen lineThen
+
+-- where the input stands before a step
+abbrev pub beforeStep : Input → Turn
+beforeStep i = record { input = i; line = More }
+
+-- t and the buffers are what n steps make, none of which is taken after a line was made or the end was found
+unfoldable pub Steps : ℕ → Input → List ℕ → List ℕ → Turn → List ℕ → List ℕ → Type 0
+Steps zero i chunk line t chunkThen lineThen = (t ≡ beforeStep i) × (chunkThen ≡ chunk) × (lineThen ≡ line)
+Steps (suc n) i chunk line t chunkThen lineThen = StepMore (Steps n i chunk line) t chunkThen lineThen
+
+-- t and the buffers are what steps make, until there is a line or the end, unless there were too many of them. The last two follow, and are stated
+-- for callers
+pub record Waited (i : Input) (chunk line : List ℕ) (t : Turn) (chunkThen lineThen : List ℕ) : Type 0 where
+  pub count : ℕ
+  pub steps : Steps count i chunk line t chunkThen lineThen
+  pub done : count < mostLines → waitsOf t ≡ false
+  pub same-chunk-length : length chunkThen ≡ length chunk
+  pub same-line-length : length lineThen ≡ length line
+
+-- the lines after a step, where so many may still come: a bad line has no bytes, and where there is no line none are left
+abbrev pub linesBy : ℕ → Input → Line → Lines
+linesBy left i More = linesWith i 0 0
+linesBy left i (Whole n) = linesWith i n left
+linesBy left i Bad = linesWith i 0 left
+
+-- r and the buffers are what steps make of l
+pub record LineFound (l : Lines) (chunk line : List ℕ) (r : Lines) (chunkThen lineThen : List ℕ) : Type 0 where
+  pub turn : Turn
+  pub waited : Waited (l .input) chunk line turn chunkThen lineThen
+  pub lines-is : r ≡ linesBy (l .left - 1) (turn .input) (turn .line)
+
+-- r and the two buffers are what the next line makes: where none is left nothing is read. The last three follow, and are stated for callers and for
+-- the measure of a loop
+pub record NextLine (l : Lines) (chunk line : List ℕ) (r : Lines) (chunkThen lineThen : List ℕ) : Type 0 where
+  pub over : eqb (l .left) 0 ≡ true → (r ≡ linesWith (l .input) 0 0) × (chunkThen ≡ chunk) × (lineThen ≡ line)
+  pub found : eqb (l .left) 0 ≡ false → LineFound l chunk line r chunkThen lineThen
+  pub same-chunk-length : length chunkThen ≡ length chunk
+  pub same-line-length : length lineThen ≡ length line
+  pub fewer : r .left ≤ l .left - 1

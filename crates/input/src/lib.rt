@@ -1,5 +1,5 @@
-// Lines of standard input, one step at a time, in two buffers that the program lends: a chunk to read into, and one for a line. A program takes
-// a step and works on its line until the input has ended.
+// Lines of standard input, one at a time, in two buffers that the program lends: a chunk to read into, and one for a line. A program asks for the
+// next line and works on it until none is left.
 use console::lines;
 use console::lines::Line;
 use console::lines::Partial;
@@ -7,7 +7,7 @@ use libc::STDIN_FILENO;
 ghost use mathlib.Core.Bool.{false};
 ghost use mathlib.Core.Path.{_≡_};
 ghost use lib.ListN.{length};
-ghost use Rattle.input.specs.Input.{Pieced, Refilled, Stepped, TurnsLeft, emptyInput, turnAfterRead};
+ghost use Rattle.input.specs.Input.{NextLine, Pieced, Refilled, Stepped, Waited, emptyInput, linesBy, linesWith, mostLines, turnAfterRead, waitsOf};
 
 // Where the input stands.
 pub struct Input {
@@ -22,9 +22,19 @@ pub struct Input {
 }
 
 // What a step makes: no line yet, a line at the front of the buffer, or a bad one; and where the input stands then.
-pub struct Turn {
+struct Turn {
+    input: Input,
+    line: Line,
+}
+
+// The line at hand, and where the input stands.
+pub struct Lines {
     pub input: Input,
-    pub line: Line,
+    // How many bytes the line has at the front of the buffer. A bad line has none.
+    pub length: usize,
+    // How many lines may still come, with the one at hand: none at the end. A proved loop has to end, and nothing says that the input does, so they are
+    // counted down, from a number that no run uses up.
+    pub left: u64,
 }
 
 // Nothing is held and nothing is left to take.
@@ -40,10 +50,21 @@ fn empty_input(ended: bool, failed: bool) -> Input
     }
 }
 
-pub fn start() -> Input
-    ensures { λ r. ⌜ r ≡ emptyInput false false ⌝ }
+// No line is at hand yet.
+pub fn start() -> Lines
+    ensures { λ r. ⌜ r ≡ linesWith (emptyInput false false) 0 mostLines ⌝ }
 {
-    empty_input(false, false)
+    lines_with(empty_input(false, false), 0, u64::MAX)
+}
+
+fn lines_with(input: Input, length: usize, left: u64) -> Lines
+    ensures { λ r. ⌜ r ≡ linesWith input length left ⌝ }
+{
+    Lines {
+        input,
+        length,
+        left,
+    }
 }
 
 // Takes the next piece of the chunk.
@@ -98,7 +119,7 @@ fn refill(partial: Partial, chunk: &mut [u8]) -> Turn
 
 // Takes the next piece of the chunk where some of it is left, and reads once where none is. What is read is open: the contract says nothing of
 // the bytes, and of their number that the chunk has room for them and that none are the end.
-pub fn step(i: Input, chunk: &mut [u8], line: &mut [u8]) -> Turn
+fn step(i: Input, chunk: &mut [u8], line: &mut [u8]) -> Turn
     ensures { λ r. ⌜ Stepped i (now (chunk .entry)) (now (line .entry)) r (now (chunk .exit)) (now (line .exit)) ⌝ }
 {
     if (i.at < i.filled) & (i.at < chunk.len()) {
@@ -108,16 +129,55 @@ pub fn step(i: Input, chunk: &mut [u8], line: &mut [u8]) -> Turn
     refill(partial, chunk)
 }
 
-// The turns that are left to a program's loop: none at the end of the input. A proved loop has to end, and nothing says that the input does, so
-// its turns are counted down, from a number that no run uses up.
-pub fn turns_left(turns: u64, i: Input) -> u64
-    ensures { λ r. ⌜ TurnsLeft turns i r ⌝ }
+// Whether a step is to be followed by another: it made no line and did not find the end.
+fn waits(t: Turn) -> bool
+    ensures { λ r. ⌜ r ≡ waitsOf t ⌝ }
 {
-    if i.ended {
-        return 0;
+    let input = t.input;
+    let line = t.line;
+    match line {
+        Line::More => !input.ended,
+        Line::Whole(_) => false,
+        Line::Bad => false,
     }
-    if turns == 0 {
-        return 0;
+}
+
+// Takes steps until there is a line or the end.
+fn steps(i: Input, chunk: &mut [u8], line: &mut [u8]) -> Turn
+    ensures { λ r. ⌜ Waited i (now (chunk .entry)) (now (line .entry)) r (now (chunk .exit)) (now (line .exit)) ⌝ }
+{
+    let mut t = Turn {
+        input: i,
+        line: Line::More,
+    };
+    let mut turns = u64::MAX;
+    while waits(t) & (turns > 0) {
+        t = step(t.input, chunk, line);
+        turns -= 1;
     }
-    turns - 1
+    t
+}
+
+// The lines after a step, where so many may still come.
+fn after_step(left: u64, t: Turn) -> Lines
+    ensures { λ r. ⌜ r ≡ linesBy left (t .input) (t .line) ⌝ }
+{
+    let input = t.input;
+    let line = t.line;
+    match line {
+        Line::More => lines_with(input, 0, 0),
+        Line::Whole(n) => lines_with(input, n, left),
+        Line::Bad => lines_with(input, 0, left),
+    }
+}
+
+// The next line, by as many steps as it takes. At the end there is none, and nothing is read.
+pub fn next(l: Lines, chunk: &mut [u8], line: &mut [u8]) -> Lines
+    ensures { λ r. ⌜ NextLine l (now (chunk .entry)) (now (line .entry)) r (now (chunk .exit)) (now (line .exit)) ⌝ }
+{
+    if l.left == 0 {
+        return lines_with(l.input, 0, 0);
+    }
+    let t = steps(l.input, chunk, line);
+    after_step(l.left - 1, t)
 }

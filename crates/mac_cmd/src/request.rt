@@ -23,66 +23,66 @@ pub(crate) enum Request {
 }
 
 // The command of that word about labels with no number.
-fn of_labels(line: &[u8]) -> Request {
-    if command::is_word(line, b"dominates") {
+fn of_labels(word: &[u8]) -> Request {
+    if octets::same(word, b"dominates") {
         return Request::Dominates;
     }
-    if command::is_word(line, b"equal") {
+    if octets::same(word, b"equal") {
         return Request::Equal;
     }
-    if command::is_word(line, b"upper") {
+    if octets::same(word, b"upper") {
         return Request::Upper;
     }
-    if command::is_word(line, b"lower") {
+    if octets::same(word, b"lower") {
         return Request::Lower;
     }
-    if command::is_word(line, b"count") {
+    if octets::same(word, b"count") {
         return Request::Count;
     }
-    if command::is_word(line, b"region") {
+    if octets::same(word, b"region") {
         return Request::Region;
     }
     Request::Invalid
 }
 
 // The command of that word about ranges, tuples and lines with no number.
-fn of_sets(line: &[u8]) -> Request {
-    if command::is_word(line, b"contains") {
+fn of_sets(word: &[u8]) -> Request {
+    if octets::same(word, b"contains") {
         return Request::Contains;
     }
-    if command::is_word(line, b"meet") {
+    if octets::same(word, b"meet") {
         return Request::Meet;
     }
-    if command::is_word(line, b"within") {
+    if octets::same(word, b"within") {
         return Request::Within;
     }
-    if command::is_word(line, b"empty") {
+    if octets::same(word, b"empty") {
         return Request::Empty;
     }
-    if command::is_word(line, b"split") {
+    if octets::same(word, b"split") {
         return Request::Split;
     }
-    if command::is_word(line, b"echo") {
+    if octets::same(word, b"echo") {
         return Request::Echo;
     }
     Request::Invalid
 }
 
 // The command of that word with no number.
-fn of_none(line: &[u8]) -> Request {
-    let r = of_labels(line);
+fn of_none(word: &[u8]) -> Request {
+    let r = of_labels(word);
     if let Request::Invalid = r {
-        return of_sets(line);
+        return of_sets(word);
     }
     r
 }
 
 // The command of that word with one number.
-fn of_one(line: &[u8], n: u64) -> Request {
-    if command::is_word(line, b"valid") {
+fn of_one(word: &[u8], n: u64) -> Request {
+    if octets::same(word, b"valid") {
         return Request::Valid(n);
     }
-    if command::is_word(line, b"next") {
+    if octets::same(word, b"next") {
         return Request::Next(n);
     }
     Request::Invalid
@@ -93,11 +93,12 @@ pub(crate) fn of_line(line: &[u8]) -> Request {
     if !c.valid {
         return Request::Invalid;
     }
+    let word = octets::front(line, c.word);
     let numbers = c.numbers;
     let count = c.count;
     match count {
-        0 => of_none(line),
-        1 => of_one(line, numbers[0]),
+        0 => of_none(word),
+        1 => of_one(word, numbers[0]),
         _ => Request::Invalid,
     }
 }

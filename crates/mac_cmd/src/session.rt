@@ -5,7 +5,6 @@ use crate::call;
 use crate::request;
 use crate::request::Request;
 use console::command;
-use console::lines::Line;
 use libc::STDERR_FILENO;
 
 // The request whose operand lines are due. Between two requests none is.
@@ -89,20 +88,11 @@ fn take_operand(s: Session, line: &[u8], operand: &mut [u8]) -> Session {
     respond(r, line, line)
 }
 
-fn take_line(s: Session, line: &[u8], operand: &mut [u8]) -> Session {
+pub(crate) fn take_line(s: Session, line: &[u8], operand: &mut [u8]) -> Session {
     if s.due == 0 {
         return take_command(line);
     }
     take_operand(s, line, operand)
-}
-
-// What a step of the input makes: no line yet, a line at the front of the buffer, or a bad one.
-pub(crate) fn take_piece(s: Session, l: Line, line: &[u8], operand: &mut [u8]) -> Session {
-    match l {
-        Line::More => s,
-        Line::Whole(n) => take_line(s, octets::front(line, n), operand),
-        Line::Bad => take_line(s, octets::front(line, 0), operand),
-    }
 }
 
 // The end of the input: a request that lacks operand lines is refused, and a read that failed is told.

@@ -6,7 +6,6 @@ use crate::request::NUMBERS;
 use crate::request::OPERANDS;
 use console::command;
 use console::command::MAX_NUMBERS;
-use console::lines::Line;
 use libc::STDERR_FILENO;
 
 // The request whose operand lines are due. Between two requests none is.
@@ -43,7 +42,8 @@ fn take_command(line: &[u8]) -> Session {
         return between();
     }
     let c = command::parse(line);
-    if !command::is_word(line, b"check") | !c.valid | (c.count != NUMBERS) {
+    let word = octets::front(line, c.word);
+    if !octets::same(word, b"check") | !c.valid | (c.count != NUMBERS) {
         answer::print_invalid();
         return between();
     }
@@ -66,20 +66,11 @@ fn take_operand(s: Session, line: &[u8]) -> Session {
     respond(draft)
 }
 
-fn take_line(s: Session, line: &[u8]) -> Session {
+pub(crate) fn take_line(s: Session, line: &[u8]) -> Session {
     if s.due == 0 {
         return take_command(line);
     }
     take_operand(s, line)
-}
-
-// What a step of the input makes: no line yet, a line at the front of the buffer, or a bad one.
-pub(crate) fn take_piece(s: Session, l: Line, line: &[u8]) -> Session {
-    match l {
-        Line::More => s,
-        Line::Whole(n) => take_line(s, octets::front(line, n)),
-        Line::Bad => take_line(s, octets::front(line, 0)),
-    }
 }
 
 // The end of the input: a request that lacks operand lines is refused, and a read that failed is told.

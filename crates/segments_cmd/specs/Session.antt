@@ -1,12 +1,9 @@
--- What a request does to the state, and what a line does to a session.
+-- What a request does to the state, and what a line does to a session. A bad line comes as no bytes.
 use mathlib.Core.Bool.{cond}
 use mathlib.Core.List.{List}
 use mathlib.Core.Option.{none}
 use Prim.Native.Nat.{ℕ}
-use lib.ListN.{take}
 use Rattle.console.specs.Command.{skippedOf}
-use Rattle.console.specs.declared.lines.Line.{Line}
-use Rattle.console.specs.declared.lines.Line.the-variants.{More, Whole, Bad}
 use Rattle.hexline.specs.Line.{readLabelLine, readTupleLine}
 use Rattle.common.specs.Answer.{Answer, granted, refused}
 use Rattle.segments.specs.Calls.{callOf, stepOf}
@@ -69,9 +66,3 @@ afterCommand s line = cond (skippedOf line) (between s) (afterRequest s (request
 -- any line: the operand line of the request that waits for one, else a command line
 abbrev pub afterLine : Session → List ℕ → Session
 afterLine x line = cond (takesOperand (x .request)) (between (tableAfter (x .table) (x .request) line)) (afterCommand (x .table) line)
-
--- a step of the input: a bad line is taken as one of no bytes
-abbrev pub afterPiece : Session → Line → List ℕ → Session
-afterPiece x More buffer = x
-afterPiece x (Whole n) buffer = afterLine x (take n buffer)
-afterPiece x Bad buffer = afterLine x (take 0 buffer)

@@ -8,17 +8,13 @@ mod show;
 
 // Answers the requests of the input, which is read into the chunk. The line at hand is in the second buffer.
 fn run(chunk: &mut [u8], line: &mut [u8]) {
-    let mut i = input::start();
     let mut s = session::start();
-    let mut turns = u64::MAX;
-    while turns > 0 {
-        let turn = input::step(i, chunk, line);
-        let l = turn.line;
-        s = session::take_piece(s, l, line);
-        i = turn.input;
-        turns = input::turns_left(turns, i);
+    let mut l = input::next(input::start(), chunk, line);
+    while l.left > 0 {
+        s = session::take_line(s, octets::front(line, l.length));
+        l = input::next(l, chunk, line);
     }
-    session::finish(s, i.failed);
+    session::finish(s, l.input.failed);
 }
 
 fn main() {

@@ -9,7 +9,6 @@ use segments::OpenCall;
 use segments::PostCall;
 use segments::SizeCall;
 ghost use mathlib.Core.Path.{_≡_};
-ghost use Rattle.console.specs.Command.{commandWord};
 ghost use Rattle.segments_cmd.specs.Request.{ofNone, ofOne, ofThree, ofTwo, requestOfLine, takesOperand};
 
 pub(crate) enum Request {
@@ -25,55 +24,55 @@ pub(crate) enum Request {
 }
 
 // The command of that word with no number.
-fn of_none(line: &[u8]) -> Request
-    ensures { λ r. ⌜ r ≡ ofNone (commandWord (now (line .entry))) ⌝ }
+fn of_none(word: &[u8]) -> Request
+    ensures { λ r. ⌜ r ≡ ofNone (now (word .entry)) ⌝ }
 {
-    if command::is_word(line, b"show") {
+    if octets::same(word, b"show") {
         return Request::Show;
     }
     Request::Invalid
 }
 
 // The command of that word with one number.
-fn of_one(line: &[u8], n: u64) -> Request
-    ensures { λ r. ⌜ r ≡ ofOne (commandWord (now (line .entry))) n ⌝ }
+fn of_one(word: &[u8], n: u64) -> Request
+    ensures { λ r. ⌜ r ≡ ofOne (now (word .entry)) n ⌝ }
 {
-    if command::is_word(line, b"make") {
+    if octets::same(word, b"make") {
         return Request::Make(n);
     }
     Request::Invalid
 }
 
 // The command of that word with a tenant and one number more.
-fn of_two(line: &[u8], tenant: TenantId, n: u64) -> Request
-    ensures { λ r. ⌜ r ≡ ofTwo (commandWord (now (line .entry))) tenant n ⌝ }
+fn of_two(word: &[u8], tenant: TenantId, n: u64) -> Request
+    ensures { λ r. ⌜ r ≡ ofTwo (now (word .entry)) tenant n ⌝ }
 {
-    if command::is_word(line, b"admit") {
+    if octets::same(word, b"admit") {
         return Request::Admit(tenant, n);
     }
-    if command::is_word(line, b"ceiling") {
+    if octets::same(word, b"ceiling") {
         return Request::SetCeiling(tenant, n);
     }
-    if command::is_word(line, b"open") {
+    if octets::same(word, b"open") {
         return Request::Call(tenant, Action::Open(OpenCall { pages: n }));
     }
-    if command::is_word(line, b"look") {
+    if octets::same(word, b"look") {
         return Request::Call(tenant, Action::Look(LookCall { slot: Slot(n) }));
     }
-    if command::is_word(line, b"close") {
+    if octets::same(word, b"close") {
         return Request::Call(tenant, Action::Close(CloseCall { slot: Slot(n) }));
     }
     Request::Invalid
 }
 
 // The command of that word with a tenant, a slot and one number more.
-fn of_three(line: &[u8], tenant: TenantId, slot: Slot, n: u64) -> Request
-    ensures { λ r. ⌜ r ≡ ofThree (commandWord (now (line .entry))) tenant slot n ⌝ }
+fn of_three(word: &[u8], tenant: TenantId, slot: Slot, n: u64) -> Request
+    ensures { λ r. ⌜ r ≡ ofThree (now (word .entry)) tenant slot n ⌝ }
 {
-    if command::is_word(line, b"size") {
+    if octets::same(word, b"size") {
         return Request::Call(tenant, Action::Size(SizeCall { slot, pages: n }));
     }
-    if command::is_word(line, b"post") {
+    if octets::same(word, b"post") {
         return Request::Call(tenant, Action::Post(PostCall { slot, version: n }));
     }
     Request::Invalid
@@ -86,13 +85,14 @@ pub(crate) fn of_line(line: &[u8]) -> Request
     if !c.valid {
         return Request::Invalid;
     }
+    let word = octets::front(line, c.word);
     let numbers = c.numbers;
     let count = c.count;
     match count {
-        0 => of_none(line),
-        1 => of_one(line, numbers[0]),
-        2 => of_two(line, TenantId(numbers[0]), numbers[1]),
-        3 => of_three(line, TenantId(numbers[0]), Slot(numbers[1]), numbers[2]),
+        0 => of_none(word),
+        1 => of_one(word, numbers[0]),
+        2 => of_two(word, TenantId(numbers[0]), numbers[1]),
+        3 => of_three(word, TenantId(numbers[0]), Slot(numbers[1]), numbers[2]),
         _ => Request::Invalid,
     }
 }

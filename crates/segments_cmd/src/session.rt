@@ -5,7 +5,6 @@ use crate::request;
 use crate::request::Request;
 use crate::show;
 use console::command;
-use console::lines::Line;
 use libc::STDERR_FILENO;
 use segment_table::CallOutcome;
 use segment_table::SegmentTable;
@@ -13,7 +12,7 @@ use segment_table::operator;
 use segment_table::state;
 ghost use mathlib.Core.Path.{_≡_};
 ghost use Rattle.segment_table.specs.Segments.{emptyTable};
-ghost use Rattle.segments_cmd.specs.Session.{afterCommand, afterLine, afterPiece, between, tableAfter};
+ghost use Rattle.segments_cmd.specs.Session.{afterCommand, afterLine, between, tableAfter};
 
 // The state, and the request whose operand line is due. Between two requests none is.
 pub(crate) struct Session {
@@ -88,7 +87,7 @@ fn take_command(table: SegmentTable, line: &[u8]) -> Session
     respond(table, r, line)
 }
 
-fn take_line(s: Session, line: &[u8]) -> Session
+pub(crate) fn take_line(s: Session, line: &[u8]) -> Session
     ensures { λ r. ⌜ r ≡ afterLine s (now (line .entry)) ⌝ }
 {
     let r = s.request;
@@ -96,17 +95,6 @@ fn take_line(s: Session, line: &[u8]) -> Session
         return respond(s.table, r, line);
     }
     take_command(s.table, line)
-}
-
-// What a step of the input makes: no line yet, a line at the front of the buffer, or a bad one.
-pub(crate) fn take_piece(s: Session, l: Line, line: &[u8]) -> Session
-    ensures { λ r. ⌜ r ≡ afterPiece s l (now (line .entry)) ⌝ }
-{
-    match l {
-        Line::More => s,
-        Line::Whole(n) => take_line(s, octets::front(line, n)),
-        Line::Bad => take_line(s, octets::front(line, 0)),
-    }
 }
 
 // The end of the input: a request that lacks its operand line is refused, and a read that failed is told.

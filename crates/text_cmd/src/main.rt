@@ -8,52 +8,67 @@ mod session;
 
 use crate::kept::MAX_CAPACITY;
 use crate::session::Session;
-use input::Input;
+use input::Lines;
+ghost use Prim.Native.Nat.{_-_, _≤_};
 
-// Where the input stands, and where the requests do.
+// The line at hand, and where the requests stand.
 struct Place {
-    input: Input,
+    lines: Lines,
     session: Session,
 }
 
-// Takes a step of the input with the line in that buffer, and does what the line asks for.
-fn step(p: Place, chunk: &mut [u8], line: &mut [u8], table: &mut [u8], out: &mut [u8]) -> Place {
-    let turn = input::step(p.input, chunk, line);
-    let l = turn.line;
-    let session = session::take_piece(p.session, l, line, table, out);
-    let input = turn.input;
-    Place { input, session }
+// The next line, in the buffer that it is for. Which one it is changes only between two lines, when nothing is held of a line.
+fn next(s: Session, l: Lines, chunk: &mut [u8], line: &mut [u8], text: &mut [u8]) -> Lines
+    ensures { λ r. ⌜ r .left ≤ l .left - 1 ⌝ }
+{
+    if session::takes_text(s) {
+        return input::next(l, chunk, text);
+    }
+    input::next(l, chunk, line)
 }
 
-// A step with the buffer that the line is for. Which one it is changes only between two lines, when nothing is held of a line.
-fn next(
+// Does what the line of that length asks for, in the buffer that it is in.
+fn take(
+    s: Session,
+    length: usize,
+    line: &[u8],
+    text: &[u8],
+    table: &mut [u8],
+    out: &mut [u8],
+) -> Session {
+    if session::takes_text(s) {
+        return session::take_line(s, octets::front(text, length), table, out);
+    }
+    session::take_line(s, octets::front(line, length), table, out)
+}
+
+// Does what the line at hand asks for, and goes on to the next.
+fn step(
     p: Place,
     chunk: &mut [u8],
     line: &mut [u8],
     text: &mut [u8],
     table: &mut [u8],
     out: &mut [u8],
-) -> Place {
-    if session::takes_text(p.session) {
-        return step(p, chunk, text, table, out);
-    }
-    step(p, chunk, line, table, out)
+) -> Place
+    ensures { λ r. ⌜ r .lines .left ≤ p .lines .left - 1 ⌝ }
+{
+    let session = take(p.session, p.lines.length, line, text, table, out);
+    let lines = next(session, p.lines, chunk, line, text);
+    Place { lines, session }
 }
 
 // Answers the requests of the input, which is read into the chunk. The line at hand is in the second buffer, or in the third if it is a line of
 // text; the fourth keeps the table, and the last has the text that is written.
 fn run(chunk: &mut [u8], line: &mut [u8], text: &mut [u8], table: &mut [u8], out: &mut [u8]) {
     let mut p = Place {
-        input: input::start(),
+        lines: input::next(input::start(), chunk, line),
         session: session::start(),
     };
-    let mut turns = u64::MAX;
-    while turns > 0 {
-        p = next(p, chunk, line, text, table, out);
-        turns = input::turns_left(turns, p.input);
+    while p.lines.left > 0 {
+        p = step(p, chunk, line, text, table, out);
     }
-    let i = p.input;
-    session::finish(p.session, i.failed, table, out);
+    session::finish(p.session, p.lines.input.failed, table, out);
 }
 
 fn main() {

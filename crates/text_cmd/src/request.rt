@@ -27,36 +27,36 @@ pub(crate) enum Operand {
 }
 
 // The command of that word with no number.
-fn of_none(line: &[u8]) -> Request {
-    if command::is_word(line, b"table") {
+fn of_none(word: &[u8]) -> Request {
+    if octets::same(word, b"table") {
         return Request::Table;
     }
-    if command::is_word(line, b"read-label") {
+    if octets::same(word, b"read-label") {
         return Request::ReadLabel;
     }
-    if command::is_word(line, b"read-range") {
+    if octets::same(word, b"read-range") {
         return Request::ReadRange;
     }
     Request::Invalid
 }
 
 // The command of that word with one number.
-fn of_one(line: &[u8], n: u64) -> Request {
-    if command::is_word(line, b"subject") {
+fn of_one(word: &[u8], n: u64) -> Request {
+    if octets::same(word, b"subject") {
         return Request::Subject(n);
     }
-    if command::is_word(line, b"capacity") {
+    if octets::same(word, b"capacity") {
         return Request::Capacity(n);
     }
     Request::Invalid
 }
 
 // The command of that word with a form and a variant.
-fn of_two(line: &[u8], form: u64, variant: u64) -> Request {
-    if command::is_word(line, b"label") {
+fn of_two(word: &[u8], form: u64, variant: u64) -> Request {
+    if octets::same(word, b"label") {
         return Request::Label(form, variant);
     }
-    if command::is_word(line, b"range") {
+    if octets::same(word, b"range") {
         return Request::Range(form, variant);
     }
     Request::Invalid
@@ -67,12 +67,13 @@ pub(crate) fn of_line(line: &[u8]) -> Request {
     if !c.valid {
         return Request::Invalid;
     }
+    let word = octets::front(line, c.word);
     let numbers = c.numbers;
     let count = c.count;
     match count {
-        0 => of_none(line),
-        1 => of_one(line, numbers[0]),
-        2 => of_two(line, numbers[0], numbers[1]),
+        0 => of_none(word),
+        1 => of_one(word, numbers[0]),
+        2 => of_two(word, numbers[0], numbers[1]),
         _ => Request::Invalid,
     }
 }

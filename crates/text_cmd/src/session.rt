@@ -7,7 +7,6 @@ use crate::request;
 use crate::request::Operand;
 use crate::request::Request;
 use console::command;
-use console::lines::Line;
 use libc::STDERR_FILENO;
 
 // What is kept, and the request whose operand is due. Between two requests none is.
@@ -81,28 +80,13 @@ fn take_table_line(kept: Kept, line: &[u8], table: &mut [u8]) -> Session {
     }
 }
 
-fn take_line(s: Session, line: &[u8], table: &mut [u8], out: &mut [u8]) -> Session {
+pub(crate) fn take_line(s: Session, line: &[u8], table: &mut [u8], out: &mut [u8]) -> Session {
     let r = s.request;
     let operand = request::operand_of(r);
     match operand {
         Operand::Nothing => take_command(s.kept, line, table, out),
         Operand::Lines => take_table_line(s.kept, line, table),
         _ => between(respond(s.kept, r, line, table, out)),
-    }
-}
-
-// What a step of the input makes: no line yet, a line at the front of the buffer, or a bad one.
-pub(crate) fn take_piece(
-    s: Session,
-    l: Line,
-    line: &[u8],
-    table: &mut [u8],
-    out: &mut [u8],
-) -> Session {
-    match l {
-        Line::More => s,
-        Line::Whole(n) => take_line(s, octets::front(line, n), table, out),
-        Line::Bad => take_line(s, octets::front(line, 0), table, out),
     }
 }
 

@@ -9,12 +9,12 @@ use Rattle.console.proofs.command.parse_body.Statement.{statement}
 use Rattle.console.proofs.command.parse_body.Tie as tie
 
 abbrev Inv-loop : tie.InvT-loop
-Inv-loop body at₀ count₀ numbers₀ at count numbers =
+Inv-loop body word at₀ count₀ numbers₀ at count numbers =
     (at ≤ length body) × (count ≤ most) × (length numbers ≡ most) × (drop count numbers ≡ replicate (most - count) 0)
-    × (bodyCommandOf body ≡ commandFrom (take count numbers) (drop at body))
+    × (bodyCommandOf body ≡ commandFrom word (take count numbers) (drop at body))
 
 abbrev μ-loop : tie.MeasureT-loop
-μ-loop body at₀ count₀ numbers₀ at count numbers = length body - at
+μ-loop body word at₀ count₀ numbers₀ at count numbers = length body - at
 
 -- the bytes behind a blank
 rest-length : (s : tie.After-rest Inv-loop μ-loop)

@@ -1,21 +1,29 @@
 use borrow.Author.Needs.{needs}
-use mathlib.Core.Path.{_≡_}
+use mathlib.Core.Bool.{true}
+use mathlib.Core.Path.{_≡_, _∙_}
+use lib.ListN.{take}
 use borrow.Author.Tests.{ne-eqb, not-false, not-true}
 use denote.Ref.{now}
-use Rattle.console.specs.Command.{commandWord}
+use Rattle.console.specs.Command.{commandOf, commandWord}
+use Rattle.console.proofs.CommandLaws.{command-word}
 use Rattle.segments_cmd.specs.Request.{byCount, requestOfLine}
 use Rattle.segments_cmd.proofs.request.of_line.Statement.{statement}
 use Rattle.segments_cmd.proofs.request.of_line.Tie as tie
 
--- a line that is valid asks for the request of as many numbers as it has
+-- a line that is valid asks for the request of its word, with as many numbers as it has
 asked : (c : tie.After-numbers)
-    → let p = c .before .before .before in
-    let line = now (c .before .before .before .before .before .args .line) in
-    requestOfLine line ≡ byCount (commandWord line) (p .parse .result .count) (p .parse .result .numbers)
+    → let f = c .before in
+    let p = f .before .before .before in
+    requestOfLine (now (p .before .before .args .line)) ≡ byCount (f .front .result .now) (p .parse .result .count) (p .parse .result .numbers)
 unfolding requestOfLine
 asked c =
-    let p = c .before .before .before in
-    rw (← p .parse .ensures, not-false (p .parse .result .valid) (c .before .if1 .left))
+    let f = c .before in
+    let p = f .before .before .before in
+    let line = now (p .before .before .args .line) in
+    let valid = not-false (p .parse .result .valid) (f .before .if1 .left) in
+    let v : commandOf line .valid ≡ true = rw (← p .parse .ensures) valid in
+    let w : take (p .parse .result .word) line ≡ commandWord line = rw (p .parse .ensures) (command-word line v) in
+    rw (← p .parse .ensures, valid, f .front .ensures ∙ w)
 
 returns : tie.Need-returns
 unfolding requestOfLine
@@ -41,4 +49,4 @@ returns-6 c =
 pub of-line-spec : {M : Type 1} → statement M
 of-line-spec =
     tie.close (tie.spec (search needs) returns (search needs) (search needs) (search needs) (search needs) (search needs) (search needs)
-    (search needs) (search needs) (search needs) (search needs) returns-2 returns-3 returns-4 returns-5 returns-6)
+    (search needs) (search needs) (search needs) (search needs) (search needs) returns-2 returns-3 returns-4 returns-5 returns-6)
