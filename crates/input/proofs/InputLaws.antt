@@ -12,7 +12,7 @@ use Rattle.console.specs.declared.lines.Line.{Line}
 use Rattle.console.specs.declared.lines.Line.the-variants.{More, Whole, Bad}
 use Rattle.console.specs.declared.lines.Partial.{Partial}
 use Rattle.console.specs.declared.lines.Piece.{Piece}
-use Rattle.input.specs.Input.{NextLine, Pieced, Refilled, Stepped, Steps, Waited, atEnd, filledBy, chunkRest, linesBy, linesWith, ofPiece, turnAfterRead, someLeft, waitsOf}
+use Rattle.input.specs.Input.{NextLine, Pieced, Refilled, Stepped, Steps, Waited, atEnd, filledBy, chunkRest, linesAfter, linesWith, ofPiece, turnAfterRead, someLeft, waitsOf}
 use Rattle.input.specs.declared.Input.{Input}
 use Rattle.input.specs.declared.Lines.{Lines}
 use Rattle.input.specs.declared.Turn.{Turn}
@@ -72,7 +72,7 @@ pub step-more : (n : ℕ) (i : Input) (chunk line : List ℕ) (t : Turn) (c l : 
 unfolding Steps
 step-more n i chunk line t c l s h x = record { turn = t; chunk = c; line = l; before = s; waiting = h; step = x }
 
-left-by : (left : ℕ) (i : Input) (x : Line) → linesBy left i x .left ≤ left
+left-by : (left : ℕ) (i : Input) (x : Line) → linesAfter left i x .left ≤ left
 left-by left i More = omega arith
 left-by left i (Whole n) = omega arith
 left-by left i Bad = omega arith
@@ -89,7 +89,7 @@ module _ {l r : Lines} {chunk line : List ℕ} where
       }
 
   pub line-found : {chunkThen lineThen : List ℕ} {t : Turn} → (l .left ≡ 0 → ⊥) → Waited (l .input) chunk line t chunkThen lineThen
-      → r ≡ linesBy (l .left - 1) (t .input) (t .line) → NextLine l chunk line r chunkThen lineThen
+      → r ≡ linesAfter (l .left - 1) (t .input) (t .line) → NextLine l chunk line r chunkThen lineThen
   line-found {t = t} h w e =
       record {
         over = λ f. absurd (true≢false (sym f ∙ ne-eqb (l .left) 0 h));

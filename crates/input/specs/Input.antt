@@ -117,16 +117,16 @@ pub record Waited (i : Input) (chunk line : List ℕ) (t : Turn) (chunkThen line
   pub same-line-length : length lineThen ≡ length line
 
 -- the lines after a step, where so many may still come: a bad line has no bytes, and where there is no line none are left
-abbrev pub linesBy : ℕ → Input → Line → Lines
-linesBy left i More = linesWith i 0 0
-linesBy left i (Whole n) = linesWith i n left
-linesBy left i Bad = linesWith i 0 left
+abbrev pub linesAfter : ℕ → Input → Line → Lines
+linesAfter left i More = linesWith i 0 0
+linesAfter left i (Whole n) = linesWith i n left
+linesAfter left i Bad = linesWith i 0 left
 
 -- r and the buffers are what steps make of l
 pub record LineFound (l : Lines) (chunk line : List ℕ) (r : Lines) (chunkThen lineThen : List ℕ) : Type 0 where
   pub turn : Turn
   pub waited : Waited (l .input) chunk line turn chunkThen lineThen
-  pub lines-is : r ≡ linesBy (l .left - 1) (turn .input) (turn .line)
+  pub lines-is : r ≡ linesAfter (l .left - 1) (turn .input) (turn .line)
 
 -- r and the two buffers are what the next line makes: where none is left nothing is read. The last three follow, and are stated for callers and for
 -- the measure of a loop

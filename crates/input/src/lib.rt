@@ -7,7 +7,7 @@ use libc::STDIN_FILENO;
 ghost use mathlib.Core.Bool.{false};
 ghost use mathlib.Core.Path.{_≡_};
 ghost use lib.ListN.{length};
-ghost use Rattle.input.specs.Input.{NextLine, Pieced, Refilled, Stepped, Waited, emptyInput, linesBy, linesWith, mostLines, turnAfterRead, waitsOf};
+ghost use Rattle.input.specs.Input.{NextLine, Pieced, Refilled, Stepped, Waited, emptyInput, linesAfter, linesWith, mostLines, turnAfterRead, waitsOf};
 
 // Where the input stands.
 pub struct Input {
@@ -160,7 +160,7 @@ fn steps(i: Input, chunk: &mut [u8], line: &mut [u8]) -> Turn
 
 // The lines after a step, where so many may still come.
 fn after_step(left: u64, t: Turn) -> Lines
-    ensures { λ r. ⌜ r ≡ linesBy left (t .input) (t .line) ⌝ }
+    ensures { λ r. ⌜ r ≡ linesAfter left (t .input) (t .line) ⌝ }
 {
     let input = t.input;
     let line = t.line;
