@@ -78,7 +78,7 @@ pub record Different (p : Slot) (e f : Entry) : Type 0 where
   pub changed : segmentAt (e .table) p ≡ segmentAt (f .table) p → ⊥
   pub seen : (visible (e .table) (e .call .label) p ≡ true) ⊎ (visible (f .table) (f .call .label) p ≡ true)
 
--- a look at slot p, not of the caller's own: where it is not so that the answers differ, they are equal
+-- a look at slot p, not of the caller's own: when the answers differ, and that else they are equal
 pub record LookCompared (p : Slot) (e f : Entry) : Type 0 where
   pub differ : (e .answer ≡ f .answer → ⊥) ↔ Different p e f
   pub equal : (Different p e f → ⊥) → e .answer ≡ f .answer
