@@ -63,9 +63,18 @@ static text written_line(lurm_answer answer, const uint8_t *bytes)
     return made;
 }
 
+/* A frame of kind 01 that fills the buffer, with a body of zeros: its check byte is ff. */
+static void of_zeros(uint8_t *line, size_t length)
+{
+    memset(line, '0', length);
+    line[1] = '1';
+    line[length - 3] = line[length - 2] = 'f';
+    line[length - 1] = '\n';
+}
+
 static void read_back(void)
 {
-    uint8_t bytes[LURM_MAX_LINE];
+    uint8_t bytes[LURM_MAX_LINE], longer[LURM_MAX_LINE + 2];
     text of_label = written_line(lurm_write_label(highest(), bytes, sizeof bytes), bytes);
     text of_range = written_line(lurm_write_range(range(label(0, 0), highest()), bytes, sizeof bytes), bytes);
     text of_tuple = written_line(lurm_write_tuple(every_label(), bytes, sizeof bytes), bytes);
@@ -77,6 +86,10 @@ static void read_back(void)
     ATTEMPT(lurm_line_kind, granted(LURM_LINE_TUPLE), of_tuple.bytes, of_tuple.length);
     ATTEMPT(lurm_line_kind, granted(LURM_LINE_ENTRY), of_entry.bytes, of_entry.length);
     ATTEMPT(lurm_line_kind, refused(LURM_EINVAL), of_entry.bytes, 0);
+    of_zeros(bytes, sizeof bytes);
+    ATTEMPT(lurm_line_kind, granted(LURM_LINE_LABEL), bytes, sizeof bytes);
+    of_zeros(longer, sizeof longer);
+    ATTEMPT(lurm_line_kind, refused(LURM_EINVAL), longer, sizeof longer);
     ATTEMPT(lurm_read_label, granted(0), of_label.bytes, of_label.length);
     ATTEMPT(lurm_read_label, refused(LURM_EINVAL), of_label.bytes, of_label.length - 1);
     ATTEMPT(lurm_read_label, refused(LURM_EINVAL), of_range.bytes, of_range.length);

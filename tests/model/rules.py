@@ -278,6 +278,7 @@ def counted(text):
 
 KINDS = {contents.KIND: contents for contents in (Label, Range, Tuple, Alias)}
 LINE = re.compile(rb"(?:[0-9a-f]{2})+\n")
+LONGEST_FRAME = 201  # a full tuple's, with its sum: 402 digits
 
 
 class Source:
@@ -308,10 +309,11 @@ def write(contents, capacity=None):
 
 
 def framed(line):
-    """The bytes of a line but for its sum: a known kind, then any body. Any fault of the frame is refused with 22."""
+    """The bytes of a line but for its sum: a known kind, then any body that is no longer than the longest. Any fault of the frame is
+    refused with 22."""
     require(LINE.fullmatch(line), INVALID)
     frame = bytes.fromhex(line[:-1].decode())
-    require(sum(frame) % 256 == 0 and frame[0] in KINDS, INVALID)
+    require(sum(frame) % 256 == 0 and len(frame) <= LONGEST_FRAME and frame[0] in KINDS, INVALID)
     return frame[:-1]
 
 

@@ -9,7 +9,7 @@ from capi import (ABBREVIATION_BYTES, ENTRY_SIZE, FUNCTIONS, HEADER, LABEL_SIZE,
                   TENANT_SIZE, TUPLE_SIZE, answer, answer_line, entry_numbers, label_numbers, range_numbers, state_numbers,
                   tuple_numbers)
 from rules import (CATEGORIES, HIERARCHIES, LONGEST_ABBREVIATION, LONGEST_NAME, OF_CATEGORY, OF_HIERARCHY, OF_LABEL, REGIONS,
-                   Alias, write)
+                   Alias, sealed, write)
 from samples import FULL_TUPLE, RANGE, TOP, TUPLE, label
 from segments import MOST_PAGES, SLOTS, TENANTS, Segment, State, Tenant
 from text import MOST_ENTRIES
@@ -182,6 +182,8 @@ class Lines(Numbers):
         for line, kind in ((write(label(20)), 1), (write(RANGE), 2), (b"0300fd\n", 3), (WHOLE_TABLE[:19], 4)):
             self.grants(kind, "line_kind", line)
         self.grants(1, "line_kind", b"01ff\n")  # a frame whose body the reader refuses
+        self.grants(1, "line_kind", sealed(b"\1" + bytes(199)))  # as long as the longest line
+        self.refuses(22, "line_kind", sealed(b"\1" + bytes(200)))
         for line in (b"", b"\n", b"0300fd", b"0300fe\n", b"0300FD\n", b"05fb\n", b"0300fd\n0300fd\n"):
             self.refuses(22, "line_kind", line)
 

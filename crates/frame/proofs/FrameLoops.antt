@@ -1,5 +1,4 @@
 -- What the functions of `frame` need at each turn of a loop and where they end: facts about the definitions that go by the index.
---
 use mathlib.Core.Bool.{Bool, true, false, cond, _&&_, and-assoc, and-false, and-true, true≢false}
 use mathlib.Core.List.{List, [], _∷_, _++_, append-assoc, append-nil}
 use mathlib.Core.Logic.{⊎-elim}

@@ -1,5 +1,5 @@
 -- What the functions of `body` need at each turn of a loop.
-use mathlib.Core.Bool.{cond}
+use mathlib.Core.Bool.{cond, true}
 use mathlib.Core.List.{List, _∷_, [], _++_, append-assoc, append-nil}
 use mathlib.Core.Logic.{_⊎_, inl, inr}
 use mathlib.Core.Path.{_≡_, refl, sym, ap, ap₂, _∙_}
@@ -10,15 +10,23 @@ use native.Mathlib.Omega.{arith}
 use lib.Dec.{ltb}
 use lib.ListN.{length, set, take, length-append, length-set}
 use lib.Seq.{length-take-le, take-at, take-length, take-suc-set}
-use borrow.Author.Tests.{le-ltb}
+use borrow.Author.Tests.{le-leb, le-ltb}
 use Rattle.common.specs.Index.{tabulate}
+use Rattle.label.specs.Label
 use Rattle.label.specs.Label.{labelOf}
 use Rattle.label.specs.Words.{wordAt, words as setWords}
-use Rattle.common.proofs.IndexLaws.{le-or-lt, tabulate-length}
+use Rattle.common.proofs.BoolLaws.{both}
+use Rattle.common.proofs.IndexLaws.{le-or-lt, tabulate-at, tabulate-length}
 use Rattle.label.specs.declared.Label.{Label}
+use Rattle.label.proofs.LabelLaws.{valid-hierarchy}
+use Rattle.range.specs.Range
+use Rattle.range.specs.Range.{rangeOf}
+use Rattle.range.specs.declared.Range.{Range}
+use Rattle.range.proofs.RangeLaws.{valid-parts}
 use Rattle.frame.proofs.FrameLaws.{Bytes}
 use Rattle.frame.proofs.FrameLoops.{store-next, store-none, tabulate-more, tabulate-same}
-use Rattle.hexline.specs.Body.{BodyAppended, byteAt, categoryByte, labelAt, labelBytes, labelSize, baseNumber, wordFrom}
+use Rattle.hexline.specs.Body.{BodyAppended, byteAt, categoryByte, labelAt, labelBytes, labelSize, baseNumber, rangeAt, rangeSize, wordFrom}
+use Rattle.hexline.specs.Codec.{labelFits, rangeFits}
 use Rattle.hexline.proofs.BodyLaws.{word-byte}
 use Rattle.hexline.proofs.NumberLaws.{number-bound, number-moved}
 
@@ -105,3 +113,21 @@ moved-label w xs ys i j h =
     word m (inr p) =
         ap (λ (n : ℕ). cond (ltb m w) n 0) (number-moved 256 (byteAt xs) (byteAt ys) (i + 1 + 8 * m) (j + 1 + 8 * m) 8
         (λ k l. ap (byteAt xs) (omega arith) ∙ h (1 + 8 * m + k) (omega arith) ∙ ap (byteAt ys) (omega arith)))
+
+pub moved-range : (w : ℕ) (xs ys : List ℕ) (i j : ℕ) → ((k : ℕ) → k < rangeSize w → byteAt xs (i + k) ≡ byteAt ys (j + k)) → rangeAt w xs i ≡ rangeAt w ys j
+unfolding rangeAt
+moved-range w xs ys i j h =
+    ap₂ rangeOf (moved-label w xs ys i j (λ k l. h k (omega arith)))
+    (moved-label w xs ys (i + labelSize w) (j + labelSize w) (λ k l. ap (byteAt xs) (omega arith) ∙ h (labelSize w + k) (omega arith) ∙ ap (byteAt ys) (omega arith)))
+
+-- bytes that were copied to a buffer of their own
+pub copied-at : (ys : List ℕ) (j n k : ℕ) → k < n → byteAt (tabulate (λ i. byteAt ys (j + i)) n) (0 + k) ≡ byteAt ys (j + k)
+copied-at ys j n k h = ap (byteAt (tabulate (λ i. byteAt ys (j + i)) n)) {x = 0 + k} {y = k} (omega arith) ∙ tabulate-at (λ i. byteAt ys (j + i)) n k 0 h
+
+-- ---- valid values fit their bytes
+
+pub valid-label-fits : (l : Label) → Label.validOf l ≡ true → labelFits l ≡ true
+valid-label-fits l v = let h = valid-hierarchy l v in le-leb (l .hierarchy) 255 (omega arith)
+
+pub valid-range-fits : (x : Range) → Range.validOf x ≡ true → rangeFits x ≡ true
+valid-range-fits x v = let p = valid-parts x v in both (valid-label-fits (x .low) (p .low)) (valid-label-fits (x .high) (p .high))

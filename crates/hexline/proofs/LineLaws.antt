@@ -163,7 +163,7 @@ tuple-form-parts kind w bs e =
     (ltb-true (byteAt bs 1) 8 (first-true (ltb (byteAt bs 1) 8) (bodyForm bs n kind) e), form-length bs n kind f, form-kind bs n kind f)
 
 -- the body of a tuple is no longer than the longest, and not empty
-below-most : (p n : ℕ) → presentBelow p n ≤ n
+pub below-most : (p n : ℕ) → presentBelow p n ≤ n
 unfolding presentBelow
 below-most p zero = omega arith
 below-most p (suc n) = go (bit p n) (below-most p n)

@@ -15,7 +15,7 @@ use lib.Seq.{ext-getD}
 use Rattle.common.specs.Index.{tabulate}
 use Rattle.label.specs.Region.{regions}
 use Rattle.label.specs.Words.{bit, words}
-use Rattle.common.proofs.IndexLaws.{tabulate-at, tabulate-length}
+use Rattle.common.proofs.IndexLaws.{every-all, every-at, tabulate-at, tabulate-is, tabulate-length}
 use Rattle.range.specs.Range
 use Rattle.range.specs.Tuple
 use Rattle.range.specs.declared.Range.{Range}
@@ -23,9 +23,12 @@ use Rattle.range.specs.declared.tuple.RegionRange.{RegionRange}
 use Rattle.range.specs.declared.tuple.Tuple.{Tuple}
 use Rattle.range.proofs.TupleLaws.{range-of, valid-absent, valid-placed, valid-region}
 use Rattle.frame.proofs.FrameLaws.{Bytes, bytes-append}
-use Rattle.hexline.specs.Body.{baseNumber, rangeAt, rangeBytes, rangeSize}
+use Rattle.hexline.specs.Body.{byteAt, lineWords, baseNumber, rangeAt, rangeBytes, rangeSize}
+use Rattle.hexline.specs.Codec.{rangeFits, regionFits, tupleFits}
 use Rattle.hexline.specs.Regions.{presenceOf, presentAt, presentBelow, regionAt, regionBytes, regionsBytes, tupleAt}
 use Rattle.hexline.proofs.BodyLaws.{Holds, Within, holds-first, holds-second, part, parts-join, range-back, range-bytes, range-forth, range-length}
+use Rattle.hexline.proofs.BodyLoops.{moved-range, valid-range-fits}
+use Rattle.hexline.proofs.LineLaws.{below-most}
 use Rattle.hexline.proofs.NumberLaws.{as-number, number-bound, number-digit, number-only}
 
 -- ---- one region
@@ -257,3 +260,36 @@ module _ (w : ℕ) (bs : List ℕ) (p i : ℕ) where
       ap₂ _++_ (regions-forth small fits room n (omega arith)) (ap (regionBytes w) (at-region n h) ∙ region-forth small fits n h room)
       ∙ parts-join i (presentBelow p n * rangeSize w) (cond (bit p n) 1 0 * rangeSize w) bs
       ∙ ap (λ (m : ℕ). part i m bs) (sym (add-mul (presentBelow p n) (cond (bit p n) 1 0) (rangeSize w)))
+
+-- ---- what fits its bytes
+
+pub region-fits : (t : Tuple) → tupleFits t ≡ true → (r : ℕ) → r < regions → Tuple.isThere (Tuple.regionRangeAt t r) ≡ true → rangeFits (Tuple.regionRangeAt t r .range) ≡ true
+region-fits t f r l p = rw p at (every-at (λ k. regionFits (Tuple.regionRangeAt t k)) regions r f l)
+
+pub valid-tuple-fits : (t : Tuple) → Tuple.validOf t ≡ true → tupleFits t ≡ true
+valid-tuple-fits t v = every-all (λ r. regionFits (Tuple.regionRangeAt t r)) regions (λ r l. go r (present-valid t v r l) (Tuple.isThere (Tuple.regionRangeAt t r)) refl)
+  where
+    go : (r : ℕ) → (Tuple.isThere (Tuple.regionRangeAt t r) ≡ true → Range.validOf (Tuple.regionRangeAt t r .range) ≡ true) → (b : Bool) → Tuple.isThere (Tuple.regionRangeAt t r) ≡ b
+        → cond b (rangeFits (Tuple.regionRangeAt t r .range)) true ≡ true
+    go r h true e = valid-range-fits (Tuple.regionRangeAt t r .range) (h e)
+    go r h false e = refl
+
+-- ---- the tuple is the same where the bytes of its ranges are
+
+pub moved-tuple : (xs ys : List ℕ) (p i j : ℕ) → ((k : ℕ) → k < regions * rangeSize lineWords → byteAt xs (i + k) ≡ byteAt ys (j + k))
+    → tupleAt lineWords xs p i ≡ tupleAt lineWords ys p j
+unfolding tupleAt regionAt
+moved-tuple xs ys p i j h =
+    ap Tuple.tupleOf (tabulate-is (regionAt lineWords ys p j) (tabulate (regionAt lineWords xs p i) regions) regions Tuple.absent (tabulate-length (regionAt lineWords xs p i) regions)
+    (λ r l. tabulate-at (regionAt lineWords xs p i) regions r Tuple.absent l ∙ go r l (bit p r)))
+  where
+    S : ℕ
+    S = rangeSize lineWords
+
+    go : (r : ℕ) → r < regions → (b : Bool) → cond b (Tuple.present (rangeAt lineWords xs (i + presentBelow p r * S))) Tuple.absent
+        ≡ cond b (Tuple.present (rangeAt lineWords ys (j + presentBelow p r * S))) Tuple.absent
+    go r l true =
+        let n = below-most p r in
+        ap Tuple.present (moved-range lineWords xs ys (i + presentBelow p r * S) (j + presentBelow p r * S)
+        (λ k m. ap (byteAt xs) (omega arith) ∙ h (presentBelow p r * S + k) (omega arith) ∙ ap (byteAt ys) (omega arith)))
+    go r l false = refl

@@ -7,9 +7,8 @@ ghost use mathlib.Core.Bool.{true};
 ghost use Prim.Native.Nat.{_+_, _*_, _/_, _%_, _<_, _≤_, _^_};
 ghost use lib.ListN.{length};
 ghost use Rattle.common.specs.Index.{tabulate};
-ghost use Rattle.label.specs.Label as labels;
 ghost use Rattle.label.specs.Words.{words as setWords};
-ghost use Rattle.range.specs.Range as ranges;
+ghost use Rattle.hexline.specs.Codec.{labelFits, rangeFits};
 ghost use Rattle.hexline.specs.Body.{BodyAppended, byteAt, labelAt, labelBytes, labelSize, baseNumber, rangeAt, rangeBytes, rangeSize, wordFrom};
 
 // How many words a set has in lines of kinds 01 to 04.
@@ -33,9 +32,9 @@ fn put_word(out: &mut [u8], at: usize, w: u64)
     }
 }
 
-// A valid label's bytes at index at, and the index past them.
+// The bytes of a label that fits them, at index at, and the index past them.
 pub(crate) fn put_label(out: &mut [u8], at: usize, l: Label, words: usize) -> usize
-    requires { ⌜ (words ≤ setWords) × (at + labelSize words ≤ length (now out)) × (labels.validOf l ≡ true) ⌝ }
+    requires { ⌜ (words ≤ setWords) × (at + labelSize words ≤ length (now out)) × (labelFits l ≡ true) ⌝ }
     ensures { λ r. ⌜ BodyAppended (now (out .entry)) at (labelBytes words l) r (now (out .exit)) ⌝ }
 {
     out[at] = l.hierarchy as u8;
@@ -48,9 +47,9 @@ pub(crate) fn put_label(out: &mut [u8], at: usize, l: Label, words: usize) -> us
     at + 1 + 8 * j
 }
 
-// A valid range's bytes at index at, and the index past them.
+// The bytes of a range that fits them, at index at, and the index past them.
 pub(crate) fn put_range(out: &mut [u8], at: usize, x: Range, words: usize) -> usize
-    requires { ⌜ (words ≤ setWords) × (at + rangeSize words ≤ length (now out)) × (ranges.validOf x ≡ true) ⌝ }
+    requires { ⌜ (words ≤ setWords) × (at + rangeSize words ≤ length (now out)) × (rangeFits x ≡ true) ⌝ }
     ensures { λ r. ⌜ BodyAppended (now (out .entry)) at (rangeBytes words x) r (now (out .exit)) ⌝ }
 {
     let next = put_label(out, at, x.low, words);

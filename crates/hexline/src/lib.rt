@@ -2,6 +2,7 @@
 // with its LF; each refuses what document 01 refuses, and a refusal writes nothing.
 pub mod accept;
 mod body;
+pub mod codec;
 pub mod entry;
 pub mod parts;
 mod regions;

@@ -11,8 +11,8 @@ ghost use Prim.Native.Nat.{_+_, _*_, _<_, _≤_, _^_};
 ghost use lib.ListN.{length};
 ghost use Rattle.label.specs.Region.{regions};
 ghost use Rattle.label.specs.Words.{bit, words as setWords};
-ghost use Rattle.range.specs.Range as ranges;
 ghost use Rattle.range.specs.Tuple as tuples;
+ghost use Rattle.hexline.specs.Codec.{rangeFits, tupleFits};
 ghost use Rattle.hexline.specs.Body.{BodyAppended, rangeSize};
 ghost use Rattle.hexline.specs.Regions.{presenceOf, presentAt, presentBelow, regionAt, regionBytes, regionsBytes, tupleAt};
 
@@ -36,9 +36,9 @@ pub(crate) fn presence(t: Tuple) -> u8
     p
 }
 
-// The bytes of a valid range where it is there, and the index past them.
+// The bytes of a range that fits them, where it is there, and the index past them.
 fn put_region(out: &mut [u8], at: usize, e: RegionRange, words: usize) -> usize
-    requires { ⌜ (words ≤ setWords) × (at + rangeSize words ≤ length (now out)) × (tuples.isThere e ≡ true → ranges.validOf (e .range) ≡ true) ⌝ }
+    requires { ⌜ (words ≤ setWords) × (at + rangeSize words ≤ length (now out)) × (tuples.isThere e ≡ true → rangeFits (e .range) ≡ true) ⌝ }
     ensures { λ r. ⌜ BodyAppended (now (out .entry)) at (regionBytes words e) r (now (out .exit)) ⌝ }
 {
     if e.present == 1 {
@@ -47,9 +47,9 @@ fn put_region(out: &mut [u8], at: usize, e: RegionRange, words: usize) -> usize
     at
 }
 
-// The bytes of the ranges that are there in a valid tuple, at index at, and the index past them.
+// The bytes of the ranges that are there in a tuple, each of which fits them, at index at, and the index past them.
 pub(crate) fn put_regions(out: &mut [u8], at: usize, t: Tuple, words: usize) -> usize
-    requires { ⌜ (words ≤ setWords) × (at + regions * rangeSize words ≤ length (now out)) × (tuples.validOf t ≡ true) ⌝ }
+    requires { ⌜ (words ≤ setWords) × (at + regions * rangeSize words ≤ length (now out)) × (tupleFits t ≡ true) ⌝ }
     ensures { λ r. ⌜ BodyAppended (now (out .entry)) at (regionsBytes words t regions) r (now (out .exit)) ⌝ }
 {
     let mut next = at;

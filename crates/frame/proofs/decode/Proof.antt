@@ -1,3 +1,5 @@
+-- Three ways decode nothing (`no-bytes`, `no-room`, `no-spelling`); in the last two the body is at the front of the buffer, and the sum says whether
+-- it counts.
 use borrow.Author.Needs.{needs}
 use mathlib.Core.List.{List, _++_}
 use mathlib.Core.Path.{_≡_, ap, ap₂, refl, sym, _∙_}

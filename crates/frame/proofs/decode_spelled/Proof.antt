@@ -1,3 +1,4 @@
+-- What fills the buffer is the body (`filled`), and its sum with the last byte is that of all bytes (`framed-by`).
 use borrow.Author.Needs.{needs}
 use mathlib.Core.List.{List}
 use mathlib.Core.Path.{_≡_, ap, ap₂, _∙_}

@@ -1,3 +1,4 @@
+-- A block of the line's bytes is made first; each turn stores one of them, so that one byte more of the front is the line's (`front-next`).
 use borrow.Author.Needs.{needs}
 use mathlib.Core.List.{List}
 use mathlib.Core.Path.{_≡_, refl, ap, _∙_}

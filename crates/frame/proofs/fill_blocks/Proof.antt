@@ -1,3 +1,4 @@
+-- Each turn has a block more of the line's bytes at the front, as `fill_block` says.
 use borrow.Author.Needs.{needs}
 use mathlib.Core.Path.{_≡_, refl, _∙_}
 use Prim.Native.Nat.{_≤_, _-_}

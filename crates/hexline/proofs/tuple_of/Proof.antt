@@ -1,3 +1,5 @@
+-- A body without the form or with an invalid tuple is refused, as for the other kinds (`body-formless`, `body-invalid`); else the tuple is answered
+-- (`body-read`).
 use borrow.Author.Needs.{needs}
 use mathlib.Core.Path.{_≡_, ap, _∙_}
 use Prim.Native.Nat.{ℕ}

@@ -3,6 +3,7 @@ use native.Mathlib.Omega.{arith}
 use Rattle.hexline.specs.Body.{lineWords}
 use Rattle.hexline.specs.Line.{labelBody}
 use Rattle.hexline.proofs.BodyLaws.{label-length}
+use Rattle.hexline.proofs.BodyLoops.{valid-label-fits}
 use Rattle.hexline.proofs.LineLaws.{line-due, refuses-line, writes-line}
 use Rattle.hexline.proofs.write_label.Statement.{statement}
 use Rattle.hexline.proofs.write_label.Tie as tie
@@ -11,7 +12,7 @@ returns : tie.Need-returns
 returns c = refuses-line (c .before .valid .ensures) _ _ (c .if1 .taken)
 
 put-label-requires : tie.Need-put-label-requires
-put-label-requires c κs = (search needs, search needs, line-due (c .before .before .valid .ensures) (c .before .if1 .left))
+put-label-requires c κs = (search needs, search needs, valid-label-fits _ (line-due (c .before .before .valid .ensures) (c .before .if1 .left)))
 
 returns-2 : tie.Need-returns-2
 unfolding labelBody

@@ -7,7 +7,7 @@ use Rattle.label.specs.Region.{regions}
 use Rattle.hexline.specs.Body.{lineWords}
 use Rattle.hexline.specs.Line.{tupleBody}
 use Rattle.hexline.specs.Regions.{regionsBytes}
-use Rattle.hexline.proofs.RegionsLaws.{regions-size}
+use Rattle.hexline.proofs.RegionsLaws.{regions-size, valid-tuple-fits}
 use Rattle.hexline.proofs.LineLaws.{line-due, refuses-line, writes-line}
 use Rattle.hexline.proofs.write_tuple.Statement.{statement}
 use Rattle.hexline.proofs.write_tuple.Tie as tie
@@ -16,7 +16,7 @@ returns : tie.Need-returns
 returns c = refuses-line (c .before .valid .ensures) _ _ (c .if1 .taken)
 
 put-regions-requires : tie.Need-put-regions-requires
-put-regions-requires c κs = (search needs, search needs, line-due (c .before .before .before .valid .ensures) (c .before .before .if1 .left))
+put-regions-requires c κs = (search needs, search needs, valid-tuple-fits _ (line-due (c .before .before .before .valid .ensures) (c .before .before .if1 .left)))
 
 returns-2 : tie.Need-returns-2
 unfolding tupleBody

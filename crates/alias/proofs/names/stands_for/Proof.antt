@@ -1,4 +1,4 @@
--- By the class of the entry and that of the value: of the same class what they hold is compared, and of two classes the answer is no (`other-class`).
+-- Each arm has told the class of the entry and that of the value: the same class is compared, and another is no match (`other-class`).
 use borrow.Author.Needs.{needs}
 use mathlib.Core.Logic.{⊎-elim}
 use native.Mathlib.Omega.{arith}

@@ -1,3 +1,4 @@
+-- A body without the form is refused; of one that has it, what is tested is whether the entry that stands there is valid (`body-judged`).
 use borrow.Author.Needs.{needs}
 use Prim.Native.Nat.{_<_}
 use Rattle.common.proofs.BoolLaws.{told-false, told-true}

@@ -1,9 +1,10 @@
+-- The hierarchy is put first; each turn puts one word more of the set (`word-more`), and together they are the label's bytes (`label-put`).
 use borrow.Author.Needs.{needs}
 use Prim.Native.Nat.{_≤_, _+_, _*_, _-_}
 use native.Mathlib.Omega.{arith}
 use lib.ListN.{length-set}
+use borrow.Author.Tests.{leb-true}
 use Rattle.common.specs.Index.{tabulate}
-use Rattle.label.proofs.LabelLaws.{valid-hierarchy}
 use Rattle.hexline.specs.Body.{BodyAppended, categoryByte}
 use Rattle.hexline.proofs.BodyLoops.{label-put, put-none, word-more}
 use Rattle.hexline.proofs.body.put_label.Statement.{statement}
@@ -17,7 +18,7 @@ abbrev μ-loop : tie.MeasureT-loop
 μ-loop out₀ at words categories j₀ out j = words - j
 
 cast-out : tie.Need-cast-out Inv-loop μ-loop
-cast-out c = let s = valid-hierarchy (c .before .before .args .l) (c .before .before .pre .2) in record { fits = omega (arith, s) }
+cast-out c = let h = leb-true (c .before .before .args .l .hierarchy) 255 (c .before .before .pre .2) in record { fits = omega arith }
 
 loop-holds : tie.Need-loop-holds Inv-loop μ-loop
 loop-holds c = (search needs, put-none _ _ _)

@@ -1,6 +1,8 @@
+-- Each arm has told the class: a hierarchy and a category are below 256, since the value is valid, and are one byte; a label has its own bytes.
 use borrow.Author.Needs.{needs}
 use native.Mathlib.Omega.{arith}
 use Rattle.hexline.specs.Entry.{valueBytes, valueOk}
+use Rattle.hexline.proofs.BodyLoops.{valid-label-fits}
 use Rattle.hexline.proofs.EntryLaws.{category-small, hierarchy-small}
 use Rattle.hexline.proofs.entry.put_value.Statement.{statement}
 use Rattle.hexline.proofs.entry.put_value.Tie as tie
@@ -29,7 +31,10 @@ returns-2 c = let p = c .before .before in rw (p .before .before .before .v2 .gi
 
 put-label-requires : tie.Need-put-label-requires
 unfolding valueOk
-put-label-requires c κs = let e = c .before in (search needs, search needs, rw (e .enum-told .given .1) at (e .before .before .before .pre .2))
+put-label-requires c κs =
+    let e = c .before in
+    let s = e .before .before .before in
+    (search needs, search needs, valid-label-fits (s .args .l) (rw (e .enum-told .given .1) at (s .pre .2)))
 
 returns-3 : tie.Need-returns-3
 unfolding valueBytes

@@ -2,15 +2,13 @@ use borrow.Author.Needs.{needs}
 use mathlib.Core.List.{List}
 use mathlib.Core.Path.{_≡_, ap, sym, _∙_}
 use Prim.Native.Nat.{ℕ, _+_}
-use native.Mathlib.Omega.{arith}
 use borrow.Author.Tests.{eq-eqb, ne-eqb}
 use Rattle.common.specs.Index.{tabulate}
-use Rattle.common.proofs.IndexLaws.{tabulate-at}
 use Rattle.frame.specs.Frame.{bodyOf}
 use Rattle.hexline.specs.Body.{byteAt, labelAt, labelSize, lineWords}
 use Rattle.hexline.specs.Entry.{entryFrom, labelFrom, layoutOf}
 use Rattle.hexline.specs.Line.{standingIn}
-use Rattle.hexline.proofs.BodyLoops.{moved-label}
+use Rattle.hexline.proofs.BodyLoops.{copied-at, moved-label}
 use Rattle.hexline.proofs.parts.label.Statement.{statement}
 use Rattle.hexline.proofs.parts.label.Tie as tie
 
@@ -20,11 +18,10 @@ returns c =
     let k = c .before .before .before in
     let t = k .before .before in
     let line = t .before .before .before .args .line .now in
-    let f : ℕ → ℕ = λ i. byteAt (bodyOf line) (2 + i) in
-    let bs = tabulate f (labelSize lineWords) in
+    let bs = tabulate (λ i. byteAt (bodyOf line) (2 + i)) (labelSize lineWords) in
     rw (← t .before .byte .ensures, eq-eqb _ _ (t .if1 .taken))
     (c .label-at .ensures ∙ ap (λ (xs : List ℕ). labelAt lineWords xs 0) (k .bytes-from .ensures)
-    ∙ moved-label lineWords bs (bodyOf line) 0 2 (λ i h. ap (byteAt bs) {x = 0 + i} {y = i} (omega arith) ∙ tabulate-at f (labelSize lineWords) i 0 h))
+    ∙ moved-label lineWords bs (bodyOf line) 0 2 (copied-at (bodyOf line) 2 (labelSize lineWords)))
 
 returns-2 : tie.Need-returns-2
 unfolding standingIn entryFrom layoutOf labelFrom

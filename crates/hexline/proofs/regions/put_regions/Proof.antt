@@ -1,3 +1,4 @@
+-- Each turn appends the bytes of one region more (`regions-next`), for which there is room (`regions-room`).
 use borrow.Author.Needs.{needs}
 use mathlib.Core.Path.{_≡_}
 use Prim.Native.Nat.{_≤_, _-_}
@@ -6,7 +7,7 @@ use Rattle.label.specs.Region.{regions}
 use Rattle.hexline.specs.Body.{BodyAppended}
 use Rattle.hexline.specs.Regions.{regionsBytes}
 use Rattle.hexline.proofs.BodyLoops.{appended-both, appended-none}
-use Rattle.hexline.proofs.RegionsLaws.{present-valid, regions-next, regions-room}
+use Rattle.hexline.proofs.RegionsLaws.{region-fits, regions-next, regions-room}
 use Rattle.hexline.proofs.regions.put_regions.Statement.{statement}
 use Rattle.hexline.proofs.regions.put_regions.Tie as tie
 
@@ -27,7 +28,7 @@ put-region-requires c κs =
     let room = regions-room (start .args .words) (start .args .t3) (h .loop .r) (omega arith) in
     let next = h .loop .inv .1 .next in
     let size = h .loop .inv .1 .size in
-    (search needs, omega arith, present-valid (start .args .t3) (start .pre .2) (h .loop .r) (omega arith))
+    (search needs, omega arith, region-fits (start .args .t3) (start .pre .2) (h .loop .r) (omega arith))
 
 loop-again : tie.Need-loop-again Inv-loop μ-loop
 loop-again c =

@@ -1,3 +1,4 @@
+-- The range of a region that is there lies before the end of all that are there (`present-room`), so that it can be read.
 use borrow.Author.Needs.{needs}
 use mathlib.Core.Path.{sym, _∙_}
 use Prim.Native.Nat.{_+_, _*_, _≤_}

@@ -1,3 +1,4 @@
+-- Each turn pastes one byte more of those at the span (`paste-suc`); at the end all of them are put (`put-all`).
 use borrow.Author.Needs.{needs}
 use mathlib.Core.List.{List}
 use mathlib.Core.Path.{_≡_, refl, sym, ap, _∙_}

@@ -1,5 +1,5 @@
--- The three ways to write a label, each by what is known there: the definition form, the alias form with an alias (`alias-text`), and without
--- one (`definition-instead`).
+-- In the alias form the search has told whether the label has a name: then the text is that of the entry found (`alias-text`, `name-found`), else the
+-- definition form.
 use borrow.Author.Needs.{needs}
 use mathlib.Core.Option.{some}
 use mathlib.Core.Path.{_≡_, sym, ap, _∙_}
