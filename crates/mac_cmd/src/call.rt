@@ -5,20 +5,12 @@ use crate::request::Request;
 use common::answer::granted;
 use console::format;
 use hexline::Kind;
-use label::Label;
 use range::tuple;
 
-// Whether H is a valid hierarchy. A number above a byte is none.
+// Whether H is a valid hierarchy: whether a label with it is valid.
 pub(crate) fn valid(h: u64, out: &mut [u8]) -> usize {
-    if h > 255 {
-        return answer::put_bool(false, out);
-    }
-    let zero = label::zero();
-    let categories = zero.categories;
-    let l = Label {
-        hierarchy: h,
-        categories,
-    };
+    let mut l = label::zero();
+    l.hierarchy = h;
     answer::put_bool(label::valid(l), out)
 }
 

@@ -42,8 +42,7 @@ fn take_command(line: &[u8]) -> Session {
         return between();
     }
     let c = command::parse(line);
-    let word = octets::front(line, c.word);
-    if !octets::same(word, b"check") | !c.valid | (c.count != NUMBERS) {
+    if !octets::same(octets::front(line, c.word), b"check") | !c.valid | (c.count != NUMBERS) {
         answer::print_invalid();
         return between();
     }
