@@ -17,7 +17,8 @@ use Rattle.octets.specs.Bytes.{sameBytes}
 use Rattle.octets.proofs.ByteLaws.{lengths-differ, same-end, same-pass, same-stop}
 use Rattle.frame.specs.Frame.{bodyOf}
 use Rattle.hexline.specs.Body.{byteAt}
-use Rattle.hexline.specs.Entry.{abbreviationBytes, nameBytes, spanBytes}
+use Rattle.hexline.specs.Entry.{abbreviationBytes, nameBytes}
+use Rattle.hexline.specs.Internal.Spans.{spanBytes}
 use Rattle.hexline.specs.Line.{abbreviationIn, nameIn, standingIn}
 use Rattle.hexline.specs.declared.entry.Entry.{Entry}
 use Rattle.hexline.specs.declared.entry.Span.{Span}

@@ -5,7 +5,8 @@ use native.Mathlib.Omega.{arith}
 use lib.ListN.{length, length-append}
 use Rattle.octets.specs.Bytes.{Appended}
 use Rattle.octets.proofs.ByteLaws.{appended-put}
-use Rattle.console.specs.Format.{decimalOf, field, numberBytes}
+use Rattle.console.specs.Format.{decimalOf, field}
+use Rattle.console.specs.Internal.Numbers.{numberBytes}
 use Rattle.octets.specs.Internal.Put.{PutWithin}
 use Rattle.console.proofs.DecimalLaws.{decimal-length}
 

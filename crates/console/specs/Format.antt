@@ -21,10 +21,6 @@ decimalIn (suc k) n = cond (ltb n 10) (digit n ∷ []) (decimalIn k (n / 10) ++ 
 unfoldable pub decimalOf : ℕ → List ℕ
 decimalOf n = decimalIn (suc n) n
 
--- the most bytes that a number below 2 ^ 64 takes
-abbrev pub numberBytes : ℕ
-numberBytes = 20
-
 -- a word and a number
 abbrev pub field : List ℕ → ℕ → List ℕ
 field word n = word ++ decimalOf n

@@ -18,9 +18,11 @@ use Rattle.common.proofs.IndexLaws.{every-all, every-at, le-or-lt, tabulate-at,
 use Rattle.label.proofs.LabelLaws.{equal-exact}
 use Rattle.frame.specs.Frame.{bodyOf, soundBody}
 use Rattle.frame.proofs.FrameLoops.{sound-whole}
-use Rattle.hexline.specs.Accept.{acceptedBody, spanPart, textOk, valueByteOk}
+use Rattle.hexline.specs.Accept.{acceptedBody}
+use Rattle.hexline.specs.Internal.Accept.{spanPart, textOk, valueByteOk}
 use Rattle.hexline.specs.Body.{byteAt, labelAt, labelSize, lineWords}
-use Rattle.hexline.specs.Entry.{abbreviationBytes, abbreviationSize, atMost, entryFrom, entrySize, isLetter, isNameByte, labelFrom, layoutOf, maxAbbreviation, maxName, nameByteAt, nameByteOk, nameBytes, nameOf, nameSize, past, spanBytes, textByte, textFrom, validOf, valueByClass, valueOk, valueSize}
+use Rattle.hexline.specs.Entry.{abbreviationBytes, abbreviationSize, atMost, entryFrom, isLetter, isNameByte, labelFrom, layoutOf, maxAbbreviation, maxName, nameByteAt, nameByteOk, nameBytes, nameOf, nameSize, past, textByte, textFrom, validOf, valueByClass, valueOk, valueSize}
+use Rattle.hexline.specs.Internal.Spans.{entrySize, spanBytes}
 use Rattle.hexline.specs.Line.{contentsOf, entryForm, entryIn, readEntryLine}
 use Rattle.hexline.specs.declared.entry.Entry.{Entry}
 use Rattle.hexline.specs.declared.entry.Layout.{Layout}

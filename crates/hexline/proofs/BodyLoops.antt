@@ -25,7 +25,8 @@ use Rattle.range.specs.declared.Range.{Range}
 use Rattle.range.proofs.RangeLaws.{valid-parts}
 use Rattle.frame.proofs.FrameLaws.{Bytes}
 use Rattle.frame.proofs.FrameLoops.{store-next, store-none, tabulate-more, tabulate-same}
-use Rattle.hexline.specs.Body.{BodyAppended, byteAt, categoryByte, labelAt, labelBytes, labelSize, baseNumber, rangeAt, rangeSize, wordFrom}
+use Rattle.hexline.specs.Body.{byteAt, categoryByte, labelAt, labelBytes, labelSize, baseNumber, rangeAt, rangeSize, wordFrom}
+use Rattle.hexline.specs.Internal.Appended.{BodyAppended}
 use Rattle.hexline.specs.Codec.{labelFits, rangeFits}
 use Rattle.hexline.proofs.BodyLaws.{word-byte}
 use Rattle.hexline.proofs.NumberLaws.{number-bound, number-moved}

@@ -18,7 +18,8 @@ use Rattle.common.proofs.BoolLaws.{both}
 use Rattle.frame.specs.Frame.{readBody}
 use Rattle.frame.proofs.FrameLaws.{Bytes, bytes-append, bytes-take, cons-bytes}
 use Rattle.hexline.specs.Body.{byteAt, labelSize}
-use Rattle.hexline.specs.Entry.{TypedEntry, abbreviationSize, abbreviationText, valueClass, entryBytes, entryFrom, entryOf, entrySize, layoutOf, maxAbbreviation, maxName, nameSize, nameText, past, textBytes, textFrom, validOf, valueBytes, valueSize}
+use Rattle.hexline.specs.Entry.{TypedEntry, abbreviationSize, abbreviationText, valueClass, entryBytes, entryFrom, entryOf, layoutOf, maxAbbreviation, maxName, nameSize, nameText, past, textBytes, textFrom, validOf, valueBytes, valueSize}
+use Rattle.hexline.specs.Internal.Spans.{entrySize}
 use Rattle.hexline.specs.Line.{contentsOf, entryBody, entryForm, entryIn, bodyForm, lineOf}
 use Rattle.hexline.specs.declared.entry.Entry.{Entry}
 use Rattle.hexline.specs.declared.entry.Layout.{Layout}

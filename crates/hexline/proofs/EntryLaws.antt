@@ -18,7 +18,8 @@ use Rattle.common.proofs.BoolLaws.{first-true, second-true, three-true}
 use Rattle.common.proofs.IndexLaws.{every-at, le-or-lt, tabulate-at, tabulate-length}
 use Rattle.label.proofs.LabelLaws.{equal-exact, valid-hierarchy}
 use Rattle.frame.proofs.FrameLaws.{Bytes, cons-bytes}
-use Rattle.hexline.specs.Body.{BodyAppended, byteAt, labelAt, labelSize}
+use Rattle.hexline.specs.Body.{byteAt, labelAt, labelSize}
+use Rattle.hexline.specs.Internal.Appended.{BodyAppended}
 use Rattle.hexline.specs.Entry.{valueClass, entryBytes, isLetter, isNameByte, labelFrom, nameByteAt, nameByteOk, nameOf, textByte, textBytes, textFrom, validOf, valueBytes, valueByClass, valueOk, valueSize}
 use Rattle.hexline.specs.declared.entry.Entry.{Entry}
 use Rattle.hexline.specs.declared.entry.Value.{Value}

@@ -14,7 +14,8 @@ use Rattle.frame.specs.Frame.{bodyOf}
 use Rattle.frame.proofs.FrameLaws.{body-small}
 use Rattle.hexline.specs.Body.{byteAt, lineWords}
 use Rattle.hexline.specs.Entry
-use Rattle.hexline.specs.Entry.{TypedEntry, abbreviationBytes, abbreviationSize, atMost, entryFrom, isNameByte, layoutOf, nameBytes, nameOf, nameSize, spanBytes, textByte, textFrom}
+use Rattle.hexline.specs.Entry.{TypedEntry, abbreviationBytes, abbreviationSize, atMost, entryFrom, isNameByte, layoutOf, nameBytes, nameOf, nameSize, textByte, textFrom}
+use Rattle.hexline.specs.Internal.Spans.{spanBytes}
 use Rattle.hexline.specs.Line.{abbreviationIn, entryForm, entryIn, nameIn, readEntryLine, standingIn}
 use Rattle.hexline.specs.declared.entry.Entry.{Entry}
 use Rattle.hexline.specs.declared.entry.Span.{Span}

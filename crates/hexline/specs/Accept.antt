@@ -1,28 +1,11 @@
--- What a body of an alias entry is judged by, and where the texts of an entry stand.
-use mathlib.Core.Bool.{Bool, _&&_, _||_}
+-- Which bodies are those of accepted lines of kind 04.
+use mathlib.Core.Bool.{Bool, _&&_}
 use mathlib.Core.List.{List}
 use Prim.Native.Nat.{ℕ}
-use lib.Dec.{eqb, leb}
-use lib.ListN.{drop, length, take}
-use Rattle.common.specs.Index.{every}
-use Rattle.hexline.specs.Body.{byteAt, lineWords}
+use Rattle.hexline.specs.Body.{lineWords}
 use Rattle.hexline.specs.Entry
-use Rattle.hexline.specs.Entry.{isLetter, isNameByte}
 use Rattle.hexline.specs.Line.{entryForm, entryIn}
-use Rattle.hexline.specs.declared.entry.Span.{Span}
-
--- b may be the first byte of a value of a class from 1 to 3: any category, or the hierarchy of a valid label
-abbrev pub valueByteOk : ℕ → ℕ → Bool
-valueByteOk class b = eqb class 2 || leb b 199
-
--- a text is a name, which begins with a letter, or nothing
-unfoldable pub textOk : List ℕ → Bool
-textOk text = (eqb (length text) 0 || isLetter (byteAt text 0)) && every (λ k. isNameByte (byteAt text k)) (length text)
 
 -- the body of an accepted line of kind 04
 abbrev pub acceptedBody : List ℕ → Bool
 acceptedBody bs = entryForm 4 lineWords bs && Entry.validOf (entryIn lineWords bs)
-
--- the bytes of a body at a span
-abbrev pub spanPart : List ℕ → Span → List ℕ
-spanPart bs s = take (s .length) (drop (s .at) bs)

@@ -1,10 +1,9 @@
 -- Document 01, "Hex lines": labels and ranges as the bytes of a body, over the number of words that a label's set has there.
 use mathlib.Core.Bool.{cond}
 use mathlib.Core.List.{List, _∷_, _++_}
-use mathlib.Core.Path.{_≡_}
 use Prim.Native.Nat.{ℕ, zero, suc, _+_, _*_}
 use lib.Dec.{ltb}
-use lib.ListN.{getD, length, take}
+use lib.ListN.{getD}
 use Rattle.common.specs.Index.{tabulate}
 use Rattle.label.specs.Label
 use Rattle.label.specs.Words.{has, words}
@@ -60,10 +59,3 @@ labelAt w bs i = Label.labelOf (byteAt bs i) (tabulate (wordFrom w bs (i + 1)) w
 
 unfoldable pub rangeAt : ℕ → List ℕ → ℕ → Range
 rangeAt w bs i = Range.rangeOf (labelAt w bs i) (labelAt w bs (i + labelSize w))
-
--- ---- a buffer that is filled from the front: bytes are put at index i, and r is the index past them
-
-pub record BodyAppended (before : List ℕ) (i : ℕ) (bs : List ℕ) (r : ℕ) (after : List ℕ) : Type 0 where
-  pub next : r ≡ i + length bs
-  pub holds : take r after ≡ take i before ++ bs
-  pub size : length after ≡ length before

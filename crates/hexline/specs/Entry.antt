@@ -99,10 +99,6 @@ entryBytes w e =
     valueClass (e .value) ∷ valueBytes w (e .value) (e .label) ++ textBytes (e .name .bytes) (e .name .length)
     ++ textBytes (e .abbreviation .bytes) (e .abbreviation .length)
 
--- the most bytes that this is: class, label, and two lengths with their texts
-abbrev pub entrySize : ℕ → ℕ
-entrySize w = 1 + labelSize w + (1 + maxName) + (1 + maxAbbreviation)
-
 -- ---- reading
 
 -- how many bytes a value has
@@ -156,10 +152,6 @@ abbreviationBytes e = take (e .abbreviation .length) (e .abbreviation .bytes)
 -- a span of so many bytes at most
 abbrev pub atMost : ℕ → Span → Span
 atMost most s = record { at = s .at; length = min (s .length) most }
-
--- the bytes of a body at a span, and zeros past its end
-unfoldable pub spanBytes : List ℕ → Span → List ℕ
-spanBytes bs s = tabulate (λ k. byteAt bs (s .at + k)) (s .length)
 
 -- what every value of the code's type Entry has (`entry::typed` proves it)
 pub record TypedEntry (e : Entry) : Type 0 where

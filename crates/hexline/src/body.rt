@@ -9,7 +9,8 @@ ghost use lib.ListN.{length};
 ghost use Rattle.common.specs.Index.{tabulate};
 ghost use Rattle.label.specs.Words.{words as setWords};
 ghost use Rattle.hexline.specs.Codec.{labelFits, rangeFits};
-ghost use Rattle.hexline.specs.Body.{BodyAppended, byteAt, labelAt, labelBytes, labelSize, baseNumber, rangeAt, rangeBytes, rangeSize, wordFrom};
+ghost use Rattle.hexline.specs.Body.{byteAt, labelAt, labelBytes, labelSize, baseNumber, rangeAt, rangeBytes, rangeSize, wordFrom};
+ghost use Rattle.hexline.specs.Internal.Appended.{BodyAppended};
 
 // How many words a set has in lines of kinds 01 to 04.
 pub(crate) const LINE_WORDS: usize = 4;

@@ -14,8 +14,10 @@ ghost use mathlib.Core.Bool.{true};
 ghost use lib.ListN.{length, take};
 ghost use Rattle.common.specs.Index.{every};
 ghost use Rattle.label.specs.Words.{words as setWords};
-ghost use Rattle.hexline.specs.Body.{BodyAppended, byteAt, labelSize};
-ghost use Rattle.hexline.specs.Entry.{TypedEntry, valueClass, entryBytes, entryFrom, entrySize, isLetter, isNameByte, labelFrom, layoutOf, maxAbbreviation, maxName, nameByteAt, nameByteOk, nameOf, past, spanOf, textByte, textBytes, textFrom, validOf, valueBytes, valueByClass, valueOk, valueSize, zeroEntry};
+ghost use Rattle.hexline.specs.Body.{byteAt, labelSize};
+ghost use Rattle.hexline.specs.Internal.Appended.{BodyAppended};
+ghost use Rattle.hexline.specs.Entry.{TypedEntry, valueClass, entryBytes, entryFrom, isLetter, isNameByte, labelFrom, layoutOf, maxAbbreviation, maxName, nameByteAt, nameByteOk, nameOf, past, spanOf, textByte, textBytes, textFrom, validOf, valueBytes, valueByClass, valueOk, valueSize, zeroEntry};
+ghost use Rattle.hexline.specs.Internal.Spans.{entrySize};
 
 pub const MAX_NAME: usize = 31;
 

@@ -13,7 +13,8 @@ ghost use Rattle.label.specs.Region.{regions};
 ghost use Rattle.label.specs.Words.{bit, words as setWords};
 ghost use Rattle.range.specs.Tuple as tuples;
 ghost use Rattle.hexline.specs.Codec.{rangeFits, tupleFits};
-ghost use Rattle.hexline.specs.Body.{BodyAppended, rangeSize};
+ghost use Rattle.hexline.specs.Body.{rangeSize};
+ghost use Rattle.hexline.specs.Internal.Appended.{BodyAppended};
 ghost use Rattle.hexline.specs.Regions.{presenceOf, presentAt, presentBelow, regionAt, regionBytes, regionsBytes, tupleAt};
 
 fn present_at(t: Tuple, r: usize) -> u8

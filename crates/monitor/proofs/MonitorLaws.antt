@@ -18,7 +18,7 @@ use Rattle.label.proofs.LabelLaws.{dominates-refl}
 use Rattle.label.proofs.CallerLaws.{sees-all, sees-dominated, sees-still, withOverride}
 use Rattle.common.proofs.BoolLaws.{both, either, first-true, not-so, or-first, or-second, same-truth, second-true}
 use Rattle.monitor.specs.Monitor.{Row, someRow, applies, asks, attributeValid, callerSees, credentialsValid, decisionFor, decideBy, denied, grantBy, implies, intentGet, intentSet, intentsBy, isFile, kindValid, metOf, objectValid, overrideOf, table, unmet, validOf}
-use Rattle.monitor.specs.Needs.{answerBy, neededOf}
+use Rattle.monitor.specs.Internal.Needs.{answerBy, neededOf}
 use Rattle.monitor.specs.declared.Access.{Access}
 use Rattle.monitor.specs.declared.Access.the-variants.{Observe, Modify}
 use Rattle.monitor.specs.declared.Credentials.{Credentials}

@@ -5,7 +5,7 @@ use mathlib.Core.Option.{none}
 use mathlib.Core.Path.{_≡_, refl, ap, ap₂, _∙_}
 use Rattle.common.specs.Answer.{granted, refused, require}
 use Rattle.monitor.specs.Monitor.{Row, someRow, applies, callerSees, decisionFor, decideBy, denied, grantBy, intentsBy, metOf, overrideOf, table, unmet, validOf}
-use Rattle.monitor.specs.Needs.{answerBy, modifiesOf, neededOf, observesOf}
+use Rattle.monitor.specs.Internal.Needs.{answerBy, modifiesOf, neededOf, observesOf}
 use Rattle.monitor.specs.declared.Access.{Access}
 use Rattle.monitor.specs.declared.Access.the-variants.{Observe, Modify}
 use Rattle.monitor.specs.declared.Privileges.{Privileges}

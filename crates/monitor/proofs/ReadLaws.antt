@@ -11,7 +11,7 @@ use Rattle.common.proofs.AnswerLaws.{passed}
 use Rattle.common.proofs.BoolLaws.{both}
 use Rattle.label.proofs.LabelLaws.{equal-dominates}
 use Rattle.monitor.specs.Monitor.{asks, callerSees, decisionFor, destructiveRead, intentRead, isFile, kindValid, metOf, objectValid, row, table, underLabel, underTuple, validOf}
-use Rattle.monitor.specs.Needs.{answerBy, modifiesOf, neededOf, observesOf}
+use Rattle.monitor.specs.Internal.Needs.{answerBy, modifiesOf, neededOf, observesOf}
 use Rattle.monitor.specs.declared.Access.{Access}
 use Rattle.monitor.specs.declared.Access.the-variants.{Observe, Modify}
 use Rattle.monitor.specs.declared.Object.{Object}

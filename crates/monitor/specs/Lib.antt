@@ -1,3 +1,3 @@
 pub mod Monitor
-pub mod Needs
 pub mod Numbers
+pub mod Internal

@@ -1,6 +1,6 @@
 -- Classes, kinds and privileges by their numbers, as programs and C have them. What no number names is refused: `named` is false, and what stands
 -- beside it is of the number 0.
-use mathlib.Core.Bool.{Bool, true, false, _&&_, cond}
+use mathlib.Core.Bool.{Bool, true, false, cond}
 use Prim.Native.Nat.{ℕ}
 use lib.Dec.{eqb, leb}
 use Rattle.label.specs.Words.{bit}

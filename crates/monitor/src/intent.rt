@@ -5,7 +5,7 @@ ghost use mathlib.Core.Path.{_≡_};
 ghost use Prim.Native.Nat.{_<_};
 ghost use Rattle.label.specs.Words.{bit};
 ghost use Rattle.monitor.specs.Monitor.{attributeValid, destructiveRead, intentsValid, isDirectory, isFile, isRegular, kindValid};
-ghost use Rattle.monitor.specs.Needs.{modifiesOf, observesOf};
+ghost use Rattle.monitor.specs.Internal.Needs.{modifiesOf, observesOf};
 
 pub(crate) const WRITE: u32 = 0;
 

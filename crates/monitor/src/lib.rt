@@ -17,7 +17,7 @@ ghost use Rattle.common.specs.Answer.{granted, require, testOf};
 ghost use Rattle.label.specs.Label as labels;
 ghost use Rattle.range.specs.Tuple as tuples;
 ghost use Rattle.monitor.specs.Monitor.{callerSees, credentialsValid, decisionFor, decisionOf, implies, metOf, objectValid, tupleValid, underLabel, underTuple, validOf};
-ghost use Rattle.monitor.specs.Needs.{answerBy, neededOf};
+ghost use Rattle.monitor.specs.Internal.Needs.{answerBy, neededOf};
 
 // Document 01's privileges: read override, write override, relabel.
 pub struct Privileges {

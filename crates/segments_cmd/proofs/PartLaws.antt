@@ -21,7 +21,8 @@ use Rattle.common.specs.Buffer.{WrittenTo, bufferOf, lengthOf, overlay, written
 use Rattle.common.specs.declared.answer.Written.{Written}
 use Rattle.common.specs.declared.answer.Written.the-variants.{Length, Refused}
 use Rattle.common.specs.declared.errno.Errno.{Errno}
-use Rattle.segments_cmd.specs.Answer.{hexlineBytes, lineText}
+use Rattle.segments_cmd.specs.Answer.{lineText}
+use Rattle.segments_cmd.specs.Internal.Sizes.{hexlineBytes}
 
 -- the line of a label is short
 line-bytes : (l : Label) → length (lineText l) ≤ hexlineBytes

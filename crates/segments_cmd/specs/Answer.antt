@@ -11,17 +11,6 @@ use Rattle.segment_table.specs.declared.Reply.the-variants.{Done, Opened, Shown
 use Rattle.segment_table.specs.declared.Shown.{Shown as Numbers}
 use Rattle.segment_table.specs.declared.Slot.{Slot}
 
--- room for the numbers that a look shows, and for a hex line
-abbrev pub numbersBytes : ℕ
-numbersBytes = 112
-
-abbrev pub hexlineBytes : ℕ
-hexlineBytes = 400
-
--- the size of the buffer for an answer
-abbrev pub answerBytes : ℕ
-answerBytes = 512
-
 unfoldable pub placeText : Slot → List ℕ
 placeText p = field (ascii "place ") (p .0) ++ ascii "\n"
 

@@ -2,3 +2,4 @@ pub mod Request
 pub mod Answer
 pub mod Show
 pub mod Session
+pub mod Internal

@@ -1,26 +1,11 @@
 -- The state as text, a line at a time.
 use mathlib.Core.List.{List, [], _∷_, _++_}
-use Prim.Native.Nat.{ℕ, _+_, _*_}
+use Prim.Native.Nat.{ℕ, _+_}
 use Rattle.octets.specs.Bytes.{ascii}
 use Rattle.console.specs.Format.{field}
-use Rattle.label.specs.Words.{membersOf, words}
+use Rattle.label.specs.Words.{membersOf}
 use Rattle.label.specs.declared.Label.{Label}
 use Rattle.segment_table.specs.declared.Segment.{Segment}
-
--- the most bytes that a label's categories take: a blank and a number each
-abbrev pub categoriesBytes : ℕ
-categoriesBytes = 21 * (64 * words)
-
--- the most bytes of a slot's line: its numbers, and its label
-abbrev pub segmentBytes : ℕ
-segmentBytes = 82
-
-abbrev pub labelTextSize : ℕ
-labelTextSize = 42 + categoriesBytes
-
--- the size of the buffer for a line
-abbrev pub lineBytes : ℕ
-lineBytes = 128 + categoriesBytes
 
 -- a blank and a number for each
 unfoldable pub listText : List ℕ → List ℕ

@@ -11,9 +11,11 @@ use segment_table::Slot;
 ghost use Prim.Native.Nat.{_+_, _≤_};
 ghost use lib.ListN.{length};
 ghost use Rattle.octets.specs.Bytes.{Appended};
-ghost use Rattle.console.specs.Format.{field, numberBytes};
+ghost use Rattle.console.specs.Format.{field};
+ghost use Rattle.console.specs.Internal.Numbers.{numberBytes};
 ghost use Rattle.octets.specs.Internal.Put.{PutWithin};
-ghost use Rattle.segments_cmd.specs.Answer.{answerBytes, hexlineBytes, lineText, numbersBytes, placeText, replyText, shownNumbers, shownText};
+ghost use Rattle.segments_cmd.specs.Answer.{lineText, placeText, replyText, shownNumbers, shownText};
+ghost use Rattle.segments_cmd.specs.Internal.Sizes.{answerBytes, hexlineBytes, numbersBytes};
 
 // The size of the buffer for an answer.
 const ANSWER_BYTES: usize = 512;

@@ -18,7 +18,8 @@ ghost use lib.ListN.{length};
 ghost use Rattle.octets.specs.Internal.Put.{Put, PutWithin};
 ghost use Rattle.label.specs.Words.{membersOf};
 ghost use Rattle.segment_table.specs.Segments.{tenantTotal};
-ghost use Rattle.segments_cmd.specs.Show.{categoriesBytes, categoryNumbersText, labelTextSize, labelNumbersText, lineBytes, listText, poolText, segmentBytes, segmentText, slotText, tenantText};
+ghost use Rattle.segments_cmd.specs.Show.{categoryNumbersText, labelNumbersText, listText, poolText, segmentText, slotText, tenantText};
+ghost use Rattle.segments_cmd.specs.Internal.Sizes.{categoriesBytes, labelTextSize, lineBytes, segmentBytes};
 
 // How many categories there can be.
 const CATEGORIES: u64 = (64 * WORDS) as u64;

@@ -18,7 +18,8 @@ use Rattle.common.proofs.SearchLaws.{last-holds}
 use Rattle.octets.specs.Internal.Put.{Put}
 use Rattle.octets.proofs.ByteLaws.{nothing-put, put-same-length, then-put}
 use Rattle.frame.specs.Frame.{bodyOf}
-use Rattle.hexline.specs.Entry.{nameSize, spanBytes}
+use Rattle.hexline.specs.Entry.{nameSize}
+use Rattle.hexline.specs.Internal.Spans.{spanBytes}
 use Rattle.hexline.specs.Line.{abbreviationIn, nameIn, standingIn}
 use Rattle.hexline.specs.declared.entry.Entry.{Entry}
 use Rattle.hexline.specs.declared.entry.Span.{Span}

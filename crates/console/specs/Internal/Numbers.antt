@@ -16,3 +16,7 @@ numberReadOf Bad = none
 pub record ByteCount (n : ℕ) (bs : List ℕ) (r : ℕ) : Type 0 where
   pub count : r ≡ length bs
   pub at-most : r ≤ n
+
+-- the most bytes that a number below 2 ^ 64 takes
+abbrev pub numberBytes : ℕ
+numberBytes = 20

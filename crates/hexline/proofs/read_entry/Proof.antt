@@ -1,7 +1,8 @@
 use borrow.Author.Needs.{needs}
 use Prim.Native.Nat.{_+_}
 use native.Mathlib.Omega.{arith}
-use Rattle.hexline.specs.Entry.{entrySize, validOf}
+use Rattle.hexline.specs.Entry.{validOf}
+use Rattle.hexline.specs.Internal.Spans.{entrySize}
 use Rattle.frame.proofs.FrameLoops.{decoded-front}
 use Rattle.hexline.specs.Body.{lineWords}
 use Rattle.hexline.specs.Line.{entryForm, entryIn}

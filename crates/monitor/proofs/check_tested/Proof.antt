@@ -2,7 +2,7 @@ use borrow.Author.Needs.{needs}
 use mathlib.Core.Path.{sym, ap, _∙_}
 use Rattle.common.proofs.AnswerLaws.{passed, stopped}
 use Rattle.common.proofs.BoolLaws.{told-false, told-true}
-use Rattle.monitor.specs.Needs.{answerBy}
+use Rattle.monitor.specs.Internal.Needs.{answerBy}
 use Rattle.monitor.specs.declared.Privileges.{Privileges}
 use Rattle.monitor.proofs.NeedsLaws.{decide-needed}
 use Rattle.monitor.proofs.check_tested.Statement.{statement}

@@ -1,5 +1,5 @@
 use borrow.Author.Needs.{needs}
-use Rattle.monitor.specs.Needs.{neededOf}
+use Rattle.monitor.specs.Internal.Needs.{neededOf}
 use Rattle.monitor.proofs.needed.Statement.{statement}
 use Rattle.monitor.proofs.needed.Tie as tie
 

@@ -10,7 +10,6 @@ use Rattle.segments.specs.Calls.{callRow, callValid, cleared, slotValid}
 use Rattle.segment_table.specs.Replies.{Grant, done, unlabeledAnswer}
 use Rattle.segment_table.specs.Segments.{segmentAt, slot, tenantAt, tenantTotal, zeroSegment}
 use Rattle.segment_table.specs.Sound.{sound}
-use Rattle.segment_table.specs.declared.CallAnswer.{CallAnswer}
 use Rattle.segments.specs.declared.Call.{Call}
 use Rattle.segments.specs.declared.Change.{Change}
 use Rattle.segment_table.specs.declared.Reply.the-variants.{Refused}

@@ -1,5 +1,5 @@
 use borrow.Author.Needs.{needs}
-use Rattle.hexline.specs.Accept.{textOk}
+use Rattle.hexline.specs.Internal.Accept.{textOk}
 use Rattle.hexline.proofs.accept.text_ok.Statement.{statement}
 use Rattle.hexline.proofs.accept.text_ok.Tie as tie
 

@@ -5,7 +5,8 @@ use native.Mathlib.Omega.{arith}
 use lib.ListN.{length-set}
 use borrow.Author.Tests.{leb-true}
 use Rattle.common.specs.Index.{tabulate}
-use Rattle.hexline.specs.Body.{BodyAppended, categoryByte}
+use Rattle.hexline.specs.Body.{categoryByte}
+use Rattle.hexline.specs.Internal.Appended.{BodyAppended}
 use Rattle.hexline.proofs.BodyLoops.{label-put, put-none, word-more}
 use Rattle.hexline.proofs.body.put_label.Statement.{statement}
 use Rattle.hexline.proofs.body.put_label.Tie as tie

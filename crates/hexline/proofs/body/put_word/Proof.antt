@@ -3,7 +3,7 @@ use mathlib.Core.Path.{_≡_, ap}
 use Prim.Native.Nat.{ℕ, _≤_, _+_, _-_, _/_, _%_, _^_}
 use native.Mathlib.Omega.{arith}
 use Rattle.common.specs.Index.{tabulate}
-use Rattle.hexline.specs.Body.{BodyAppended}
+use Rattle.hexline.specs.Internal.Appended.{BodyAppended}
 use Rattle.hexline.proofs.BodyLoops.{put-next, put-none}
 use Rattle.hexline.proofs.NumberLaws.{pow-byte}
 use Rattle.hexline.proofs.body.put_word.Statement.{statement}

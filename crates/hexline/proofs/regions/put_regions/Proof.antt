@@ -4,7 +4,7 @@ use mathlib.Core.Path.{_≡_}
 use Prim.Native.Nat.{_≤_, _-_}
 use native.Mathlib.Omega.{arith}
 use Rattle.label.specs.Region.{regions}
-use Rattle.hexline.specs.Body.{BodyAppended}
+use Rattle.hexline.specs.Internal.Appended.{BodyAppended}
 use Rattle.hexline.specs.Regions.{regionsBytes}
 use Rattle.hexline.proofs.BodyLoops.{appended-both, appended-none}
 use Rattle.hexline.proofs.RegionsLaws.{region-fits, regions-next, regions-room}

@@ -1,5 +1,5 @@
 use borrow.Author.Needs.{needs}
-use Rattle.monitor.specs.Needs.{modifiesOf}
+use Rattle.monitor.specs.Internal.Needs.{modifiesOf}
 use Rattle.monitor.proofs.intent.modifies.Statement.{statement}
 use Rattle.monitor.proofs.intent.modifies.Tie as tie
 

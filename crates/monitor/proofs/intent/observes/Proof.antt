@@ -1,5 +1,5 @@
 use borrow.Author.Needs.{needs}
-use Rattle.monitor.specs.Needs.{observesOf}
+use Rattle.monitor.specs.Internal.Needs.{observesOf}
 use Rattle.monitor.proofs.intent.observes.Statement.{statement}
 use Rattle.monitor.proofs.intent.observes.Tie as tie
 
