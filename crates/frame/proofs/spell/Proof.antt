@@ -1,3 +1,5 @@
+-- After i bytes their digits stand at the front of the buffer, and s is their sum modulo 256; a byte adds its two digits (`digits-next`) and
+-- itself (`sum-next`).
 use borrow.Author.Needs.{needs}
 use mathlib.Core.List.{List}
 use mathlib.Core.Path.{_≡_, refl, ap, _∙_}

@@ -1,3 +1,5 @@
+-- A body that is too long, and a buffer that is too short, write nothing. Else the digits of the body, those of the check byte (`check-of`) and
+-- the LF together are the frame (`frame-more`).
 use borrow.Author.Needs.{needs}
 use mathlib.Core.List.{List}
 use mathlib.Core.Path.{refl, sym, ap, _∙_}

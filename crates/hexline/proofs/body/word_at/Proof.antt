@@ -1,3 +1,4 @@
+-- From the last byte to the first: w is the number of the bytes from index at + k on, and one more is its lowest digit in base 256 (`number-next`).
 use borrow.Author.Needs.{needs}
 use mathlib.Core.Path.{_≡_, refl, ap, ap₂, _∙_}
 use Prim.Native.Nat.{ℕ, _≤_, _+_, _*_, _-_}

@@ -1,3 +1,4 @@
+-- From the last region to the first: p is the byte of presence of the regions from r on, and one more doubles it and adds its own bit.
 use borrow.Author.Needs.{needs}
 use mathlib.Core.Path.{_≡_, refl, ap, ap₂, _∙_}
 use Prim.Native.Nat.{ℕ, _≤_, _+_, _*_, _-_}

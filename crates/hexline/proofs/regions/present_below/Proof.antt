@@ -1,3 +1,4 @@
+-- After r regions k is how many of them the byte of presence has.
 use borrow.Author.Needs.{needs}
 use mathlib.Core.Path.{_≡_, refl, ap, ap₂, _∙_}
 use Prim.Native.Nat.{_≤_, _+_, _-_}

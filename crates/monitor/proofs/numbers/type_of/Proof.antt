@@ -1,3 +1,4 @@
+-- Each number from 0 to 5 has a way out of its own, where it is that number and none before it; what is left names no class.
 use borrow.Author.Needs.{needs}
 use borrow.Author.Tests.{ne-eqb}
 use Rattle.monitor.specs.Numbers.{typeNamed}
