@@ -1,10 +1,10 @@
 -- Labels and ranges that are written by the entries of a good table read back, and a range whose high end is not shown is refused.
 use mathlib.Core.Bool.{Bool, true, false, cond, _&&_}
 use mathlib.Core.List.{List, [], _∷_, _++_, append-assoc}
-use mathlib.Core.Option.{Option}
 use mathlib.Core.Path.{_≡_, refl, sym, ap, _∙_}
 use Prim.Native.Nat.{ℕ}
 use native.Mathlib.Omega.{arith}
+use lib.ListN.{drop}
 use lib.Seq.{drop-append-seam, take-append-seam}
 use Rattle.common.specs.Answer.{Answer, andThen, granted, require}
 use Rattle.label.specs.Caller.{callerValid, seesOf}
@@ -13,24 +13,24 @@ use Rattle.label.specs.Words.{membersOf}
 use Rattle.label.specs.declared.Label.{Label}
 use Rattle.label.specs.declared.caller.Caller.{Caller}
 use Rattle.common.proofs.AnswerLaws.{grant-passed, grant-told, grants-same}
-use Rattle.common.proofs.BoolLaws.{first-true, second-true}
+use Rattle.common.proofs.BoolLaws.{first-true, not-so, second-true}
 use Rattle.range.specs.Range
 use Rattle.range.specs.declared.Range.{Range}
 use Rattle.range.proofs.RangeLaws.{valid-parts}
-use Rattle.octets.specs.Bytes.{blank}
-use Rattle.octets.proofs.ByteLaws.{Without, index-behind, same-self, without-append, without-cons}
+use Rattle.octets.specs.Bytes.{blank, sameBytes}
+use Rattle.octets.proofs.ByteLaws.{Without, index-behind, same-is, same-self, without-append, without-cons}
 use Rattle.hexline.specs.Entry.{isLetter, isNameByte}
 use Rattle.hexline.specs.declared.entry.Entry.{Entry}
 use Rattle.hexline.specs.declared.entry.Value.the-variants.{Hierarchy, Category, WholeLabel}
 use Rattle.alias.proofs.TableLaws.{Good}
-use Rattle.text.specs.Read.{endsOf, entryNamed, foundEntry, labelBy, labelInText, labelNamed, labelSeen, plain, rangeFrom, readLabelText, readRangeText}
+use Rattle.text.specs.Read.{endsOf, highOf, labelSeen, plain, rangeFrom, readLabelText, readRangeText}
 use Rattle.text.specs.Write.{Shown, allNamed, categoriesNamed, categoriesText, colon, comma, definitionNamed, definitionText, hiddenHigh, highMarker, labelText, lowMarker, lowText, nameFor, named, namedIn, shown, textIn, wholeText, writeLabelOf, writeRangeOf}
 use Rattle.text.specs.declared.Form.{Form}
 use Rattle.text.specs.declared.Form.the-variants.{Definition, Alias}
 use Rattle.text.specs.declared.Style.{Style}
 use Rattle.text.specs.declared.Variant.{Variant}
-use Rattle.text.proofs.NameLaws.{find-nothing, name-without}
-use Rattle.text.proofs.RoundLaws.{label-back, label-single}
+use Rattle.text.proofs.NameLaws.{name-without}
+use Rattle.text.proofs.RoundLaws.{label-back}
 
 -- ---- bytes that do not stand in the text of a label, and the ends of a range in its text
 
@@ -86,15 +86,27 @@ module _ (es : List Entry) (good : Good es) where
 
   -- the low end up to the blank, the marker, and what follows
   ends-at : (s : Caller) (low : Label) (text rest : List ℕ) → Without blank text → labelSeen es s text ≡ granted low
-      → endsOf es s (text ++ (highMarker ++ rest)) ≡ rangeFrom es s low rest
+      → endsOf es s (text ++ (highMarker ++ rest)) ≡ highOf es s low (highMarker ++ rest)
   unfolding endsOf
   ends-at s low text rest w e =
-      rw (index-behind blank text (45 ∷ 72 ∷ 32 ∷ rest) w, take-append-seam text (highMarker ++ rest), drop-append-seam text (highMarker ++ rest), e, same-self highMarker)
+      rw (index-behind blank text (45 ∷ 72 ∷ 32 ∷ rest) w, take-append-seam text (highMarker ++ rest), drop-append-seam text (highMarker ++ rest), e)
 
   range-shown : (s : Caller) (low : Label) (text rest : List ℕ) → callerValid s ≡ true → Without blank text → labelSeen es s text ≡ granted low
-      → readRangeText es s (lowMarker ++ (text ++ (highMarker ++ rest))) ≡ rangeFrom es s low rest
+      → readRangeText es s (lowMarker ++ (text ++ (highMarker ++ rest))) ≡ highOf es s low (highMarker ++ rest)
   unfolding readRangeText
   range-shown s low text rest v w e = rw (v, same-self lowMarker) (ends-at s low text rest w e)
+
+  -- a high end that has no `?` is read
+  high-shown : (s : Caller) (low : Label) (rest : List ℕ) → Without 63 rest → highOf es s low (highMarker ++ rest) ≡ rangeFrom es s low rest
+  unfolding highOf
+  high-shown s low rest w = rw (not-so (sameBytes (highMarker ++ rest) hiddenHigh) other, same-self highMarker)
+    where
+      other : sameBytes (highMarker ++ rest) hiddenHigh ≡ true → ⊥
+      other e = let r : rest ≡ 63 ∷ [] = ap (drop 4) (same-is (highMarker ++ rest) hiddenHigh e) in w 0 (rw r (omega arith)) (rw r refl)
+
+  high-hidden : (s : Caller) (low : Label) → highOf es s low hiddenHigh ≡ plain
+  unfolding highOf
+  high-hidden s low = rw (same-self hiddenHigh)
 
   -- what a grant of a range's text tells
   record RangeGrant (s : Caller) (style : Style) (x : Range) (t : Shown) (high : Bool) : Type 0 where
@@ -132,25 +144,22 @@ module _ (es : List Entry) (good : Good es) where
       ap (λ (t : Shown). readRangeText es s (t .text)) (p .1)
       ∙ ap (readRangeText es s) (regroup lowMarker (labelText es style (x .low)) highMarker (labelText es style (x .high)))
       ∙ range-shown s (x .low) (labelText es style (x .low)) (labelText es style (x .high)) (g .subject) w low
+      ∙ high-shown s (x .low) (labelText es style (x .high)) (text-without 63 refl (style .variant) (style .form) (x .high) (λ f. omega arith) (λ f. omega arith) nb)
       ∙ ap (λ (a : Answer Label). andThen a (λ (high : Label). require (Label.dominatesOf high (x .low)) 22 (granted (Range.rangeOf (x .low) high)))) high
       ∙ rw (valid-parts x (g .range) .order)
 
   -- a range whose high end is not shown
   hidden-refused : (s : Caller) (style : Style) (x : Range) (t : Shown) → Range.TypedRange x → RangeGrant s style x t false → readRangeText es s (t .text) ≡ plain
-  unfolding lowText rangeFrom labelSeen labelNamed entryNamed isNameByte isLetter
+  unfolding lowText isNameByte isLetter
   hidden-refused s style x t ty g =
       let a = allNamed es style (x .low) in
       let p = grant-told a 2 t _ (g .text) in
       let low = seen-back s style (x .low) (ty .low) (g .low) (p .0) in
       let w = text-without blank refl (style .variant) (style .form) (x .low) (λ f. omega arith) (λ f. omega arith) (p .0) in
-      let mark : List ℕ = 63 ∷ [] in
-      let none-named : labelInText es (63 ∷ []) ≡ plain =
-      label-single es good (style .variant) (63 ∷ []) (without-cons colon 63 [] (λ f. omega arith) (λ k l. absurd (omega arith)))
-      ∙ ap (λ (o : Option ℕ). andThen (foundEntry es o) (λ (e : Entry). labelBy (e .value) (e .label))) (find-nothing es good (63 ∷ []) 0 (omega arith) refl) in
       ap (λ (t : Shown). readRangeText es s (t .text)) (p .1)
       ∙ ap (readRangeText es s) (append-assoc lowMarker (labelText es style (x .low)) hiddenHigh)
       ∙ range-shown s (x .low) (labelText es style (x .low)) (63 ∷ []) (g .subject) w low
-      ∙ ap (λ (a : Answer Label). andThen (andThen a (λ (l : Label). require (seesOf s l) 22 (granted l))) (λ (high : Label). require (Label.dominatesOf high (x .low)) 22 (granted (Range.rangeOf (x .low) high)))) none-named
+      ∙ high-hidden s (x .low)
 
   pub range-reads : (s : Caller) (style : Style) (x : Range) (t : Shown) → Range.TypedRange x → writeRangeOf es s style x ≡ granted t → t .status ≡ 0
       → readRangeText es s (t .text) ≡ granted x

@@ -162,18 +162,3 @@ module _ (es : List Entry) (good : Good es) where
       true≢false
       (sym (called-letters (entryAt es (x .number)) (writtenName v (entryAt es (x .number))) (good .valid (x .number) (x .below)) (written-called v (entryAt es (x .number))) k i)
       ∙ ap (λ (xs : List ℕ). isNameByte (getD xs k 0)) (sym t) ∙ ap isNameByte q ∙ n)
-
-  -- a text that has a byte that is no name byte names nothing
-  pub find-nothing : (text : List ℕ) (k : ℕ) → k < length text → isNameByte (getD text k 0) ≡ false → findOf es text ≡ none
-  unfolding findOf
-  find-nothing text k l n = go (firstFrom f 0 (length es)) refl
-    where
-      f : ℕ → Bool
-      f j = calledOf (entryAt es j) text
-
-      go : (o : Option ℕ) → firstFrom f 0 (length es) ≡ o → firstFrom f 0 (length es) ≡ none
-      go none e = e
-      go (some j) e =
-          let r = first-least f 0 (length es) j e in
-          let b = r .1 in
-          absurd (true≢false (sym (called-letters (entryAt es j) text (good .valid j (omega arith)) (r .0 .there) k l) ∙ n))

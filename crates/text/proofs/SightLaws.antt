@@ -20,7 +20,7 @@ use Rattle.common.proofs.SearchLaws.{first-least}
 use Rattle.range.specs.Range
 use Rattle.range.specs.declared.Range.{Range}
 use Rattle.range.proofs.RangeLaws.{parts-valid}
-use Rattle.octets.specs.Bytes.{blank, indexOf, split}
+use Rattle.octets.specs.Bytes.{blank, indexOf, sameBytes, split}
 use Rattle.hexline.specs.Entry as entries
 use Rattle.hexline.specs.declared.entry.Entry.{Entry}
 use Rattle.hexline.specs.declared.entry.Value.{Value}
@@ -29,8 +29,8 @@ use Rattle.hexline.proofs.EntryLaws.{hierarchy-small, valid-parts}
 use Rattle.alias.specs.Lines.{entryAt}
 use Rattle.alias.specs.Lookup.{calledOf, findOf}
 use Rattle.alias.proofs.TableLaws.{Good}
-use Rattle.text.specs.Read.{beginsWith, categoriesRead, categoryBy, categoryNamed, composedOf, endsOf, entryNamed, foundEntry, hierarchyBy, hierarchyNamed, labelBy, labelInText, labelNamed, labelSeen, noCategories, rangeFrom, readLabelText, readRangeText}
-use Rattle.text.specs.Write.{colon, comma, highMarker, lowMarker}
+use Rattle.text.specs.Read.{beginsWith, categoriesRead, categoryBy, categoryNamed, composedOf, endsOf, highOf, entryNamed, foundEntry, hierarchyBy, hierarchyNamed, labelBy, labelInText, labelNamed, labelSeen, noCategories, rangeFrom, readLabelText, readRangeText}
+use Rattle.text.specs.Write.{colon, comma, hiddenHigh, highMarker, lowMarker}
 
 -- ---- the plain refusal
 
@@ -130,12 +130,16 @@ module _ (es : List Entry) where
   plain-from s low text =
       plain-then (labelSeen es s text) _ (plain-seen s text) (λ high. plain-require (Label.dominatesOf high low) _ (plain-grant (Range.rangeOf low high)))
 
+  plain-high : (s : Caller) (low : Label) (text : List ℕ) → Plain (highOf es s low text)
+  unfolding highOf
+  plain-high s low text =
+      plain-require (not (sameBytes text hiddenHigh)) _ (plain-require (beginsWith highMarker text) _ (plain-from s low (drop (length highMarker) text)))
+
   plain-ends : (s : Caller) (text : List ℕ) → Plain (endsOf es s text)
   unfolding endsOf
   plain-ends s text =
       let n = indexOf blank text in
-      plain-then (labelSeen es s (take n text)) _ (plain-seen s (take n text))
-      (λ low. plain-require (beginsWith highMarker (drop n text)) _ (plain-from s low (drop (length highMarker) (drop n text))))
+      plain-then (labelSeen es s (take n text)) _ (plain-seen s (take n text)) (λ low. plain-high s low (drop n text))
 
   -- every refusal of a range is the plain 22
   pub range-plain : (s : Caller) (text : List ℕ) → Plain (readRangeText es s text)
@@ -236,13 +240,19 @@ module _ (es : List Entry) (good : Good es) where
         high = g .seen;
       })
 
+  high-sight : (s : Caller) (low : Label) (text : List ℕ) (x : Range) → InSight s low → highOf es s low text ≡ granted x → RangeInSight s x
+  unfolding highOf
+  high-sight s low text x l h =
+      let rest = drop (length highMarker) text in
+      let a = grant-passed (not (sameBytes text hiddenHigh)) 22 x (require (beginsWith highMarker text) 22 (rangeFrom es s low rest)) (sym h) .1 in
+      from-sight s low rest x l (sym (grant-passed (beginsWith highMarker text) 22 x (rangeFrom es s low rest) a .1))
+
   ends-sight : (s : Caller) (text : List ℕ) (x : Range) → endsOf es s text ≡ granted x → RangeInSight s x
   unfolding endsOf
   ends-sight s text x h =
       let n = indexOf blank text in
-      let rest = drop (length highMarker) (drop n text) in
-      let y = followed (labelSeen es s (take n text)) (λ (low : Label). require (beginsWith highMarker (drop n text)) 22 (rangeFrom es s low rest)) x h in
-      from-sight s (y .first) rest x (seen-sight s (take n text) (y .first) (y .first-is)) (sym (grant-passed (beginsWith highMarker (drop n text)) 22 x (rangeFrom es s (y .first) rest) (sym (y .then-is)) .1))
+      let y = followed (labelSeen es s (take n text)) (λ (low : Label). highOf es s low (drop n text)) x h in
+      high-sight s (y .first) (drop n text) x (seen-sight s (take n text) (y .first) (y .first-is)) (y .then-is)
 
   pub range-sight : (s : Caller) (text : List ℕ) (x : Range) → readRangeText es s text ≡ granted x → RangeInSight s x
   unfolding readRangeText

@@ -20,7 +20,7 @@ use Rattle.hexline.specs.declared.entry.Value.{Value}
 use Rattle.hexline.specs.declared.entry.Value.the-variants.{Hierarchy, Category, WholeLabel}
 use Rattle.alias.specs.Lines.{entryAt}
 use Rattle.alias.specs.Lookup.{findOf}
-use Rattle.text.specs.Write.{colon, comma, highMarker, lowMarker}
+use Rattle.text.specs.Write.{colon, comma, hiddenHigh, highMarker, lowMarker}
 
 abbrev pub plain : {A : Type 0} → Answer A
 plain = refused 22 none
@@ -107,11 +107,14 @@ unfoldable pub rangeFrom : List Entry → Caller → Label → List ℕ → Answ
 rangeFrom es c low text =
     andThen (labelSeen es c text) (λ (high : Label). require (Label.dominatesOf high low) 22 (granted (Range.rangeOf low high)))
 
+-- the high end behind its marker; the form with `?` is no range
+unfoldable pub highOf : List Entry → Caller → Label → List ℕ → Answer Range
+highOf es c low text =
+    require (not (sameBytes text hiddenHigh)) 22 (behind highMarker text (λ (high : List ℕ). rangeFrom es c low high))
+
 -- the low end goes up to the next blank; it is read first, and if that gives no label, its refusal is the answer
 unfoldable pub endsOf : List Entry → Caller → List ℕ → Answer Range
-endsOf es c text =
-    andThen (labelSeen es c (take (indexOf blank text) text))
-    (λ (low : Label). behind highMarker (drop (indexOf blank text) text) (λ (high : List ℕ). rangeFrom es c low high))
+endsOf es c text = andThen (labelSeen es c (take (indexOf blank text) text)) (λ (low : Label). highOf es c low (drop (indexOf blank text) text))
 
 -- reading a range
 unfoldable pub readRangeText : List Entry → Caller → List ℕ → Answer Range

@@ -22,7 +22,7 @@ ghost use Rattle.range.specs.Range.{zeroRange};
 ghost use Rattle.octets.specs.Bytes.{split};
 ghost use Rattle.alias.specs.Lines.{entriesBy};
 ghost use Rattle.text.specs.Internal.Named.{addedTo, valueNamed, valueNamedOf};
-ghost use Rattle.text.specs.Read.{beginsWith, categoriesRead, composedOf, endsOf, labelInText, labelNamed, labelSeen, noCategories, plain, rangeFrom, readLabelText, readRangeText};
+ghost use Rattle.text.specs.Read.{beginsWith, categoriesRead, composedOf, endsOf, highOf, labelInText, labelNamed, labelSeen, noCategories, plain, rangeFrom, readLabelText, readRangeText};
 ghost use Rattle.text.specs.Subject.{withTable};
 ghost use Rattle.text.specs.Write.{comma};
 
@@ -279,6 +279,25 @@ fn range_from(
     no_range()
 }
 
+// The range of a low end and what follows it: the marker and the text of a high end. The form with `?` is no range.
+fn high_end(table: &[u8], starts: &[usize], caller: Caller, low: Label, text: &[u8]) -> RangeAnswer
+    ensures { λ r. ⌜ Answered (r .outcome) (r .range) zeroRange (highOf (entriesBy (now (table .entry)) (now (starts .entry))) caller low (now (text .entry))) ⌝ }
+{
+    if octets::same(text, b" -H ?") {
+        return no_range();
+    }
+    if begins_with(b" -H ", text) {
+        return range_from(
+            table,
+            starts,
+            caller,
+            low,
+            octets::rest(text, b" -H ".len()),
+        );
+    }
+    no_range()
+}
+
 // The range of a text behind its first marker: the low end first, and its refusal where it gives no label.
 fn ends(table: &[u8], starts: &[usize], caller: Caller, text: &[u8]) -> RangeAnswer
     ensures { λ r. ⌜ Answered (r .outcome) (r .range) zeroRange (endsOf (entriesBy (now (table .entry)) (now (starts .entry))) caller (now (text .entry))) ⌝ }
@@ -292,11 +311,7 @@ fn ends(table: &[u8], starts: &[usize], caller: Caller, text: &[u8]) -> RangeAns
             range: range::zero(),
         };
     };
-    let rest = octets::rest(text, n);
-    if begins_with(b" -H ", rest) {
-        return range_from(table, starts, caller, low.label, octets::rest(rest, 4));
-    }
-    no_range()
+    high_end(table, starts, caller, low.label, octets::rest(text, n))
 }
 
 // Reads a range by a table that was tested.
@@ -304,7 +319,7 @@ fn read_range_checked(table: &[u8], starts: &[usize], caller: Caller, text: &[u8
     ensures { λ r. ⌜ Answered (r .outcome) (r .range) zeroRange (readRangeText (entriesBy (now (table .entry)) (now (starts .entry))) caller (now (text .entry))) ⌝ }
 {
     if label::valid(caller.label) & begins_with(b"-L ", text) {
-        return ends(table, starts, caller, octets::rest(text, 3));
+        return ends(table, starts, caller, octets::rest(text, b"-L ".len()));
     }
     no_range()
 }

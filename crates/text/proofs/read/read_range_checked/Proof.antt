@@ -8,8 +8,9 @@ returns : tie.Need-returns
 unfolding readRangeText
 returns c =
     let r = c .before in
-    let b = r .before .before in
-    rw (← b .before .before .valid .ensures, ← b .begins-with .ensures, ← r .rest .ensures, ← require-both, r .before .if1 .taken) (c .ends .ensures)
+    let t = r .before .before in
+    let b = t .before in
+    rw (← b .before .before .valid .ensures, ← b .begins-with .ensures, ← r .rest .ensures, ← require-both, t .if1 .taken) (c .ends .ensures)
 
 returns-2 : tie.Need-returns-2
 unfolding readRangeText
