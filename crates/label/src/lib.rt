@@ -92,10 +92,7 @@ pub fn upper_bound(a: Label, b: Label) -> LabelAnswer
     ensures { λ r. ⌜ Answered (r .outcome) (r .label) zeroLabel (require (validOf a && validOf b) 22 (granted (upperBoundOf a b))) ⌝ }
 {
     if both_valid(a, b) {
-        return LabelAnswer {
-            outcome: Outcome::Granted,
-            label: tested::upper_bound(a, b),
-        };
+        return tested::upper_bound(a, b);
     }
     LabelAnswer {
         outcome: Outcome::Refused(Errno::Invalid),
@@ -108,10 +105,7 @@ pub fn lower_bound(a: Label, b: Label) -> LabelAnswer
     ensures { λ r. ⌜ Answered (r .outcome) (r .label) zeroLabel (require (validOf a && validOf b) 22 (granted (lowerBoundOf a b))) ⌝ }
 {
     if both_valid(a, b) {
-        return LabelAnswer {
-            outcome: Outcome::Granted,
-            label: tested::lower_bound(a, b),
-        };
+        return tested::lower_bound(a, b);
     }
     LabelAnswer {
         outcome: Outcome::Refused(Errno::Invalid),

@@ -319,3 +319,8 @@ split-labels x l v =
     let r : ℕ = regionOf (l .hierarchy) in
     let w = region-within (l .hierarchy) in
     ap (λ (e : RegionRange). containsAt e l) (range-of (cutOf x) r (w .known)) ∙ cut-labels x l r (w .first) (λ c. w .last (valid-hierarchy l (contains-valid x l v c)))
+
+-- what a tuple has for the region of a label is asked for the label
+pub contains-by-region : (t : Tuple) (l : Label) (r : ℕ) → r ≡ regionOf (l .hierarchy) → containsAt (regionRangeAt t r) l ≡ containsOf t l
+unfolding containsOf
+contains-by-region t l r e = ap (λ (n : ℕ). containsAt (regionRangeAt t n) l) e

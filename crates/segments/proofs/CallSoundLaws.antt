@@ -1,47 +1,32 @@
 -- Every tenant call keeps soundness: what a granted call writes may be held by its slot, and its caller's pages stay under the ceiling.
 use mathlib.Core.Option.{none, some, Option·some-ne-none}
-use mathlib.Core.Bool.{Bool, true, _&&_}
+use mathlib.Core.Bool.{true}
 use mathlib.Core.Path.{_≡_, sym, ap, subst, _∙_}
 use Prim.Native.Nat.{ℕ, _+_, _-_, _≤_}
 use native.Mathlib.Omega.{arith}
 use borrow.Author.Tests.{leb-true}
 use lib.Dec.{leb}
-use Rattle.common.specs.Answer.{granted, require, testOf}
-use Rattle.common.specs.declared.answer.Test.{Test}
-use Rattle.common.proofs.AnswerLaws.{readBy, test-read}
 use Rattle.label.specs.Label
 use Rattle.label.specs.declared.Label.{Label}
-use Rattle.common.proofs.BoolLaws.{both, first-true, second-true, three-true}
+use Rattle.common.proofs.BoolLaws.{first-true, second-true}
 use Rattle.range.specs.Tuple
-use Rattle.segments.specs.Calls.{CallEffect, callOf, callRow, callValid, cleared, slotFor, slotValid, stepOf, writable}
-use Rattle.segment_table.specs.Segments.{ceilingAt, clearanceAt, maxPages, pagesAt, pagesValid, segmentAt, segmentOf, tenantAt, withSegment}
+use Rattle.segments.specs.Calls.{CallEffect, callOf, callRow, cleared, slotFor, slotValid, stepOf, writable}
+use Rattle.segment_table.specs.Segments.{ceilingAt, clearanceAt, maxPages, pagesAt, pagesValid, segmentAt, segmentOf, withSegment}
 use Rattle.segment_table.specs.Slots.{owns, pagesOf}
-use Rattle.segment_table.specs.Sound.{admitted, sound}
+use Rattle.segment_table.specs.Sound.{sound}
 use Rattle.segments.specs.declared.Action.{Action}
 use Rattle.segments.specs.declared.Action.the-variants.{Open, Size, Post, Look, Close}
-use Rattle.segments.specs.declared.Call.{Call}
 use Rattle.segment_table.specs.declared.Segment.{Segment}
 use Rattle.segment_table.specs.declared.SegmentTable.{SegmentTable}
 use Rattle.segment_table.specs.declared.Slot.{Slot}
 use Rattle.segment_table.specs.declared.TenantId.{TenantId}
 use Rattle.segments.proofs.CallsLaws.{Effect, Passed, effect, look-next, looking, next-granted, next-refused, refusing, valid-numbers, valid-tenant, writable-at, writable-own, writing}
 use Rattle.segment_table.proofs.SlotsLaws.{lowest-own, own-pages, own-parts, own-slot}
-use Rattle.segment_table.proofs.SoundLaws.{Sound, admitted-parts, filled-pages, held, held-cleared, held-filled, parts-sound, slot-held, sound-parts, tenant-clearance, written-sound, zeros-held}
+use Rattle.segment_table.proofs.SoundLaws.{Sound, filled-pages, held, held-cleared, held-filled, parts-sound, slot-held, sound-parts, written-sound, zeros-held}
 
 cleared-label : (s : SegmentTable) (t : TenantId) (l : Label) (a : Action) → cleared s (callOf t l a) ≡ true → Tuple.containsOf (clearanceAt s t) l ≡ true
 unfolding cleared
 cleared-label s t l a e = e
-
--- what `tuple::contains` answers of a valid call on a sound state, read as a yes or no
-pub cleared-read : (s : SegmentTable) (c : Call) {u v : Test} → sound s ≡ true → callValid s c ≡ true → u ≡ v
-    → testOf u ≡ require (Tuple.validOf (clearanceAt s (c .tenant)) && Label.validOf (c .label)) 22 (granted (Tuple.containsOf (clearanceAt s (c .tenant)) (c .label)))
-    → readBy (λ b. b) (testOf v) ≡ cleared s c
-unfolding cleared callValid
-cleared-read s c h g e f =
-    let k = three-true (admitted s (c .tenant)) (Label.validOf (c .label)) (callRow (c .action) .numbersValid) g in
-    let valid = both (tenant-clearance (tenantAt s (c .tenant)) (sound-parts s h .tenant (c .tenant) (admitted-parts s (c .tenant) (k .0) .0))) (k .1) in
-    test-read (λ b. b) (Tuple.validOf (clearanceAt s (c .tenant)) && Label.validOf (c .label)) _ 22 e f
-    ∙ ap (λ (t : Bool). t && Tuple.containsOf (clearanceAt s (c .tenant)) (c .label)) valid
 
 valid-pages : (n : ℕ) → pagesValid n ≡ true → 1 ≤ n
 valid-pages n e = leb-true 1 n (first-true (leb 1 n) (leb n maxPages) e)

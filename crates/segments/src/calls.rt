@@ -7,13 +7,12 @@ use crate::LookCall;
 use crate::OpenCall;
 use crate::PostCall;
 use crate::SizeCall;
+use crate::tested::contains;
 use crate::tested::dominates;
 use crate::tested::equal;
 use common::answer;
-use common::answer::Test;
 use common::errno::Errno;
 use label::Label;
-use range::tuple;
 use segment_table::CallAnswer;
 use segment_table::CallOutcome;
 use segment_table::Reply;
@@ -126,16 +125,12 @@ fn valid(table: SegmentTable, call: Call, v: View) -> bool
     (1 <= v.tenant.ceiling) & label::valid(call.label) & numbers_valid(action)
 }
 
-// Whether the subject's label is in its tenant's clearance. Both are valid by what was tested before, so that nothing is refused here.
+// Whether the subject's label is in its tenant's clearance.
 fn cleared(table: SegmentTable, call: Call, v: View) -> bool
-    requires { ⌜ (sound table ≡ true) × (rules.callValid table call ≡ true) × Viewed table call v ⌝ }
+    requires { ⌜ Viewed table call v ⌝ }
     ensures { λ r. ⌜ r ≡ rules.cleared table call ⌝ }
 {
-    let test = tuple::contains(v.tenant.clearance, call.label);
-    match test {
-        Test::Holds(inside) => inside,
-        Test::Refused(_) => false,
-    }
+    contains(v.tenant.clearance, call.label)
 }
 
 // The checks that every call on a sound state starts with, in document 01's order.

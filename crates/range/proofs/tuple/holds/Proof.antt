@@ -1,16 +1,16 @@
 use borrow.Author.Needs.{needs}
-use mathlib.Core.Path.{_≡_, sym, ap, _∙_}
+use mathlib.Core.Path.{_≡_, sym, _∙_}
 use Prim.Native.Nat.{ℕ}
 use native.Mathlib.Omega.{arith}
 use Rattle.label.proofs.RegionLaws.{region-within}
 use Rattle.range.specs.Tuple.{containsAt, containsOf, regionRangeAt}
+use Rattle.range.proofs.TupleLaws.{contains-by-region}
 use Rattle.range.proofs.tuple.holds.Statement.{statement}
 use Rattle.range.proofs.tuple.holds.Tie as tie
 
 -- what is asked of the range at n, where n is the region
 asked : (c : tie.After-of-hierarchy) (n : ℕ) → c .of-hierarchy .result ≡ n → let a = c .before .args in containsAt (regionRangeAt (a .t1) n) (a .l) ≡ containsOf (a .t1) (a .l)
-unfolding containsOf
-asked c n e = let a = c .before .args in ap (λ (r : ℕ). containsAt (regionRangeAt (a .t1) r) (a .l)) (sym e ∙ c .of-hierarchy .ensures)
+asked c n e = let a = c .before .args in contains-by-region (a .t1) (a .l) n (sym e ∙ c .of-hierarchy .ensures)
 
 returns : tie.Need-returns
 returns c = let t = c .before .before in c .contains-at .ensures ∙ asked (t .before) 0 (t .if1 .taken)

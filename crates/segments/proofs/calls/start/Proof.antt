@@ -13,7 +13,7 @@ is-valid : (c : tie.Else1) → let a = c .before .before .args in callValid (a .
 is-valid c = told-true (c .before .valid .ensures) (c .if1 .left)
 
 cleared-requires : tie.Need-cleared-requires
-cleared-requires c κs = let p = c .before .before .pre in (p .0, is-valid c, p .1)
+cleared-requires c κs = c .before .before .pre .1
 
 returns : tie.Need-returns
 unfolding firstChecksOf
