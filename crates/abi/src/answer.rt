@@ -24,7 +24,7 @@ use range::tuple::Tuple;
 // A refusal's number, or 0 for a grant; whether a refusal carries one more number, 1 or 0; and the number that a grant answers or a refusal
 // carries, else 0.
 #[repr(C)]
-#[derive(Drop)]
+#[derive(Clone, Copy)]
 pub struct CAnswer {
     pub refusal: u32,
     pub carries: u32,
@@ -32,28 +32,28 @@ pub struct CAnswer {
 }
 
 #[repr(C)]
-#[derive(Drop)]
+#[derive(Clone, Copy)]
 pub struct CLabelAnswer {
     pub answer: CAnswer,
     pub label: Label,
 }
 
 #[repr(C)]
-#[derive(Drop)]
+#[derive(Clone, Copy)]
 pub struct CRangeAnswer {
     pub answer: CAnswer,
     pub range: Range,
 }
 
 #[repr(C)]
-#[derive(Drop)]
+#[derive(Clone, Copy)]
 pub struct CTupleAnswer {
     pub answer: CAnswer,
     pub tuple: Tuple,
 }
 
 #[repr(C)]
-#[derive(Drop)]
+#[derive(Clone, Copy)]
 pub struct CEntryAnswer {
     pub answer: CAnswer,
     pub entry: CEntry,
@@ -61,7 +61,7 @@ pub struct CEntryAnswer {
 
 // The status of a range that was written, beside the length.
 #[repr(C)]
-#[derive(Drop)]
+#[derive(Clone, Copy)]
 pub struct CRangeWritten {
     pub answer: CAnswer,
     pub status: u64,

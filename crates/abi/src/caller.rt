@@ -5,7 +5,7 @@ ghost use Rattle.abi.specs.Caller.{callerFormed, callerOf};
 use label::Label;
 
 #[repr(C)]
-#[derive(Drop)]
+#[derive(Clone, Copy)]
 pub struct CCaller {
     pub label: Label,
     pub read_override: u64,

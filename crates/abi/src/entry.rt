@@ -7,7 +7,7 @@ use alias_entry::{Abbreviation, Name, Value};
 use label::Label;
 
 #[repr(C)]
-#[derive(Drop)]
+#[derive(Clone, Copy)]
 pub struct CEntry {
     pub names: u64,
     pub number: u64,

@@ -12,7 +12,7 @@ use segments::Change;
 
 // The state that a call leaves, its answer, and what a look shows: zeros beside any other.
 #[repr(C)]
-#[derive(Drop)]
+#[derive(Clone, Copy)]
 pub struct COutcome {
     pub state: SegmentTable,
     pub answer: CAnswer,

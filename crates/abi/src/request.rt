@@ -8,7 +8,7 @@ use range::Range;
 use range::tuple::Tuple;
 
 #[repr(C)]
-#[derive(Drop)]
+#[derive(Clone, Copy)]
 pub struct CCredentials {
     pub label: Label,
     pub range: Range,
@@ -19,7 +19,7 @@ pub struct CCredentials {
 
 // Class: 0 file, 1 fifo, 2 process, 3 message queue, 4 shared memory, 5 semaphore. Kind: 0 regular, 1 directory, 2 other; it counts for a file.
 #[repr(C)]
-#[derive(Drop)]
+#[derive(Clone, Copy)]
 pub struct CObject {
     pub class: u64,
     pub kind: u64,

@@ -6,7 +6,7 @@ use text::numbers;
 
 // Form: 0 definition, 1 alias. Variant: 0 names, 1 abbreviations.
 #[repr(C)]
-#[derive(Drop)]
+#[derive(Clone, Copy)]
 pub struct CStyle {
     pub form: u64,
     pub variant: u64,

@@ -22,7 +22,7 @@ const MULTIPLIER: u64 = 65491;
 const FOLDED_MODULUS: u64 = 4294967296;
 
 // Whether a line is accepted; then the hashes of the name and of the other name of its entry, and whether its name may be its abbreviation too.
-#[derive(Drop)]
+#[derive(Clone, Copy)]
 pub(crate) struct LineHashes {
     pub accepted: bool,
     pub name: u32,

@@ -1,5 +1,7 @@
 // Alias tables: 0 to 512 lines of kind 04, one after another in a lent slice. `check` tests a table and gives where its lines begin; the look-ups
 // take the table and these starts, and walk the lines where they stand.
+#![tactic(auto)]
+
 mod filter;
 mod hash;
 mod lines;
@@ -22,21 +24,21 @@ pub const MAX_LINES: usize = 512;
 pub const MAX_STARTS: usize = 513;
 
 // Where the lines of a table begin: line k from starts[k] up to starts[k + 1]. Starts past these are zeros.
-#[derive(Drop)]
+#[derive(Clone, Copy)]
 pub struct LineStarts {
     pub count: usize,
     pub starts: [usize; MAX_STARTS],
 }
 
 // The lines stand beside the outcome; beside a refusal there are none.
-#[derive(Drop)]
+#[derive(Clone, Copy)]
 pub struct TableAnswer {
     pub outcome: Outcome,
     pub lines: LineStarts,
 }
 
 // The number of an entry.
-#[derive(Drop)]
+#[derive(Clone, Copy)]
 pub enum FoundEntry {
     At(usize),
     Nothing,

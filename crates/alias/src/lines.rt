@@ -13,7 +13,7 @@ use octets::LF;
 
 // How many lines there are before the first that is bad by itself, whether there is one, and whether an entry among those before it may have its
 // name as its abbreviation too.
-#[derive(Drop)]
+#[derive(Clone, Copy)]
 pub(crate) struct Walked {
     pub count: usize,
     pub stopped: bool,

@@ -120,14 +120,14 @@ pub fn append_entry(out: &mut [u8], at: usize, e: Entry, words: usize) -> usize
 }
 
 // A text in a line's body: the index of its first byte, and its length.
-#[derive(Drop)]
+#[derive(Clone, Copy)]
 pub struct Span {
     pub at: usize,
     pub length: usize,
 }
 
 // The class of an entry, and where its texts stand in a line's body.
-#[derive(Drop)]
+#[derive(Clone, Copy)]
 pub struct Layout {
     pub class: u8,
     pub name: Span,

@@ -1,5 +1,7 @@
 // Alias entries, and which are valid. An entry holds its name and abbreviation in arrays of their own with lengths, so that it can be handed over
 // by value; bytes past a length are zeros, and so is the label where the class has none.
+#![tactic(auto)]
+
 pub mod bytes;
 mod tested;
 
@@ -23,7 +25,7 @@ pub const NAME_BYTES: usize = MAX_NAME + 1;
 pub const ABBREVIATION_BYTES: usize = MAX_ABBREVIATION + 1;
 
 // What an alias stands for. A label stands beside it.
-#[derive(Drop)]
+#[derive(Clone, Copy)]
 pub enum Value {
     Hierarchy(u64),
     Category(u64),
@@ -31,20 +33,20 @@ pub enum Value {
 }
 
 #[repr(C)]
-#[derive(Drop)]
+#[derive(Clone, Copy)]
 pub struct Name {
     pub bytes: [u8; NAME_BYTES],
     pub length: usize,
 }
 
 #[repr(C)]
-#[derive(Drop)]
+#[derive(Clone, Copy)]
 pub struct Abbreviation {
     pub bytes: [u8; ABBREVIATION_BYTES],
     pub length: usize,
 }
 
-#[derive(Drop)]
+#[derive(Clone, Copy)]
 pub struct Entry {
     pub value: Value,
     pub label: Label,
@@ -53,7 +55,7 @@ pub struct Entry {
 }
 
 // An entry that is answered stands beside its outcome; beside a refusal it is the entry of zeros.
-#[derive(Drop)]
+#[derive(Clone, Copy)]
 pub struct EntryAnswer {
     pub outcome: Outcome,
     pub entry: Entry,

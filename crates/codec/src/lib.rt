@@ -1,6 +1,8 @@
 // Labels, ranges and tuples as bytes: any value of the types that fits its bytes, an invalid one too, is put in a lent buffer, and
 // any bytes are read. The lines of kinds 01 to 04 stand on these, and so can a crate that has bodies of its own. Each function takes the number of
 // words that a set of categories has in the bytes; more than a set has are as many as it has.
+#![tactic(auto)]
+
 pub mod labels;
 pub mod tuples;
 

@@ -5,26 +5,26 @@ ghost use Rattle.common.specs.Answer.{grantedOf};
 use crate::errno::Errno;
 
 // A yes or no.
-#[derive(Drop)]
+#[derive(Clone, Copy)]
 pub enum Test {
     Holds(bool),
     Refused(Errno),
 }
 
-#[derive(Drop)]
+#[derive(Clone, Copy)]
 pub enum Number {
     Value(u64),
     Refused(Errno),
 }
 
-#[derive(Drop)]
+#[derive(Clone, Copy)]
 pub enum Outcome {
     Granted,
     Refused(Errno),
 }
 
 // The length of what was written to a lent buffer.
-#[derive(Drop)]
+#[derive(Clone, Copy)]
 pub enum Written {
     Length(usize),
     Refused(Errno),

@@ -2,7 +2,7 @@
 ghost use Rattle.std.specs.Prelude.{◌≡◌};
 ghost use Rattle.common.specs.Errno.{detailOf, carried_of, errnoNumber};
 
-#[derive(Drop)]
+#[derive(Clone, Copy)]
 pub enum Errno {
     // No privilege or clearance.
     Perm,
@@ -27,7 +27,7 @@ pub enum Errno {
 }
 
 // The one more number that a refusal may carry.
-#[derive(Drop)]
+#[derive(Clone, Copy)]
 pub enum Carried {
     Number(usize),
     Nothing,

@@ -10,7 +10,7 @@ pub const MAX_NUMBERS: usize = 6;
 
 // The word of a command line, which is so many bytes at the line's front, and its numbers. The numbers past count are zeros; where the line is not valid,
 // word and count are 0.
-#[derive(Drop)]
+#[derive(Clone, Copy)]
 pub struct Command {
     pub valid: bool,
     pub word: usize,
@@ -22,7 +22,7 @@ pub struct Command {
 const LARGEST: u64 = 18446744073709551615;
 
 // What a field is.
-#[derive(Drop)]
+#[derive(Clone, Copy)]
 enum Number {
     Value(u64),
     Bad,

@@ -6,7 +6,7 @@ ghost use Rattle.console.specs.Lines.{Taken, held, lineAtEnd, piece};
 use octets::LF;
 
 // What the bytes so far make.
-#[derive(Drop)]
+#[derive(Clone, Copy)]
 pub enum Line {
     // No line yet.
     More,
@@ -17,7 +17,7 @@ pub enum Line {
 }
 
 // What is held of a line between chunks.
-#[derive(Drop)]
+#[derive(Clone, Copy)]
 pub struct Partial {
     // How many bytes stand at the front of the buffer.
     pub length: usize,
@@ -25,7 +25,7 @@ pub struct Partial {
     pub long: bool,
 }
 
-#[derive(Drop)]
+#[derive(Clone, Copy)]
 pub struct Piece {
     // The index of the chunk to go on from.
     pub next: usize,

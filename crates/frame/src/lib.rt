@@ -1,5 +1,7 @@
 // The frame of a hex line, for a body of any bytes: two lower-case hex digits a byte, a last byte that makes the sum of all a multiple of
 // 256, and LF.
+#![tactic(auto)]
+
 ghost use Rattle.std.specs.Prelude.{◌≡◌, ◌+◌, ◌-◌, ◌*◌, ◌/◌, ◌%◌, ◌<◌, ◌≤◌, true, length, take, ◌==◌, slice_index, slice_set};
 ghost use Rattle.common.specs.Buffer.{WrittenTo, overlay};
 ghost use Rattle.common.specs.Index.{every, tabulate};

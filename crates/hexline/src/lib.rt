@@ -1,5 +1,7 @@
 // Hex lines: one frame a line, in `frame`, and what stands in its body. A writer takes contents and a lent buffer, a reader one whole line
 // with its LF; each refuses what document 01 refuses, and a refusal writes nothing.
+#![tactic(auto)]
+
 pub mod accept;
 pub mod parts;
 
@@ -39,7 +41,7 @@ const RANGE_BODY: usize = 1 + RANGE_BYTES;
 const TUPLE_BODY: usize = 1 + TUPLE_BYTES;
 
 // The kind that a line says it has.
-#[derive(Drop)]
+#[derive(Clone, Copy)]
 pub enum Kind {
     OfLabel,
     OfRange,

@@ -14,7 +14,7 @@ use codec::labels::{LABEL_BYTES, label_at};
 use label::Label;
 
 // Where the texts of an entry stand in its line's body.
-#[derive(Drop)]
+#[derive(Clone, Copy)]
 pub struct TextSpans {
     pub name: Span,
     pub abbreviation: Span,

@@ -1,5 +1,7 @@
 // Lines of standard input, one at a time, in two buffers that the program lends: a chunk to read into, and one for a line. A program asks for the
 // next line and works on it until none is left.
+#![tactic(auto)]
+
 ghost use Rattle.std.specs.Prelude.{false, ◌≡◌, length};
 ghost use Rattle.input.specs.Input.{NextLine, Pieced, Refilled, Stepped, Waited, emptyInput, linesAfter, linesWith, mostLines, turnAfterRead, waitsOf};
 
@@ -8,7 +10,7 @@ use console::lines::{Line, Partial};
 use libc::STDIN_FILENO;
 
 // Where the input stands.
-#[derive(Drop)]
+#[derive(Clone, Copy)]
 pub struct Input {
     // What is held of a line.
     pub partial: Partial,
@@ -21,14 +23,14 @@ pub struct Input {
 }
 
 // What a step makes: no line yet, a line at the front of the buffer, or a bad one; and where the input stands then.
-#[derive(Drop)]
+#[derive(Clone, Copy)]
 struct Turn {
     input: Input,
     line: Line,
 }
 
 // The line at hand, and where the input stands.
-#[derive(Drop)]
+#[derive(Clone, Copy)]
 pub struct Lines {
     pub input: Input,
     // How many bytes the line has at the front of the buffer. A bad line has none.

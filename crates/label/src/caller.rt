@@ -6,7 +6,7 @@ ghost use Rattle.label.specs.Label.{label_of};
 use crate::words::WORDS;
 use crate::{Label, components};
 
-#[derive(Drop)]
+#[derive(Clone, Copy)]
 pub struct Caller {
     pub label: Label,
     pub read_override: bool,

@@ -1,5 +1,7 @@
 // Labels for mandatory access control: a hierarchy number and a set of categories. Each function tests the labels that it is handed and
 // refuses an invalid one with 22; only `valid` answers a bare yes or no.
+#![tactic(auto)]
+
 pub mod caller;
 pub mod components;
 pub mod region;
@@ -20,21 +22,21 @@ use common::errno::Errno;
 pub const MAX_HIERARCHY: u64 = 199;
 
 #[repr(C)]
-#[derive(Drop)]
+#[derive(Clone, Copy)]
 pub struct Label {
     pub hierarchy: u64,
     pub categories: [u64; WORDS],
 }
 
 // A label that is answered stands beside its outcome; beside a refusal it is the label of zeros.
-#[derive(Drop)]
+#[derive(Clone, Copy)]
 pub struct LabelAnswer {
     pub outcome: Outcome,
     pub label: Label,
 }
 
 // The least category at or above a number.
-#[derive(Drop)]
+#[derive(Clone, Copy)]
 pub enum Next {
     Category(u64),
     Nothing,

@@ -6,7 +6,7 @@ ghost use Rattle.label.specs.Words.{foundCategoryOf, includesOf, intersectionOf,
 pub const WORDS: usize = 4;
 
 // The least category at or above a number.
-#[derive(Drop)]
+#[derive(Clone, Copy)]
 pub enum FoundCategory {
     At(u64),
     Nothing,

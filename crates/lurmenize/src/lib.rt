@@ -1,5 +1,7 @@
 // The functions that C programs link, as include/lurmenize.h declares them. Each tests the flags and choices that it is passed, calls the library's
 // function of that name, and puts the answer in the form that C has.
+#![tactic(auto)]
+
 pub mod access;
 pub mod labels;
 pub mod lines;

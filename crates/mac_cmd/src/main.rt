@@ -1,5 +1,7 @@
 // mac_cmd: answers what holds of labels, ranges, tuples and hex lines, with requests read from standard input. docs/PROGRAMS.md has what it reads and
 // prints.
+#![tactic(auto)]
+
 mod answer;
 mod call;
 mod request;

@@ -1,7 +1,7 @@
 // A command line as a request: what it asks for, with its number if it has one.
 use console::command;
 
-#[derive(Drop)]
+#[derive(Clone, Copy)]
 pub(crate) enum Request {
     // A bad line, an unknown word, or numbers of the wrong count or form.
     Invalid,

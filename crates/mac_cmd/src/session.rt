@@ -6,7 +6,7 @@ use console::command;
 use libc::STDERR_FILENO;
 
 // The request whose operand lines are due. Between two requests none is.
-#[derive(Drop)]
+#[derive(Clone, Copy)]
 pub(crate) struct Session {
     pub request: Request,
     // How many operand lines are still to come.

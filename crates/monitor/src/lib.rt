@@ -1,5 +1,7 @@
 // The reference monitor: may a subject with these credentials do that to an object with these attributes, and may the caller ask. `check`
 // tests all that it is handed, and decides by document 01's steps.
+#![tactic(auto)]
+
 mod intent;
 pub mod numbers;
 mod tested;
@@ -19,7 +21,7 @@ use range::tuple::Tuple;
 use range::{Range, tuple};
 
 // Document 01's privileges: read override, write override, relabel.
-#[derive(Drop)]
+#[derive(Clone, Copy)]
 pub struct Privileges {
     pub read: bool,
     pub write: bool,
@@ -27,7 +29,7 @@ pub struct Privileges {
 }
 
 // The subject, whom a request is about.
-#[derive(Drop)]
+#[derive(Clone, Copy)]
 pub struct Credentials {
     pub label: Label,
     pub range: Range,
@@ -35,7 +37,7 @@ pub struct Credentials {
 }
 
 // Document 01's type of an object.
-#[derive(Drop)]
+#[derive(Clone, Copy)]
 pub enum ObjectClass {
     File,
     Fifo,
@@ -45,7 +47,7 @@ pub enum ObjectClass {
     Semaphore,
 }
 
-#[derive(Drop)]
+#[derive(Clone, Copy)]
 pub enum FileKind {
     Regular,
     Directory,
@@ -53,13 +55,13 @@ pub enum FileKind {
 }
 
 // Which of an object's label and tuple are there. What one that is not there holds is not looked at.
-#[derive(Drop)]
+#[derive(Clone, Copy)]
 pub struct Presence {
     pub label: bool,
     pub tuple: bool,
 }
 
-#[derive(Drop)]
+#[derive(Clone, Copy)]
 pub struct Object {
     pub class: ObjectClass,
     pub kind: FileKind,
@@ -69,7 +71,7 @@ pub struct Object {
 }
 
 // What the monitor is asked. Intents and attribute type are numbers of any size. The caller is who asks, be it the subject itself or another.
-#[derive(Drop)]
+#[derive(Clone, Copy)]
 pub struct Request {
     pub credentials: Credentials,
     pub object: Object,
@@ -79,7 +81,7 @@ pub struct Request {
 }
 
 // A grant for which no privilege was needed, a grant for which one was, or a refusal.
-#[derive(Drop)]
+#[derive(Clone, Copy)]
 pub enum Decision {
     Granted,
     Privileged,
@@ -87,7 +89,7 @@ pub enum Decision {
 }
 
 // What an intent does to the object.
-#[derive(Drop)]
+#[derive(Clone, Copy)]
 enum Access {
     Observe,
     Modify,

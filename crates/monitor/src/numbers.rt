@@ -7,7 +7,7 @@ use crate::intent::asks;
 use crate::{FileKind, ObjectClass, Privileges};
 
 // What two numbers name: a class and a kind.
-#[derive(Drop)]
+#[derive(Clone, Copy)]
 pub struct NamedType {
     pub named: bool,
     pub class: ObjectClass,
@@ -15,7 +15,7 @@ pub struct NamedType {
 }
 
 // What a number of privileges names.
-#[derive(Drop)]
+#[derive(Clone, Copy)]
 pub struct NamedPrivileges {
     pub named: bool,
     pub privileges: Privileges,

@@ -1,4 +1,6 @@
 // monitor_cmd: asks the reference monitor, with requests read from standard input. docs/PROGRAMS.md has what it reads and prints.
+#![tactic(auto)]
+
 mod answer;
 mod request;
 mod session;

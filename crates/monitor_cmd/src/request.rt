@@ -23,7 +23,7 @@ const LABEL_DUE: usize = 3;
 const TUPLE_DUE: usize = 2;
 
 // What is known of a request, and whether all of it is good so far.
-#[derive(Drop)]
+#[derive(Clone, Copy)]
 pub(crate) struct Draft {
     pub good: bool,
     pub numbers: [u64; MAX_NUMBERS],

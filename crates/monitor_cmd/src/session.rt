@@ -6,7 +6,7 @@ use console::command::MAX_NUMBERS;
 use libc::STDERR_FILENO;
 
 // The request whose operand lines are due. Between two requests none is.
-#[derive(Drop)]
+#[derive(Clone, Copy)]
 pub(crate) struct Session {
     pub draft: Draft,
     // How many operand lines are still to come.

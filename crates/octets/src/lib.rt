@@ -1,5 +1,7 @@
 // Loops over bytes: a part of them, where a byte stands, whether two slices are the same, and bytes appended to a lent buffer at an index. Each
 // function takes any value of its types.
+#![tactic(auto)]
+
 ghost use Rattle.std.specs.Prelude.{◌≡◌, ◌+◌, ◌≤◌, leb, drop, length, take};
 ghost use Rattle.octets.specs.Bytes.{Appended, FirstIndex, sameBytes};
 ghost use Rattle.octets.specs.Internal.Put.{Put};

@@ -1,5 +1,7 @@
 // Ranges of labels, and in `tuple` a range for each region. Each function tests what it is handed and refuses an invalid label, range or
 // tuple with 22 before its other checks; only the two functions `valid` answer a bare yes or no.
+#![tactic(auto)]
+
 pub mod components;
 mod tested;
 pub mod tuple;
@@ -16,14 +18,14 @@ use label::Label;
 
 // The labels that low is dominated by and high dominates.
 #[repr(C)]
-#[derive(Drop)]
+#[derive(Clone, Copy)]
 pub struct Range {
     pub low: Label,
     pub high: Label,
 }
 
 // A range that is answered stands beside its outcome; beside a refusal it is the range of zeros.
-#[derive(Drop)]
+#[derive(Clone, Copy)]
 pub struct RangeAnswer {
     pub outcome: Outcome,
     pub range: Range,

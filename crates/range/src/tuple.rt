@@ -15,20 +15,20 @@ use label::{Label, components, region};
 
 // The range of one region: `present` is 1. Where there is none it holds zeros, `present` too; no other number is valid.
 #[repr(C)]
-#[derive(Drop)]
+#[derive(Clone, Copy)]
 pub struct RegionRange {
     pub present: u64,
     pub range: Range,
 }
 
 #[repr(C)]
-#[derive(Drop)]
+#[derive(Clone, Copy)]
 pub struct Tuple {
     pub ranges: [RegionRange; REGIONS],
 }
 
 // A tuple that is answered stands beside its outcome; beside a refusal it is the empty tuple.
-#[derive(Drop)]
+#[derive(Clone, Copy)]
 pub struct TupleAnswer {
     pub outcome: Outcome,
     pub tuple: Tuple,

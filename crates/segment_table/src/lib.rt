@@ -1,4 +1,6 @@
 // The table of shared memory segments: who holds which slot, with how many pages, under which label; when it is sound; and the operator's calls.
+#![tactic(auto)]
+
 pub mod operator;
 pub mod slots;
 pub mod state;
@@ -22,16 +24,16 @@ pub const MAX_PAGES: u64 = 1048576;
 
 // A tenant's number, and a slot's (document 01: place): two kinds, so that neither is taken for the other.
 #[repr(C)]
-#[derive(Drop)]
+#[derive(Clone, Copy)]
 pub struct TenantId(pub u64);
 
 #[repr(C)]
-#[derive(Drop)]
+#[derive(Clone, Copy)]
 pub struct Slot(pub u64);
 
 // A tenant's record: zeros where the tenant is not admitted.
 #[repr(C)]
-#[derive(Drop)]
+#[derive(Clone, Copy)]
 pub struct Tenant {
     pub ceiling: u64,
     pub clearance: Tuple,
@@ -39,7 +41,7 @@ pub struct Tenant {
 
 // What a slot holds (version is document 01's edition): zeros where the slot is empty.
 #[repr(C)]
-#[derive(Drop)]
+#[derive(Clone, Copy)]
 pub struct Segment {
     pub label: Label,
     pub pages: u64,
@@ -48,7 +50,7 @@ pub struct Segment {
 
 // The state (document 01: the board).
 #[repr(C)]
-#[derive(Drop)]
+#[derive(Clone, Copy)]
 pub struct SegmentTable {
     pub pool: u64,
     pub tenants: [Tenant; TENANTS],
@@ -58,13 +60,13 @@ pub struct SegmentTable {
 // ---- what a call answers
 
 // The numbers that a look shows.
-#[derive(Drop)]
+#[derive(Clone, Copy)]
 pub struct Shown {
     pub pages: u64,
     pub version: u64,
 }
 
-#[derive(Drop)]
+#[derive(Clone, Copy)]
 pub enum Reply {
     Done,
     Opened(Slot),
@@ -73,14 +75,14 @@ pub enum Reply {
 }
 
 // A reply, and the label that a look shows: zeros beside any other.
-#[derive(Drop)]
+#[derive(Clone, Copy)]
 pub struct CallAnswer {
     pub reply: Reply,
     pub label: Label,
 }
 
 // The state that a call leaves, and its answer.
-#[derive(Drop)]
+#[derive(Clone, Copy)]
 pub struct CallOutcome {
     pub table: SegmentTable,
     pub answer: CallAnswer,

@@ -10,21 +10,21 @@ ghost use Rattle.segment_table.specs.Slots as rules;
 use crate::{SegmentTable, Slot, TENANTS, TenantId};
 
 // A slot that is named or found, or none.
-#[derive(Drop)]
+#[derive(Clone, Copy)]
 pub enum SlotOption {
     At(Slot),
     Nothing,
 }
 
 // Whose a slot is.
-#[derive(Drop)]
+#[derive(Clone, Copy)]
 pub(crate) enum Owner {
     Tenant(TenantId),
     Nobody,
 }
 
 // What is left of a limit, or that it is exceeded.
-#[derive(Drop)]
+#[derive(Clone, Copy)]
 pub(crate) enum Remaining {
     Pages(u64),
     Exceeded,

@@ -23,7 +23,7 @@ use segment_table::{
 };
 
 // What the state has for a call.
-#[derive(Drop)]
+#[derive(Clone, Copy)]
 pub(crate) struct View {
     pub tenant: Tenant,
     pub segment: Segment,

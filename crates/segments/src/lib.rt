@@ -1,4 +1,6 @@
 // The tenant calls on a table of shared memory segments.
+#![tactic(auto)]
+
 pub mod calls;
 mod tested;
 
@@ -7,34 +9,34 @@ use segment_table::{CallAnswer, Segment, Slot, TenantId};
 
 // ---- the tenant calls, each with its numbers
 
-#[derive(Drop)]
+#[derive(Clone, Copy)]
 pub struct OpenCall {
     pub pages: u64,
 }
 
-#[derive(Drop)]
+#[derive(Clone, Copy)]
 pub struct SizeCall {
     pub slot: Slot,
     pub pages: u64,
 }
 
-#[derive(Drop)]
+#[derive(Clone, Copy)]
 pub struct PostCall {
     pub slot: Slot,
     pub version: u64,
 }
 
-#[derive(Drop)]
+#[derive(Clone, Copy)]
 pub struct LookCall {
     pub slot: Slot,
 }
 
-#[derive(Drop)]
+#[derive(Clone, Copy)]
 pub struct CloseCall {
     pub slot: Slot,
 }
 
-#[derive(Drop)]
+#[derive(Clone, Copy)]
 pub enum Action {
     Open(OpenCall),
     Size(SizeCall),
@@ -44,7 +46,7 @@ pub enum Action {
 }
 
 // A tenant's call, with the label of its subject.
-#[derive(Drop)]
+#[derive(Clone, Copy)]
 pub struct Call {
     pub tenant: TenantId,
     pub label: Label,
@@ -52,7 +54,7 @@ pub struct Call {
 }
 
 // What a call changes, and its answer: the slot gets the segment. Beside a refusal both are zeros and nothing changes.
-#[derive(Drop)]
+#[derive(Clone, Copy)]
 pub struct Change {
     pub slot: Slot,
     pub segment: Segment,

@@ -1,5 +1,7 @@
 // segments_cmd: the operator's console of the account of segments, with requests read from standard input. docs/PROGRAMS.md has what it reads and
 // prints.
+#![tactic(auto)]
+
 mod answer;
 mod call;
 mod request;

@@ -6,7 +6,7 @@ use console::command;
 use segment_table::{Slot, TenantId};
 use segments::{Action, CloseCall, LookCall, OpenCall, PostCall, SizeCall};
 
-#[derive(Drop)]
+#[derive(Clone, Copy)]
 pub(crate) enum Request {
     // A bad line, an unknown word, or numbers of the wrong count or form.
     Invalid,

@@ -10,7 +10,7 @@ use libc::STDERR_FILENO;
 use segment_table::{CallOutcome, SegmentTable, operator, state};
 
 // The state, and the request whose operand line is due. Between two requests none is.
-#[derive(Drop)]
+#[derive(Clone, Copy)]
 pub(crate) struct Session {
     pub table: SegmentTable,
     pub request: Request,

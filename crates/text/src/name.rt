@@ -14,7 +14,7 @@ use hexline::parts;
 use label::Label;
 
 // How many bytes a text has, or that a name is missing.
-#[derive(Drop)]
+#[derive(Clone, Copy)]
 pub(crate) enum Measure {
     Bytes(usize),
     Missing,

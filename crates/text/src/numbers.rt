@@ -6,7 +6,7 @@ ghost use Rattle.text.specs.Numbers.{namedStyle, styleNamed, variantNamed};
 use crate::{Form, Style, Variant};
 
 // What two numbers name: a form and a variant.
-#[derive(Drop)]
+#[derive(Clone, Copy)]
 pub struct NamedStyle {
     pub named: bool,
     pub style: Style,

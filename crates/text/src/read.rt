@@ -23,14 +23,14 @@ use octets::BLANK;
 use range::{Range, RangeAnswer};
 
 // What a name stands for.
-#[derive(Drop)]
+#[derive(Clone, Copy)]
 enum Named {
     As(Value),
     Nothing,
 }
 
 // A set of categories stands beside its outcome; beside a refusal it is empty.
-#[derive(Drop)]
+#[derive(Clone, Copy)]
 struct SetAnswer {
     outcome: Outcome,
     categories: [u64; WORDS],

@@ -4,7 +4,7 @@ use label::caller::Caller;
 // The most that a capacity can be.
 pub(crate) const MAX_CAPACITY: usize = 20000;
 
-#[derive(Drop)]
+#[derive(Clone, Copy)]
 pub(crate) struct Kept {
     // How many bytes of the table's buffer are the table, and whether it is cut off there, with more to follow.
     pub length: usize,

@@ -1,5 +1,7 @@
 // text_cmd: writes labels and ranges as text and reads them back, by the names of a table, with requests read from standard input. docs/PROGRAMS.md
 // has what it reads and prints.
+#![tactic(auto)]
+
 mod answer;
 mod call;
 mod kept;
@@ -13,7 +15,7 @@ use crate::session::Session;
 use input::Lines;
 
 // The line at hand, and where the requests stand.
-#[derive(Drop)]
+#[derive(Clone, Copy)]
 struct Place {
     lines: Lines,
     session: Session,

@@ -1,7 +1,7 @@
 // A command line as a request: what it asks for, with its numbers. The numbers are tested once the operand is there.
 use console::command;
 
-#[derive(Drop)]
+#[derive(Clone, Copy)]
 pub(crate) enum Request {
     // A bad line, an unknown word, or numbers of the wrong count or form.
     Invalid,
@@ -17,7 +17,7 @@ pub(crate) enum Request {
 }
 
 // What is due after a command line.
-#[derive(Drop)]
+#[derive(Clone, Copy)]
 pub(crate) enum Operand {
     Nothing,
     // A hex line.

@@ -6,7 +6,7 @@ use console::command;
 use libc::STDERR_FILENO;
 
 // What is kept, and the request whose operand is due. Between two requests none is.
-#[derive(Drop)]
+#[derive(Clone, Copy)]
 pub(crate) struct Session {
     pub kept: Kept,
     pub request: Request,
