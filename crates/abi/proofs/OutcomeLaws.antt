@@ -8,18 +8,18 @@ use Rattle.segment_table.specs.Replies.{leaving}
 use Rattle.segments.specs.declared.Call.{Call}
 use Rattle.segments.specs.declared.Change.{Change}
 use Rattle.segment_table.specs.declared.SegmentTable.{SegmentTable}
-use Rattle.segments.proofs.CallsLaws.{refused-next}
-use Rattle.segments.proofs.DecidesLaws.{decides-results}
+use Rattle.segments.proofs.CallsLaws.{refused_next}
+use Rattle.segments.proofs.DecidesLaws.{decides_results}
 use Rattle.abi.specs.Outcome as outcomes
 use Rattle.abi.specs.declared.outcome.COutcome.{COutcome}
-use Rattle.abi.proofs.AnswerLaws.{call-answered}
+use Rattle.abi.proofs.AnswerLaws.{call_answered}
 
-pub call-applied : (s : SegmentTable) {c : Call} {x : Change} {o : COutcome} → Decides s c x → o ≡ outcomes.handedBack (applied s x) → o ≡ outcomes.stepOutcome (step_of s c)
-call-applied s d h = h ∙ call-answered (decides-results _ _ d)
+pub call_applied : (s : SegmentTable) {c : Call} {x : Change} {o : COutcome} → Decides s c x → o ≡ outcomes.handed_back (applied s x) → o ≡ outcomes.step_outcome (step_of s c)
+call_applied s d h = h ∙ call_answered (decides_results _ _ d)
 
 -- every number of it: of a tenant's call, and of an operator's
-pub call-refused-keeps : (s : SegmentTable) (c : Call) (n : ℕ) (detail : Option ℕ) → (step_of s c).answer ≡ refused n detail → (outcomes.stepOutcome (step_of s c)).state ≡ s
-call-refused-keeps s c n detail e = refused-next s c n detail e
+pub call_refused_keeps : (s : SegmentTable) (c : Call) (n : ℕ) (detail : Option ℕ) → (step_of s c).answer ≡ refused n detail → (outcomes.step_outcome (step_of s c)).state ≡ s
+call_refused_keeps s c n detail e = refused_next s c n detail e
 
-pub refused-keeps : (s next : SegmentTable) (n : ℕ) (detail : Option ℕ) → (outcomes.stepOutcome (leaving s next (refused n detail))).state ≡ s
-refused-keeps s next n detail = refl
+pub refused_keeps : (s next : SegmentTable) (n : ℕ) (detail : Option ℕ) → (outcomes.step_outcome (leaving s next (refused n detail))).state ≡ s
+refused_keeps s next n detail = refl

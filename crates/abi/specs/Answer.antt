@@ -2,8 +2,8 @@
 use Rattle.std.specs.Prelude.{Bool, List, ◌≡◌, ℕ, length}
 use Rattle.std.proofs.Math.Option.{Option, none, some}
 use Rattle.common.specs.Answer as answers
-use Rattle.common.specs.Buffer.{bufferOf, length_of, written_of}
-use Rattle.common.specs.Errno.{detailOf, errnoNumber}
+use Rattle.common.specs.Buffer.{buffer_of, length_of, written_of}
+use Rattle.common.specs.Errno.{detail_of, errno_number}
 use Rattle.label.specs.Label
 use Rattle.label.specs.Words.{categories}
 use Rattle.label.specs.declared.Label.{Label}
@@ -11,12 +11,12 @@ use Rattle.common.specs.declared.answer.Outcome.{Outcome}
 use Rattle.common.specs.declared.answer.Outcome.TheVariants.{Granted, Refused}
 use Rattle.common.specs.declared.errno.Errno.{Errno}
 use Rattle.range.specs.Range
-use Rattle.range.specs.Tuple as coreTuples
+use Rattle.range.specs.Tuple as core_tuples
 use Rattle.range.specs.declared.Range.{Range}
-use Rattle.range.specs.declared.tuple.Tuple as coreTuple
-use Rattle.alias_entry.specs.declared.Entry as coreEntry
-use Rattle.text.specs.Write.{Shown, statusOr, text_of}
-use Rattle.text.specs.declared.RangeWritten as coreWritten
+use Rattle.range.specs.declared.tuple.Tuple as core_tuple
+use Rattle.alias_entry.specs.declared.Entry as core_entry
+use Rattle.text.specs.Write.{Shown, status_or, text_of}
+use Rattle.text.specs.declared.RangeWritten as core_written
 use Rattle.abi.specs.Entry
 use Rattle.abi.specs.Flag
 use Rattle.abi.specs.declared.answer.CAnswer.{CAnswer}
@@ -36,8 +36,8 @@ abbrev pub refusal : ℕ → Option ℕ → CAnswer
 refusal n none = record { refusal = n; carries = 0; value = 0 }
 refusal n (some more) = record { refusal = n; carries = 1; value = more }
 
-abbrev pub refusalBy : Errno → CAnswer
-refusalBy e = refusal (errnoNumber e) (detailOf e)
+abbrev pub refusal_by : Errno → CAnswer
+refusal_by e = refusal (errno_number e) (detail_of e)
 
 -- an answer, where f numbers what a grant has
 abbrev pub numbered : {A : Type 0} → (A → ℕ) → answers.Answer A → CAnswer
@@ -51,65 +51,65 @@ abbrev pub nothing : {A : Type 0} → A → ℕ
 nothing x = 0
 
 -- an answer that is a number
-abbrev pub numberAnswer : answers.Answer ℕ → CAnswer
-numberAnswer x = numbered same x
+abbrev pub number_answer : answers.Answer ℕ → CAnswer
+number_answer x = numbered same x
 
 -- an answer that is yes, 1, or no, 0
-abbrev pub testAnswer : answers.Answer Bool → CAnswer
-testAnswer x = numbered Flag.encodedOf x
+abbrev pub test_answer : answers.Answer Bool → CAnswer
+test_answer x = numbered Flag.encoded_of x
 
 -- the category that is next, or, where there is none, how many categories there are
-abbrev pub nextNumber : Option ℕ → ℕ
-nextNumber none = categories
-nextNumber (some c) = c
+abbrev pub next_number : Option ℕ → ℕ
+next_number none = categories
+next_number (some c) = c
 
 -- an answer that stands beside what is answered
-abbrev pub bareAnswer : {A : Type 0} → answers.Answer A → CAnswer
-bareAnswer x = numbered nothing x
+abbrev pub bare_answer : {A : Type 0} → answers.Answer A → CAnswer
+bare_answer x = numbered nothing x
 
 -- an answer with what stands beside it
-abbrev pub withLabel : CAnswer → Label → CLabelAnswer
-withLabel a l = record { answer = a; label = l }
+abbrev pub with_label : CAnswer → Label → CLabelAnswer
+with_label a l = record { answer = a; label = l }
 
-abbrev pub withRange : CAnswer → Range → CRangeAnswer
-withRange a x = record { answer = a; range = x }
+abbrev pub with_range : CAnswer → Range → CRangeAnswer
+with_range a x = record { answer = a; range = x }
 
-abbrev pub withTuple : CAnswer → coreTuple.Tuple → CTupleAnswer
-withTuple a t = record { answer = a; tuple = t }
+abbrev pub with_tuple : CAnswer → core_tuple.Tuple → CTupleAnswer
+with_tuple a t = record { answer = a; tuple = t }
 
 -- what is answered; zeros beside a refusal
-abbrev pub labelAnswer : answers.Answer Label → CLabelAnswer
-labelAnswer x = withLabel (bareAnswer x) (answers.valueOr Label.zeroLabel x)
+abbrev pub label_answer : answers.Answer Label → CLabelAnswer
+label_answer x = with_label (bare_answer x) (answers.value_or Label.zero_label x)
 
-abbrev pub rangeAnswer : answers.Answer Range → CRangeAnswer
-rangeAnswer x = withRange (bareAnswer x) (answers.valueOr Range.zeroRange x)
+abbrev pub range_answer : answers.Answer Range → CRangeAnswer
+range_answer x = with_range (bare_answer x) (answers.value_or Range.zero_range x)
 
-abbrev pub tupleAnswer : answers.Answer coreTuple.Tuple → CTupleAnswer
-tupleAnswer x = withTuple (bareAnswer x) (answers.valueOr coreTuples.emptyTuple x)
+abbrev pub tuple_answer : answers.Answer core_tuple.Tuple → CTupleAnswer
+tuple_answer x = with_tuple (bare_answer x) (answers.value_or core_tuples.empty_tuple x)
 
 -- an entry's numbers; zeros, which name nothing, beside a refusal
-abbrev pub entryBeside : answers.Answer coreEntry.Entry → form.CEntry
-entryBeside (answers.granted e) = Entry.encodedOf e
-entryBeside (answers.refused n detail) = Entry.zeroCEntry
+abbrev pub entry_beside : answers.Answer core_entry.Entry → form.CEntry
+entry_beside (answers.granted e) = Entry.encoded_of e
+entry_beside (answers.refused n detail) = Entry.zero_cEntry
 
-abbrev pub entryAnswer : answers.Answer coreEntry.Entry → CEntryAnswer
-entryAnswer x = record { answer = bareAnswer x; entry = entryBeside x }
+abbrev pub entry_answer : answers.Answer core_entry.Entry → CEntryAnswer
+entry_answer x = record { answer = bare_answer x; entry = entry_beside x }
 
 -- r is answered, and `before` becomes `after`, where a text, or its refusal, is to be written
 pub record CWrittenTo (r : CAnswer) (text : answers.Answer (List ℕ)) (before after : List ℕ) : Type 0 where
-  pub answer : r ≡ numberAnswer (length_of text (length before))
-  pub buffer : after ≡ bufferOf text before
+  pub answer : r ≡ number_answer (length_of text (length before))
+  pub buffer : after ≡ buffer_of text before
 
 -- the same of a range, with its status
 pub record CRangeWrittenTo (r : CRangeWritten) (x : answers.Answer Shown) (before after : List ℕ) : Type 0 where
   pub written : CWrittenTo r.answer (text_of x) before after
-  pub status : r.status ≡ statusOr (answers.isGranted (length_of (text_of x) (length before))) x
+  pub status : r.status ≡ status_or (answers.is_granted (length_of (text_of x) (length before))) x
 
 -- ---- what the enum Outcome says, with the number beside it, and a range that was written. For functions that are not exported
 
-abbrev pub outcomeAnswer : Outcome → ℕ → CAnswer
-outcomeAnswer Granted value = grant value
-outcomeAnswer (Refused e) value = refusalBy e
+abbrev pub outcome_answer : Outcome → ℕ → CAnswer
+outcome_answer Granted value = grant value
+outcome_answer (Refused e) value = refusal_by e
 
-abbrev pub rangeWritten : coreWritten.RangeWritten → CRangeWritten
-rangeWritten w = record { answer = numberAnswer (written_of w.written); status = w.status }
+abbrev pub range_written : core_written.RangeWritten → CRangeWritten
+range_written w = record { answer = number_answer (written_of w.written); status = w.status }

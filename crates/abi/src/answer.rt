@@ -1,13 +1,13 @@
 // Answers. A grant and a refusal are told apart by `refusal`, which no grant has and no refusal lacks, and a refusal that carries one more number
 // from one that does not by `carries`.
 ghost use Rattle.std.specs.Prelude.{◌≡◌};
-ghost use Rattle.common.specs.Answer.{numberAnswerOf, outcomeOf, test_of};
+ghost use Rattle.common.specs.Answer.{number_answer_of, outcome_of, test_of};
 ghost use Rattle.common.specs.Buffer.{written_of};
 ghost use Rattle.common.specs.Errno.{carried_of};
-ghost use Rattle.label.specs.Label.{nextAnswerOf};
-ghost use Rattle.hexline.specs.Line.{kindAnswerOf};
-ghost use Rattle.monitor.specs.Monitor.{decisionOf};
-ghost use Rattle.abi.specs.Answer.{entryAnswer, grant, nextNumber, numberAnswer, numbered, outcomeAnswer, rangeWritten, refusal, refusalBy, testAnswer, withLabel, withRange, withTuple};
+ghost use Rattle.label.specs.Label.{next_answer_of};
+ghost use Rattle.hexline.specs.Line.{kind_answer_of};
+ghost use Rattle.monitor.specs.Monitor.{decision_of};
+ghost use Rattle.abi.specs.Answer.{entry_answer, grant, next_number, number_answer, numbered, outcome_answer, range_written, refusal, refusal_by, test_answer, with_label, with_range, with_tuple};
 
 use crate::entry;
 use crate::entry::CEntry;
@@ -96,13 +96,13 @@ fn refusal_of(number: u8, c: Carried) -> CAnswer
 }
 
 pub fn refused(e: Errno) -> CAnswer
-    ensures { result ≡ refusalBy e }
+    ensures { result ≡ refusal_by e }
 {
     refusal_of(errno::number(e), errno::detail(e))
 }
 
 pub fn of_test(t: Test) -> CAnswer
-    ensures { result ≡ testAnswer (test_of t) }
+    ensures { result ≡ test_answer (test_of t) }
 {
     match t {
         Test::Holds(b) => {
@@ -116,7 +116,7 @@ pub fn of_test(t: Test) -> CAnswer
 }
 
 pub fn of_number(n: Number) -> CAnswer
-    ensures { result ≡ numberAnswer (numberAnswerOf n) }
+    ensures { result ≡ number_answer (number_answer_of n) }
 {
     match n {
         Number::Value(v) => granted(v),
@@ -126,7 +126,7 @@ pub fn of_number(n: Number) -> CAnswer
 
 // The least category at or above a number; where there is none, the number of categories, which is none of them.
 pub fn of_next(n: Next) -> CAnswer
-    ensures { result ≡ numbered nextNumber (nextAnswerOf n) }
+    ensures { result ≡ numbered next_number (next_answer_of n) }
 {
     match n {
         Next::Category(c) => granted(c),
@@ -136,7 +136,7 @@ pub fn of_next(n: Next) -> CAnswer
 }
 
 pub fn of_written(w: Written) -> CAnswer
-    ensures { result ≡ numberAnswer (written_of w) }
+    ensures { result ≡ number_answer (written_of w) }
 {
     match w {
         Written::Length(n) => granted(n as u64),
@@ -145,7 +145,7 @@ pub fn of_written(w: Written) -> CAnswer
 }
 
 pub fn of_kind(k: Kind) -> CAnswer
-    ensures { result ≡ numberAnswer (kindAnswerOf k) }
+    ensures { result ≡ number_answer (kind_answer_of k) }
 {
     match k {
         Kind::OfLabel => granted(1),
@@ -157,7 +157,7 @@ pub fn of_kind(k: Kind) -> CAnswer
 }
 
 pub fn of_decision(d: Decision) -> CAnswer
-    ensures { result ≡ numberAnswer (decisionOf d) }
+    ensures { result ≡ number_answer (decision_of d) }
 {
     match d {
         Decision::Granted => granted(0),
@@ -168,7 +168,7 @@ pub fn of_decision(d: Decision) -> CAnswer
 
 // An outcome that answers no number, or the number that stands beside it.
 pub fn of_outcome(o: Outcome, value: u64) -> CAnswer
-    ensures { result ≡ outcomeAnswer o value }
+    ensures { result ≡ outcome_answer o value }
 {
     match o {
         Outcome::Granted => granted(value),
@@ -177,7 +177,7 @@ pub fn of_outcome(o: Outcome, value: u64) -> CAnswer
 }
 
 pub fn of_label(o: Outcome, label: Label) -> CLabelAnswer
-    ensures { result ≡ withLabel (outcomeAnswer o 0) label }
+    ensures { result ≡ with_label (outcome_answer o 0) label }
 {
     CLabelAnswer {
         answer: of_outcome(o, 0),
@@ -186,7 +186,7 @@ pub fn of_label(o: Outcome, label: Label) -> CLabelAnswer
 }
 
 pub fn of_range(o: Outcome, range: Range) -> CRangeAnswer
-    ensures { result ≡ withRange (outcomeAnswer o 0) range }
+    ensures { result ≡ with_range (outcome_answer o 0) range }
 {
     CRangeAnswer {
         answer: of_outcome(o, 0),
@@ -195,7 +195,7 @@ pub fn of_range(o: Outcome, range: Range) -> CRangeAnswer
 }
 
 pub fn of_tuple(o: Outcome, t: Tuple) -> CTupleAnswer
-    ensures { result ≡ withTuple (outcomeAnswer o 0) t }
+    ensures { result ≡ with_tuple (outcome_answer o 0) t }
 {
     CTupleAnswer {
         answer: of_outcome(o, 0),
@@ -204,7 +204,7 @@ pub fn of_tuple(o: Outcome, t: Tuple) -> CTupleAnswer
 }
 
 pub fn of_entry(o: Outcome, e: alias_entry::Entry) -> CEntryAnswer
-    ensures { result ≡ entryAnswer (outcomeOf o e) }
+    ensures { result ≡ entry_answer (outcome_of o e) }
 {
     match o {
         Outcome::Granted => CEntryAnswer {
@@ -219,7 +219,7 @@ pub fn of_entry(o: Outcome, e: alias_entry::Entry) -> CEntryAnswer
 }
 
 pub fn of_range_written(w: text::RangeWritten) -> CRangeWritten
-    ensures { result ≡ rangeWritten w }
+    ensures { result ≡ range_written w }
 {
     let written = w.written;
     CRangeWritten {

@@ -1,6 +1,6 @@
 // Who asks, of a text and of the monitor.
 ghost use Rattle.std.specs.Prelude.{◌≡◌};
-ghost use Rattle.abi.specs.Caller.{callerFormed, callerOf};
+ghost use Rattle.abi.specs.Caller.{caller_formed, caller_of};
 
 use label::Label;
 
@@ -12,13 +12,13 @@ pub struct CCaller {
 }
 
 pub fn formed(c: CCaller) -> bool
-    ensures { result ≡ callerFormed c }
+    ensures { result ≡ caller_formed c }
 {
     c.read_override <= 1
 }
 
 pub fn decode(c: CCaller) -> label::caller::Caller
-    ensures { result ≡ callerOf c }
+    ensures { result ≡ caller_of c }
 {
     let label = c.label;
     label::caller::Caller {

@@ -1,7 +1,7 @@
 // Alias entries: what an entry names is a number of its own, 1 a hierarchy, 2 a category, 3 a label.
 ghost use Rattle.std.specs.Prelude.{◌≡◌};
-ghost use Rattle.alias_entry.specs.Entry.{valueByClass, valueClass};
-ghost use Rattle.abi.specs.Entry.{decodedOf, encodedOf, formedOf, valueNumber, zeroCEntry};
+ghost use Rattle.alias_entry.specs.Entry.{value_by_class, value_class};
+ghost use Rattle.abi.specs.Entry.{decoded_of, encoded_of, formed_of, value_number, zero_cEntry};
 
 use alias_entry::{Abbreviation, Name, Value};
 use label::Label;
@@ -18,13 +18,13 @@ pub struct CEntry {
 
 // Whether an entry names what can be named: a label has no number.
 pub fn formed(e: CEntry) -> bool
-    ensures { result ≡ formedOf e }
+    ensures { result ≡ formed_of e }
 {
     (e.names == 1) | (e.names == 2) | ((e.names == 3) & (e.number == 0))
 }
 
 fn value(names: u64, number: u64) -> Value
-    ensures { result ≡ valueByClass names number }
+    ensures { result ≡ value_by_class names number }
 {
     if names == 1 {
         return Value::Hierarchy(number);
@@ -36,7 +36,7 @@ fn value(names: u64, number: u64) -> Value
 }
 
 pub fn decode(e: CEntry) -> alias_entry::Entry
-    ensures { result ≡ decodedOf e }
+    ensures { result ≡ decoded_of e }
 {
     let label = e.label;
     let name = e.name;
@@ -50,7 +50,7 @@ pub fn decode(e: CEntry) -> alias_entry::Entry
 }
 
 fn class(v: Value) -> u64
-    ensures { result ≡ valueClass v }
+    ensures { result ≡ value_class v }
 {
     match v {
         Value::Hierarchy(_) => 1,
@@ -60,7 +60,7 @@ fn class(v: Value) -> u64
 }
 
 fn number(v: Value) -> u64
-    ensures { result ≡ valueNumber v }
+    ensures { result ≡ value_number v }
 {
     match v {
         Value::Hierarchy(h) => h,
@@ -70,7 +70,7 @@ fn number(v: Value) -> u64
 }
 
 pub fn encode(e: alias_entry::Entry) -> CEntry
-    ensures { result ≡ encodedOf e }
+    ensures { result ≡ encoded_of e }
 {
     let v = e.value;
     let label = e.label;
@@ -87,7 +87,7 @@ pub fn encode(e: alias_entry::Entry) -> CEntry
 
 // The entry of zeros: it names nothing.
 pub fn zero() -> CEntry
-    ensures { result ≡ zeroCEntry }
+    ensures { result ≡ zero_cEntry }
 {
     let none = alias_entry::zero();
     let label = none.label;

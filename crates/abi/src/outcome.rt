@@ -1,7 +1,7 @@
 // What a call on a state hands back.
 ghost use Rattle.std.specs.Prelude.{◌≡◌};
 ghost use Rattle.segments.specs.Calls.{applied};
-ghost use Rattle.abi.specs.Outcome.{handedBack, replyAnswer, segmentBeside};
+ghost use Rattle.abi.specs.Outcome.{handed_back, reply_answer, segment_beside};
 
 use crate::answer;
 use crate::answer::CAnswer;
@@ -20,7 +20,7 @@ pub struct COutcome {
 }
 
 fn reply(r: Reply) -> CAnswer
-    ensures { result ≡ replyAnswer r }
+    ensures { result ≡ reply_answer r }
 {
     match r {
         Reply::Done => answer::granted(0),
@@ -31,7 +31,7 @@ fn reply(r: Reply) -> CAnswer
 }
 
 fn shown(r: Reply, label: Label) -> Segment
-    ensures { result ≡ segmentBeside r label }
+    ensures { result ≡ segment_beside r label }
 {
     match r {
         Reply::Shown(x) => Segment {
@@ -47,7 +47,7 @@ fn shown(r: Reply, label: Label) -> Segment
 
 // What a call of the state hands back.
 pub fn hand_back(o: segment_table::CallOutcome) -> COutcome
-    ensures { result ≡ handedBack o }
+    ensures { result ≡ handed_back o }
 {
     let a = o.answer;
     let r = a.reply;
@@ -61,7 +61,7 @@ pub fn hand_back(o: segment_table::CallOutcome) -> COutcome
 
 // What a call hands back that changes the state so; no slot that is not there is changed.
 pub fn apply(state: SegmentTable, change: Change) -> COutcome
-    ensures { result ≡ handedBack (applied state change) }
+    ensures { result ≡ handed_back (applied state change) }
 {
     let a = change.answer;
     let r = a.reply;

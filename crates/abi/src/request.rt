@@ -1,6 +1,6 @@
 // What the monitor is asked about: the subject and the object.
 ghost use Rattle.std.specs.Prelude.{◌≡◌};
-ghost use Rattle.abi.specs.Request.{credentialsFormed, credentialsOf, objectFormed, objectOf};
+ghost use Rattle.abi.specs.Request.{credentials_formed, credentials_of, object_formed, object_of};
 
 use label::Label;
 use monitor::{Presence, Privileges, numbers};
@@ -30,13 +30,13 @@ pub struct CObject {
 }
 
 pub fn credentials_formed(c: CCredentials) -> bool
-    ensures { result ≡ credentialsFormed c }
+    ensures { result ≡ credentials_formed c }
 {
     (c.read_override <= 1) & (c.write_override <= 1) & (c.relabel <= 1)
 }
 
 pub fn decode_credentials(c: CCredentials) -> monitor::Credentials
-    ensures { result ≡ credentialsOf c }
+    ensures { result ≡ credentials_of c }
 {
     let label = c.label;
     let range = c.range;
@@ -53,14 +53,14 @@ pub fn decode_credentials(c: CCredentials) -> monitor::Credentials
 
 // Whether the class, the kind of a file, and the flags are some that there are.
 pub fn object_formed(o: CObject) -> bool
-    ensures { result ≡ objectFormed o }
+    ensures { result ≡ object_formed o }
 {
     let asked = numbers::type_of(o.class, o.kind);
     asked.named & (o.has_label <= 1) & (o.has_tuple <= 1)
 }
 
 pub fn decode_object(o: CObject) -> monitor::Object
-    ensures { result ≡ objectOf o }
+    ensures { result ≡ object_of o }
 {
     let label = o.label;
     let tuple = o.tuple;

@@ -1,6 +1,6 @@
 // How a text is written.
 ghost use Rattle.std.specs.Prelude.{◌≡◌};
-ghost use Rattle.abi.specs.Style.{formedOf, styleOf};
+ghost use Rattle.abi.specs.Style.{formed_of, style_of};
 
 use text::numbers;
 
@@ -13,14 +13,14 @@ pub struct CStyle {
 }
 
 pub fn formed(s: CStyle) -> bool
-    ensures { result ≡ formedOf s }
+    ensures { result ≡ formed_of s }
 {
     let asked = numbers::style_of(s.form, s.variant);
     asked.named
 }
 
 pub fn decode(s: CStyle) -> text::Style
-    ensures { result ≡ styleOf s }
+    ensures { result ≡ style_of s }
 {
     let x = numbers::style_of(s.form, s.variant);
     x.style

@@ -1,37 +1,37 @@
 -- Document 01, "Names and text": which tables are good.
 use Rattle.std.specs.Prelude.{Bool, cond, not, ◌&&◌, ◌||◌, List, [], ◌∷◌, ◌++◌, ℕ, leb, length}
 use Rattle.std.proofs.Math.Option.{Option, none, some}
-use Rattle.common.specs.Answer.{Answer, granted, isGranted, refused}
-use Rattle.common.specs.Index.{someBelow, firstFrom}
-use Rattle.octets.specs.Bytes.{sameBytes}
-use Rattle.alias_entry.specs.Entry.{abbreviationBytes, nameBytes}
-use Rattle.hexline.specs.Line.{readEntryLine}
+use Rattle.common.specs.Answer.{Answer, granted, is_granted, refused}
+use Rattle.common.specs.Index.{some_below, first_from}
+use Rattle.octets.specs.Bytes.{same_bytes}
+use Rattle.alias_entry.specs.Entry.{abbreviation_bytes, name_bytes}
+use Rattle.hexline.specs.Line.{read_entry_line}
 use Rattle.alias_entry.specs.declared.Entry.{Entry}
 use Rattle.octets.specs.Lines.{line_at, lines_of}
-use Rattle.alias.specs.Lines.{entriesOf, entry_at, indexedOf, maxLines}
-use Rattle.alias.specs.Lookup.{calledOf}
+use Rattle.alias.specs.Lines.{entries_of, entry_at, indexed_of, max_lines}
+use Rattle.alias.specs.Lookup.{called_of}
 use Rattle.alias.specs.declared.LineStarts.{LineStarts}
 
 -- whether a name or non-empty abbreviation of e is one of f's too
 unfoldable pub shares_of : Entry → Entry → Bool
-shares_of e f = calledOf e (nameBytes f) || (leb 1 (length (abbreviationBytes f)) && calledOf e (abbreviationBytes f))
+shares_of e f = called_of e (name_bytes f) || (leb 1 (length (abbreviation_bytes f)) && called_of e (abbreviation_bytes f))
 
 -- whether entry k repeats a name: within itself, or of an earlier entry. Case counts
-unfoldable pub repeatsAt : List Entry → ℕ → Bool
-repeatsAt es k = sameBytes (nameBytes (entry_at es k)) (abbreviationBytes (entry_at es k)) || someBelow (λ j. shares_of (entry_at es j) (entry_at es k)) k
+unfoldable pub repeats_at : List Entry → ℕ → Bool
+repeats_at es k = same_bytes (name_bytes (entry_at es k)) (abbreviation_bytes (entry_at es k)) || some_below (λ j. shares_of (entry_at es j) (entry_at es k)) k
 
 -- whether line k is bad: the 513th or a later one, a faulty line or one of another kind, or a repeat
-unfoldable pub badAt : List (List ℕ) → ℕ → Bool
-badAt ls k = leb maxLines k || not (isGranted (readEntryLine (line_at ls k))) || repeatsAt (entriesOf ls) k
+unfoldable pub bad_at : List (List ℕ) → ℕ → Bool
+bad_at ls k = leb max_lines k || not (is_granted (read_entry_line (line_at ls k))) || repeats_at (entries_of ls) k
 
 -- the lines to be judged. Where the table is cut off and more follows, one line more follows those that end, which does not end
-unfoldable pub judgedLines : Bool → List ℕ → List (List ℕ)
-judgedLines more bytes = lines_of bytes ++ cond more ([] ∷ []) []
+unfoldable pub judged_lines : Bool → List ℕ → List (List ℕ)
+judged_lines more bytes = lines_of bytes ++ cond more ([] ∷ []) []
 
-abbrev pub verdictOf : Option ℕ → LineStarts → Answer LineStarts
-verdictOf none lines = granted lines
-verdictOf (some k) lines = refused 22 (some k)
+abbrev pub verdict_of : Option ℕ → LineStarts → Answer LineStarts
+verdict_of none lines = granted lines
+verdict_of (some k) lines = refused 22 (some k)
 
 -- what the test of a table answers: where its lines begin, or 22 with the number of its first bad line
-unfoldable pub checkTable : Bool → List ℕ → Answer LineStarts
-checkTable more bytes = verdictOf (firstFrom (badAt (judgedLines more bytes)) 0 (length (judgedLines more bytes))) (indexedOf (lines_of bytes))
+unfoldable pub check_table : Bool → List ℕ → Answer LineStarts
+check_table more bytes = verdict_of (first_from (bad_at (judged_lines more bytes)) 0 (length (judged_lines more bytes))) (indexed_of (lines_of bytes))

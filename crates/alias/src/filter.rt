@@ -1,7 +1,7 @@
 // A bitmap filter of the hashes so far: a hash whose bit is not set is none of them. Hashes are compared only where it is.
 ghost use Rattle.std.specs.Prelude.{◌≡◌, false, ◌<◌, ◌/◌, ◌%◌};
-ghost use Rattle.alias.specs.Internal.Hash.{Filtered, NoneCollide, inFilter, filterWords, withHash, collidesBefore};
-ghost use Rattle.alias.specs.Lines.{maxLines};
+ghost use Rattle.alias.specs.Internal.Hash.{Filtered, NoneCollide, in_filter, filter_words, with_hash, collides_before};
+ghost use Rattle.alias.specs.Lines.{max_lines};
 
 use crate::MAX_LINES;
 use crate::hash::collides_before;
@@ -10,20 +10,20 @@ const FILTER_WORDS: usize = 256;
 
 // The word that has the bit of a hash.
 fn filter_word(hash: u32) -> usize
-    ensures { result ≡ hash / 64 % filterWords }
+    ensures { result ≡ hash / 64 % filter_words }
 {
     (hash / 64 % FILTER_WORDS as u32) as usize
 }
 
 fn in_filter(filter: &[u64; FILTER_WORDS], hash: u32) -> bool
-    ensures { result ≡ inFilter filter.now hash }
+    ensures { result ≡ in_filter filter.now hash }
 {
     let w = filter[filter_word(hash)];
     (w >> (hash % 64)) % 2 == 1
 }
 
 fn insert(filter: &mut [u64; FILTER_WORDS], hash: u32)
-    ensures { filter.new ≡ withHash filter.old hash }
+    ensures { filter.new ≡ with_hash filter.old hash }
 {
     let i = filter_word(hash);
     filter[i] = filter[i] | (1 << (hash % 64));
@@ -36,8 +36,8 @@ fn collides(
     filter: &[u64; FILTER_WORDS],
     k: usize,
 ) -> bool
-    requires { (k < maxLines) × Filtered names.now others.now k filter.now }
-    ensures { result ≡ collidesBefore names.now others.now k }
+    requires { (k < max_lines) × Filtered names.now others.now k filter.now }
+    ensures { result ≡ collides_before names.now others.now k }
 {
     if !(in_filter(filter, names[k]) | in_filter(filter, others[k])) {
         return false;

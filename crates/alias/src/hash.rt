@@ -1,12 +1,12 @@
 // Hashes of the names in a table: names that have different hashes differ.
 ghost use Rattle.std.specs.Prelude.{◌≡◌, true, cond, leb, length};
-ghost use Rattle.common.specs.Answer.{isGranted};
-ghost use Rattle.hexline.specs.Accept.{acceptedBody};
-ghost use Rattle.codec.specs.Body.{lineWords};
-ghost use Rattle.alias_entry.specs.Entry.{abbreviationBytes, nameBytes};
-ghost use Rattle.hexline.specs.Line.{entryIn, readEntryLine, standingIn};
+ghost use Rattle.common.specs.Answer.{is_granted};
+ghost use Rattle.hexline.specs.Accept.{accepted_body};
+ghost use Rattle.codec.specs.Body.{line_words};
+ghost use Rattle.alias_entry.specs.Entry.{abbreviation_bytes, name_bytes};
+ghost use Rattle.hexline.specs.Line.{entry_in, read_entry_line, standing_in};
 ghost use Rattle.alias_entry.specs.declared.Entry.{Entry};
-ghost use Rattle.alias.specs.Internal.Hash.{HashesOf, foldedHash, hashOf, collidesBefore};
+ghost use Rattle.alias.specs.Internal.Hash.{HashesOf, folded_hash, hash_of, collides_before};
 
 use crate::MAX_LINES;
 use alias_entry::bytes::layout_in;
@@ -32,14 +32,14 @@ pub(crate) struct LineHashes {
 
 // The halves of a word in one.
 fn folded(hash: u64) -> u32
-    ensures { result ≡ foldedHash hash }
+    ensures { result ≡ folded_hash hash }
 {
     ((hash / FOLDED_MODULUS + hash % FOLDED_MODULUS) % FOLDED_MODULUS) as u32
 }
 
 // The hash of bytes.
 fn hash_of(bytes: &[u8]) -> u32
-    ensures { result ≡ hashOf bytes.now }
+    ensures { result ≡ hash_of bytes.now }
 {
     let mut hash = bytes.len() as u64;
     let mut i = 0;
@@ -52,7 +52,7 @@ fn hash_of(bytes: &[u8]) -> u32
 
 // The hash of an entry's other name, from its abbreviation and the hash of its name.
 fn other_hash(abbreviation: &[u8], name: u32) -> u32
-    ensures { result ≡ cond (leb 1 (length abbreviation.now)) (hashOf abbreviation.now) name }
+    ensures { result ≡ cond (leb 1 (length abbreviation.now)) (hash_of abbreviation.now) name }
 {
     if 1 <= abbreviation.len() {
         return hash_of(abbreviation);
@@ -63,7 +63,7 @@ fn other_hash(abbreviation: &[u8], name: u32) -> u32
 // The hashes of an entry with these texts.
 fn text_hashes(name: &[u8], abbreviation: &[u8]) -> LineHashes
     ensures accepted_value { result.accepted ≡ true }
-    ensures hashes_of { (e : Entry) → name.now ≡ nameBytes e → abbreviation.now ≡ abbreviationBytes e → HashesOf e result.name result.other result.unclear }
+    ensures hashes_of { (e : Entry) → name.now ≡ name_bytes e → abbreviation.now ≡ abbreviation_bytes e → HashesOf e result.name result.other result.unclear }
 {
     let hash = hash_of(name);
     let other = other_hash(abbreviation, hash);
@@ -77,8 +77,8 @@ fn text_hashes(name: &[u8], abbreviation: &[u8]) -> LineHashes
 
 // Whether a body is that of an accepted line of kind 04, and the hashes of its entry.
 fn body_hashes(body: &[u8]) -> LineHashes
-    ensures accepted_value { result.accepted ≡ acceptedBody body.now }
-    ensures hashes_of { result.accepted ≡ true → HashesOf (entryIn lineWords body.now) result.name result.other result.unclear }
+    ensures accepted_value { result.accepted ≡ accepted_body body.now }
+    ensures hashes_of { result.accepted ≡ true → HashesOf (entry_in line_words body.now) result.name result.other result.unclear }
 {
     if !accept::accepts(body) {
         return LineHashes {
@@ -99,8 +99,8 @@ fn body_hashes(body: &[u8]) -> LineHashes
 
 // The same of a line: it is decoded once, and judged by the bytes of its body.
 pub(crate) fn line_hashes(line: &[u8]) -> LineHashes
-    ensures accepted_value { result.accepted ≡ isGranted (readEntryLine line.now) }
-    ensures hashes_of { result.accepted ≡ true → HashesOf (standingIn line.now) result.name result.other result.unclear }
+    ensures accepted_value { result.accepted ≡ is_granted (read_entry_line line.now) }
+    ensures hashes_of { result.accepted ≡ true → HashesOf (standing_in line.now) result.name result.other result.unclear }
 {
     let mut bytes = [0u8; ENTRY_BODY];
     let n = frame::decode(line, &mut bytes);
@@ -110,7 +110,7 @@ pub(crate) fn line_hashes(line: &[u8]) -> LineHashes
 // Whether entry k, by its hashes, may have a name in common with an earlier entry. The loop has no early exit, so that it can take several hashes at
 // a time.
 pub(crate) fn collides_before(names: &[u32; MAX_LINES], others: &[u32; MAX_LINES], k: usize) -> bool
-    ensures { result ≡ collidesBefore names.now others.now k }
+    ensures { result ≡ collides_before names.now others.now k }
 {
     if MAX_LINES <= k {
         return true;

@@ -11,8 +11,8 @@ mod repeats;
 
 ghost use Rattle.std.proofs.Math.Option.{some};
 ghost use Rattle.common.specs.Answer.{Answered, refused};
-ghost use Rattle.alias.specs.Lines.{noLines};
-ghost use Rattle.alias.specs.Table.{checkTable};
+ghost use Rattle.alias.specs.Lines.{no_lines};
+ghost use Rattle.alias.specs.Table.{check_table};
 
 use crate::lines::walk;
 use common::answer::Outcome;
@@ -46,7 +46,7 @@ pub enum FoundEntry {
 
 // The answer for a table whose first bad line has that number.
 fn bad(line: usize) -> TableAnswer
-    ensures { Answered result.outcome result.lines noLines (refused 22 (some line)) }
+    ensures { Answered result.outcome result.lines no_lines (refused 22 (some line)) }
 {
     let lines = LineStarts {
         count: 0,
@@ -60,7 +60,7 @@ fn bad(line: usize) -> TableAnswer
 
 // Tests a table: `more` says that it is cut off, and more follows. A line is judged by itself, then against those before it.
 pub fn check(table: &[u8], more: bool) -> TableAnswer
-    ensures { Answered result.outcome result.lines noLines (checkTable more table.now) }
+    ensures { Answered result.outcome result.lines no_lines (check_table more table.now) }
 {
     let mut lines = LineStarts {
         count: 0,

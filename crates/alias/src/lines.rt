@@ -1,10 +1,10 @@
 // The lines of a table: where they begin, and which of them are bad by themselves.
 ghost use Rattle.std.specs.Prelude.{◌≡◌, false, ◌+◌, ◌<◌, ◌≤◌, drop, length, replicate};
-ghost use Rattle.octets.specs.Bytes.{indexOf, lf};
+ghost use Rattle.octets.specs.Bytes.{index_of, lf};
 ghost use Rattle.alias.specs.Internal.Hash.{HashesKept};
 ghost use Rattle.octets.specs.Lines.{lines_of};
-ghost use Rattle.alias.specs.Lines.{entriesOf, maxLines};
-ghost use Rattle.octets.specs.Internal.Lines.{lineEnd};
+ghost use Rattle.alias.specs.Lines.{entries_of, max_lines};
+ghost use Rattle.octets.specs.Internal.Lines.{line_end};
 ghost use Rattle.alias.specs.Internal.Walk.{Walks, lines_from};
 
 use crate::hash::line_hashes;
@@ -25,7 +25,7 @@ const CHUNK: usize = 16;
 
 // Whether there is an LF among some bytes. The loop has no early exit, so that it can take all of them at a time.
 fn has_lf(bytes: &[u8]) -> bool
-    ensures { result ≡ false → indexOf lf bytes.now ≡ length bytes.now }
+    ensures { result ≡ false → index_of lf bytes.now ≡ length bytes.now }
 {
     let mut met = false;
     let mut i = 0;
@@ -38,7 +38,7 @@ fn has_lf(bytes: &[u8]) -> bool
 
 // An index before which there is no LF, and from which on there are fewer than CHUNK bytes, or one among the next CHUNK.
 fn skip_chunks(bytes: &[u8]) -> usize
-    ensures { (result ≤ length bytes.now) × (indexOf lf bytes.now ≡ result + indexOf lf (drop result bytes.now)) }
+    ensures { (result ≤ length bytes.now) × (index_of lf bytes.now ≡ result + index_of lf (drop result bytes.now)) }
 {
     let mut i = 0;
     while i + CHUNK <= bytes.len() {
@@ -53,7 +53,7 @@ fn skip_chunks(bytes: &[u8]) -> usize
 // Past the LF of the line that begins at an index, or the end of the table where it does not end.
 fn line_end(table: &[u8], at: usize) -> usize
     requires { at < length table.now }
-    ensures { result ≡ lineEnd table.now at }
+    ensures { result ≡ line_end table.now at }
 {
     let rest = octets::rest(table, at);
     let i = skip_chunks(rest);
@@ -73,9 +73,9 @@ pub(crate) fn walk(
     names: &mut [u32; MAX_LINES],
     others: &mut [u32; MAX_LINES],
 ) -> Walked
-    requires { (starts.old ≡ replicate (maxLines + 1) 0) × (length names.old ≡ maxLines) × (length others.old ≡ maxLines) }
+    requires { (starts.old ≡ replicate (max_lines + 1) 0) × (length names.old ≡ max_lines) × (length others.old ≡ max_lines) }
     ensures walks { Walks more table.now (lines_from result.count starts.new) result.stopped }
-    ensures hashes_kept { HashesKept (entriesOf (lines_of table.now)) result.count names.new others.new result.unclear }
+    ensures hashes_kept { HashesKept (entries_of (lines_of table.now)) result.count names.new others.new result.unclear }
 {
     let mut unclear = false;
     let mut count = 0;

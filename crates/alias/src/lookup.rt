@@ -2,8 +2,8 @@
 // with the starts that the test gives, they find its entries.
 ghost use Rattle.std.specs.Prelude.{◌≡◌, ◌+◌, ◌-◌, drop, length, take};
 ghost use Rattle.octets.specs.Lines.{line_at};
-ghost use Rattle.alias.specs.Lines.{entriesBy, linesBy};
-ghost use Rattle.alias.specs.Lookup.{findOf, foundEntryOf, lastEntryFor, nextEntryFor};
+ghost use Rattle.alias.specs.Lines.{entries_by, lines_by};
+ghost use Rattle.alias.specs.Lookup.{find_of, found_entry_of, last_entry_for, next_entry_for};
 
 use crate::names::{called, stands_for};
 use crate::{FoundEntry, MAX_STARTS};
@@ -44,7 +44,7 @@ fn part(table: &[u8], from: usize, to: usize) -> &[u8]
 
 // The line of entry k, and no bytes where there is no such entry.
 pub fn line<'a>(table: &'a [u8], starts: &[usize], k: usize) -> &'a [u8]
-    ensures { result.now ≡ line_at (linesBy table.now starts.now) k }
+    ensures { result.now ≡ line_at (lines_by table.now starts.now) k }
 {
     if count(starts) <= k {
         return &table[..0];
@@ -54,7 +54,7 @@ pub fn line<'a>(table: &'a [u8], starts: &[usize], k: usize) -> &'a [u8]
 
 // The entry that a text names.
 pub fn find(table: &[u8], starts: &[usize], text: &[u8]) -> FoundEntry
-    ensures { foundEntryOf result ≡ findOf (entriesBy table.now starts.now) text.now }
+    ensures { found_entry_of result ≡ find_of (entries_by table.now starts.now) text.now }
 {
     let n = count(starts);
     let mut k = 0;
@@ -69,7 +69,7 @@ pub fn find(table: &[u8], starts: &[usize], text: &[u8]) -> FoundEntry
 
 // From entry `from` on, the next that stands for a value, which for a whole label is the label beside it. The search goes on from the one after it.
 pub fn next(table: &[u8], starts: &[usize], v: Value, l: Label, from: usize) -> FoundEntry
-    ensures { foundEntryOf result ≡ nextEntryFor (entriesBy table.now starts.now) v l from }
+    ensures { found_entry_of result ≡ next_entry_for (entries_by table.now starts.now) v l from }
 {
     let n = count(starts);
     let mut k = from;
@@ -84,7 +84,7 @@ pub fn next(table: &[u8], starts: &[usize], v: Value, l: Label, from: usize) -> 
 
 // The last entry that stands for a value: of several, the one that counts.
 pub fn last(table: &[u8], starts: &[usize], v: Value, l: Label) -> FoundEntry
-    ensures { foundEntryOf result ≡ lastEntryFor (entriesBy table.now starts.now) v l }
+    ensures { found_entry_of result ≡ last_entry_for (entries_by table.now starts.now) v l }
 {
     let n = count(starts);
     let mut i = 0;

@@ -1,12 +1,12 @@
 // Names of entries, compared where they stand in their lines.
 ghost use Rattle.std.specs.Prelude.{◌≡◌, ◌+◌, ◌<◌};
 ghost use Rattle.frame.specs.Frame.{body_of};
-ghost use Rattle.alias_entry.specs.Entry.{abbreviationBytes, nameBytes};
-ghost use Rattle.alias_entry.specs.Internal.Spans.{spanBytes};
-ghost use Rattle.hexline.specs.Line.{standingIn};
+ghost use Rattle.alias_entry.specs.Entry.{abbreviation_bytes, name_bytes};
+ghost use Rattle.alias_entry.specs.Internal.Spans.{span_bytes};
+ghost use Rattle.hexline.specs.Line.{standing_in};
 ghost use Rattle.label.specs.Label as labels;
-ghost use Rattle.octets.specs.Bytes.{sameBytes};
-ghost use Rattle.alias.specs.Lookup.{calledOf, stands_for};
+ghost use Rattle.octets.specs.Bytes.{same_bytes};
+ghost use Rattle.alias.specs.Lookup.{called_of, stands_for};
 ghost use Rattle.alias.specs.Table.{shares_of};
 
 use alias_entry::Value;
@@ -17,7 +17,7 @@ use label::{Label, components};
 // Whether a line's body has a text at a span. The length is compared first.
 fn spells(line: &[u8], s: Span, text: &[u8]) -> bool
     requires { s.at + s.length < 1024 }
-    ensures { result ≡ sameBytes (spanBytes (body_of line.now) s) text.now }
+    ensures { result ≡ same_bytes (span_bytes (body_of line.now) s) text.now }
 {
     if s.length != text.len() {
         return false;
@@ -35,7 +35,7 @@ fn spells(line: &[u8], s: Span, text: &[u8]) -> bool
 // Whether two lines' bodies have the same bytes at two spans. The length is compared first, then the first byte.
 fn alike(a: &[u8], s: Span, b: &[u8], t: Span) -> bool
     requires { (s.at + s.length < 1024) × (t.at + t.length < 1024) }
-    ensures { result ≡ sameBytes (spanBytes (body_of a.now) s) (spanBytes (body_of b.now) t) }
+    ensures { result ≡ same_bytes (span_bytes (body_of a.now) s) (span_bytes (body_of b.now) t) }
 {
     if s.length != t.length {
         return false;
@@ -52,7 +52,7 @@ fn alike(a: &[u8], s: Span, b: &[u8], t: Span) -> bool
 
 // Whether a text is a name of the entry in a line: its name, or its abbreviation where that is not empty.
 pub(crate) fn called(line: &[u8], text: &[u8]) -> bool
-    ensures { result ≡ calledOf (standingIn line.now) text.now }
+    ensures { result ≡ called_of (standing_in line.now) text.now }
 {
     let t = parts::texts(line);
     let abbreviation = t.abbreviation;
@@ -62,7 +62,7 @@ pub(crate) fn called(line: &[u8], text: &[u8]) -> bool
 // Whether the bytes of a line b at a span are a name of the entry in a line a.
 fn called_as(a: &[u8], b: &[u8], t: Span) -> bool
     requires { t.at + t.length < 1024 }
-    ensures { result ≡ calledOf (standingIn a.now) (spanBytes (body_of b.now) t) }
+    ensures { result ≡ called_of (standing_in a.now) (span_bytes (body_of b.now) t) }
 {
     let u = parts::texts(a);
     let abbreviation = u.abbreviation;
@@ -71,7 +71,7 @@ fn called_as(a: &[u8], b: &[u8], t: Span) -> bool
 
 // Whether the entries in two lines have a name in common.
 pub(crate) fn shares(a: &[u8], b: &[u8]) -> bool
-    ensures { result ≡ shares_of (standingIn a.now) (standingIn b.now) }
+    ensures { result ≡ shares_of (standing_in a.now) (standing_in b.now) }
 {
     let t = parts::texts(b);
     let abbreviation = t.abbreviation;
@@ -80,7 +80,7 @@ pub(crate) fn shares(a: &[u8], b: &[u8]) -> bool
 
 // Whether the name of the entry in a line is its abbreviation too.
 pub(crate) fn repeats_itself(line: &[u8]) -> bool
-    ensures { result ≡ sameBytes (nameBytes (standingIn line.now)) (abbreviationBytes (standingIn line.now)) }
+    ensures { result ≡ same_bytes (name_bytes (standing_in line.now)) (abbreviation_bytes (standing_in line.now)) }
 {
     let t = parts::texts(line);
     alike(line, t.name, line, t.abbreviation)
@@ -88,7 +88,7 @@ pub(crate) fn repeats_itself(line: &[u8]) -> bool
 
 // Whether the label of the entry in a line is l. The hierarchy is compared first, where it stands.
 fn has_label(line: &[u8], l: Label) -> bool
-    ensures { result ≡ labels.equal_of (standingIn line.now).label l }
+    ensures { result ≡ labels.equal_of (standing_in line.now).label l }
 {
     if parts::hierarchy(line) != l.hierarchy {
         return false;
@@ -101,7 +101,7 @@ fn has_label(line: &[u8], l: Label) -> bool
 
 // Whether the entry in a line stands for a value, which for a whole label is the label beside it.
 pub(crate) fn stands_for(line: &[u8], v: Value, l: Label) -> bool
-    ensures { result ≡ stands_for v l (standingIn line.now) }
+    ensures { result ≡ stands_for v l (standing_in line.now) }
 {
     let u = parts::value(line);
     match u {

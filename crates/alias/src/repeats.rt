@@ -1,11 +1,11 @@
 // Names that are repeated in a table.
 ghost use Rattle.std.specs.Prelude.{◌≡◌, ◌-◌, ◌<◌, length};
-ghost use Rattle.common.specs.Index.{someBelow};
-ghost use Rattle.alias.specs.Internal.Hash.{Hashes, HashesKept, hashedCount};
-ghost use Rattle.alias.specs.Lines.{entriesBy, entry_at};
-ghost use Rattle.alias.specs.Lookup.{foundEntryOf};
-ghost use Rattle.alias.specs.Table.{repeatsAt, shares_of};
-ghost use Rattle.alias.specs.Internal.Walk.{firstRepeat};
+ghost use Rattle.common.specs.Index.{some_below};
+ghost use Rattle.alias.specs.Internal.Hash.{Hashes, HashesKept, hashed_count};
+ghost use Rattle.alias.specs.Lines.{entries_by, entry_at};
+ghost use Rattle.alias.specs.Lookup.{found_entry_of};
+ghost use Rattle.alias.specs.Table.{repeats_at, shares_of};
+ghost use Rattle.alias.specs.Internal.Walk.{first_repeat};
 
 use crate::filter::some_collide;
 use crate::hash::collides_before;
@@ -16,7 +16,7 @@ use crate::{FoundEntry, MAX_LINES};
 // Whether an entry before entry k has a name in common with it, by the names.
 fn shared_before(table: &[u8], starts: &[usize], k: usize) -> bool
     requires { k < length starts.now - 1 }
-    ensures { result ≡ someBelow (λ j. shares_of (entry_at (entriesBy table.now starts.now) j) (entry_at (entriesBy table.now starts.now) k)) k }
+    ensures { result ≡ some_below (λ j. shares_of (entry_at (entries_by table.now starts.now) j) (entry_at (entries_by table.now starts.now) k)) k }
 {
     let own = line(table, starts, k);
     let mut j = 0;
@@ -38,8 +38,8 @@ fn shared(
     k: usize,
 ) -> bool
     requires k_in_bounds { k < length starts.now - 1 }
-    requires hashes { Hashes (entriesBy table.now starts.now) (hashedCount (length starts.now - 1)) names.now others.now }
-    ensures { result ≡ someBelow (λ j. shares_of (entry_at (entriesBy table.now starts.now) j) (entry_at (entriesBy table.now starts.now) k)) k }
+    requires hashes { Hashes (entries_by table.now starts.now) (hashed_count (length starts.now - 1)) names.now others.now }
+    ensures { result ≡ some_below (λ j. shares_of (entry_at (entries_by table.now starts.now) j) (entry_at (entries_by table.now starts.now) k)) k }
 {
     if !collides_before(names, others, k) {
         return false;
@@ -56,8 +56,8 @@ fn repeats(
     k: usize,
 ) -> bool
     requires k_in_bounds { k < length starts.now - 1 }
-    requires hashes { Hashes (entriesBy table.now starts.now) (hashedCount (length starts.now - 1)) names.now others.now }
-    ensures { result ≡ repeatsAt (entriesBy table.now starts.now) k }
+    requires hashes { Hashes (entries_by table.now starts.now) (hashed_count (length starts.now - 1)) names.now others.now }
+    ensures { result ≡ repeats_at (entries_by table.now starts.now) k }
 {
     repeats_itself(line(table, starts, k)) | shared(table, starts, names, others, k)
 }
@@ -70,8 +70,8 @@ pub(crate) fn first(
     others: &[u32; MAX_LINES],
     unclear: bool,
 ) -> FoundEntry
-    requires { HashesKept (entriesBy table.now starts.now) (hashedCount (length starts.now - 1)) names.now others.now unclear }
-    ensures { foundEntryOf result ≡ firstRepeat (entriesBy table.now starts.now) }
+    requires { HashesKept (entries_by table.now starts.now) (hashed_count (length starts.now - 1)) names.now others.now unclear }
+    ensures { found_entry_of result ≡ first_repeat (entries_by table.now starts.now) }
 {
     let n = count(starts);
     if !(unclear | some_collide(names, others, n)) {

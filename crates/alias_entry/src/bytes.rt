@@ -1,13 +1,13 @@
 // Alias entries as bytes: the class, the value, and two texts, each with its length before it. An entry with a number above 255, or with a text that
 // is longer than the array that holds it, has no bytes.
 ghost use Rattle.std.specs.Prelude.{◌≡◌, true, ◌+◌, ◌<◌, ◌≤◌, length};
-ghost use Rattle.label.specs.Words.{words as setWords};
+ghost use Rattle.label.specs.Words.{words as set_words};
 ghost use Rattle.octets.specs.Bytes.{Appended};
 ghost use Rattle.octets.specs.Internal.Put.{Put};
-ghost use Rattle.codec.specs.Body.{labelSize};
+ghost use Rattle.codec.specs.Body.{label_size};
 ghost use Rattle.codec.specs.Codec as codecs;
-ghost use Rattle.alias_entry.specs.Codec.{entryInBytes, entryCode, entryFits, valueFits};
-ghost use Rattle.alias_entry.specs.Entry.{entryBytes, labelFrom, layout_of, span_of, textByte, textBytes, textFrom, valueBytes, valueByClass, valueClass, valueSize};
+ghost use Rattle.alias_entry.specs.Codec.{entry_in_bytes, entry_code, entry_fits, value_fits};
+ghost use Rattle.alias_entry.specs.Entry.{entry_bytes, label_from, layout_of, span_of, text_byte, text_bytes, text_from, value_bytes, value_by_class, value_class, value_size};
 
 use crate::{
     ABBREVIATION_BYTES, Abbreviation, Entry, MAX_ABBREVIATION, MAX_NAME, NAME_BYTES, Name, Value,
@@ -20,7 +20,7 @@ use label::Label;
 pub const ENTRY_BYTES: usize = 1 + LABEL_BYTES + (1 + MAX_NAME) + (1 + MAX_ABBREVIATION);
 
 fn class_of(v: Value) -> u8
-    ensures { result ≡ valueClass v }
+    ensures { result ≡ value_class v }
 {
     match v {
         Value::Hierarchy(_) => 1,
@@ -31,14 +31,14 @@ fn class_of(v: Value) -> u8
 
 // How many bytes a value of a class has. The second clause follows, and is stated for callers.
 pub fn value_size(class: u8, words: usize) -> usize
-    ensures value { result ≡ valueSize (codecs.width words) class }
-    ensures upper_bound { result ≤ labelSize setWords }
+    ensures value { result ≡ value_size (codecs.width words) class }
+    ensures upper_bound { result ≤ label_size set_words }
 {
     if class == 3 { label_size(words) } else { 1 }
 }
 
 fn value_fits(v: Value, l: Label) -> bool
-    ensures { result ≡ valueFits v l }
+    ensures { result ≡ value_fits v l }
 {
     match v {
         Value::Hierarchy(h) => h <= 255,
@@ -48,7 +48,7 @@ fn value_fits(v: Value, l: Label) -> bool
 }
 
 fn entry_fits(e: Entry) -> bool
-    ensures { result ≡ entryFits e }
+    ensures { result ≡ entry_fits e }
 {
     let v = e.value;
     let name = e.name;
@@ -60,8 +60,8 @@ fn entry_fits(e: Entry) -> bool
 
 // How many bytes an entry has that fits them.
 fn entry_size(e: Entry, words: usize) -> usize
-    requires { entryFits e ≡ true }
-    ensures { result ≡ length (entryBytes (codecs.width words) e) }
+    requires { entry_fits e ≡ true }
+    ensures { result ≡ length (entry_bytes (codecs.width words) e) }
 {
     let v = e.value;
     let name = e.name;
@@ -71,8 +71,8 @@ fn entry_size(e: Entry, words: usize) -> usize
 
 // A value's bytes at index at, and the index past them.
 fn put_value(out: &mut [u8], at: usize, v: Value, l: Label, words: usize) -> usize
-    requires { (at + length (valueBytes (codecs.width words) v l) ≤ length out.old) × (valueFits v l ≡ true) }
-    ensures { Put out.old at (valueBytes (codecs.width words) v l) result out.new }
+    requires { (at + length (value_bytes (codecs.width words) v l) ≤ length out.old) × (value_fits v l ≡ true) }
+    ensures { Put out.old at (value_bytes (codecs.width words) v l) result out.new }
 {
     match v {
         Value::Hierarchy(h) => append_byte(out, at, h as u8),
@@ -83,8 +83,8 @@ fn put_value(out: &mut [u8], at: usize, v: Value, l: Label, words: usize) -> usi
 
 // A length and that many bytes of a text at index at, and the index past them.
 fn put_text(out: &mut [u8], at: usize, text: &[u8], n: usize) -> usize
-    requires { (n ≤ length text.now) × (n < 256) × (at + length (textBytes text.now n) ≤ length out.old) }
-    ensures { Put out.old at (textBytes text.now n) result out.new }
+    requires { (n ≤ length text.now) × (n < 256) × (at + length (text_bytes text.now n) ≤ length out.old) }
+    ensures { Put out.old at (text_bytes text.now n) result out.new }
 {
     let next = append_byte(out, at, (n % 256) as u8);
     octets::append(out, next, octets::front(text, n))
@@ -92,8 +92,8 @@ fn put_text(out: &mut [u8], at: usize, text: &[u8], n: usize) -> usize
 
 // An entry's bytes at index at, and the index past them.
 fn put_entry(out: &mut [u8], at: usize, e: Entry, words: usize) -> usize
-    requires { (at + length (entryBytes (codecs.width words) e) ≤ length out.old) × (entryFits e ≡ true) }
-    ensures { Put out.old at (entryBytes (codecs.width words) e) result out.new }
+    requires { (at + length (entry_bytes (codecs.width words) e) ≤ length out.old) × (entry_fits e ≡ true) }
+    ensures { Put out.old at (entry_bytes (codecs.width words) e) result out.new }
 {
     let v = e.value;
     let value_at = append_byte(out, at, class_of(v));
@@ -108,7 +108,7 @@ fn put_entry(out: &mut [u8], at: usize, e: Entry, words: usize) -> usize
 
 // Appends the bytes of an entry to out at index at, and answers the index past them.
 pub fn append_entry(out: &mut [u8], at: usize, e: Entry, words: usize) -> usize
-    ensures { Appended out.old at (entryCode (codecs.width words) e) result out.new }
+    ensures { Appended out.old at (entry_code (codecs.width words) e) result out.new }
 {
     if !entry_fits(e) {
         return at;
@@ -172,7 +172,7 @@ pub fn layout_in(body: &[u8], words: usize) -> Layout
 
 // The value of a class whose first byte is b.
 pub fn value_from(class: u8, b: u8) -> Value
-    ensures { result ≡ valueByClass class b }
+    ensures { result ≡ value_by_class class b }
 {
     if class == 1 {
         return Value::Hierarchy(b as u64);
@@ -185,7 +185,7 @@ pub fn value_from(class: u8, b: u8) -> Value
 
 // The label of an entry of a class, its value at index at.
 fn label_from(bytes: &[u8], class: u8, at: usize, words: usize) -> Label
-    ensures { result ≡ labelFrom (codecs.width words) bytes.now class at }
+    ensures { result ≡ label_from (codecs.width words) bytes.now class at }
 {
     if class == 3 {
         return label_at(bytes, at, words);
@@ -196,7 +196,7 @@ fn label_from(bytes: &[u8], class: u8, at: usize, words: usize) -> Label
 // Byte k of a text of n bytes that begins at index at, and 0 past its end.
 fn text_byte(bytes: &[u8], at: usize, n: usize, k: usize) -> u8
     requires { (at < 1024) × (k < 1024) }
-    ensures { result ≡ textByte bytes.now at n k }
+    ensures { result ≡ text_byte bytes.now at n k }
 {
     if k < n {
         return byte(bytes, at + k);
@@ -207,7 +207,7 @@ fn text_byte(bytes: &[u8], at: usize, n: usize, k: usize) -> u8
 // The text at a span in all of out, with 0 past its end.
 fn copy_text(bytes: &[u8], s: Span, out: &mut [u8])
     requires { (s.at < 1024) × (length out.old < 1024) }
-    ensures { out.new ≡ textFrom (length out.old) bytes.now s.at s.length }
+    ensures { out.new ≡ text_from (length out.old) bytes.now s.at s.length }
 {
     let mut k = 0;
     while k < out.len() {
@@ -218,7 +218,7 @@ fn copy_text(bytes: &[u8], s: Span, out: &mut [u8])
 
 // The entry whose class is at index at of any bytes.
 pub fn entry_at(bytes: &[u8], at: usize, words: usize) -> Entry
-    ensures { result ≡ entryInBytes (codecs.width words) bytes.now at }
+    ensures { result ≡ entry_in_bytes (codecs.width words) bytes.now at }
 {
     let own = octets::rest(bytes, at);
     let p = layout_from(own, 0, words);

@@ -8,7 +8,7 @@ mod tested;
 ghost use Rattle.std.specs.Prelude.{◌≡◌, length};
 ghost use Rattle.common.specs.Index.{every};
 ghost use Rattle.codec.specs.Body.{byte_at};
-ghost use Rattle.alias_entry.specs.Entry.{TypedEntry, isLetter, isNameByte, nameByteAt, nameByteOk, name_of, textOk, valid_of, valueOk, zeroEntry};
+ghost use Rattle.alias_entry.specs.Entry.{TypedEntry, is_letter, is_name_byte, name_byte_at, name_byte_ok, name_of, text_ok, valid_of, value_ok, zero_entry};
 
 use crate::tested::is_zero;
 use codec::byte;
@@ -63,7 +63,7 @@ pub struct EntryAnswer {
 
 // The entry of zeros.
 pub fn zero() -> Entry
-    ensures { result ≡ zeroEntry }
+    ensures { result ≡ zero_entry }
 {
     let name = Name {
         bytes: [0u8; NAME_BYTES],
@@ -82,20 +82,20 @@ pub fn zero() -> Entry
 }
 
 fn is_letter(c: u8) -> bool
-    ensures { result ≡ isLetter c }
+    ensures { result ≡ is_letter c }
 {
     ((65 <= c) & (c <= 90)) | ((97 <= c) & (c <= 122))
 }
 
 fn is_name_byte(c: u8) -> bool
-    ensures { result ≡ isNameByte c }
+    ensures { result ≡ is_name_byte c }
 {
     is_letter(c) | ((48 <= c) & (c <= 57)) | (c == 95) | (c == 45) | (c == 46)
 }
 
 // Whether c may stand at index i where a name has n bytes.
 fn name_byte_ok(n: usize, i: usize, c: u8) -> bool
-    ensures { result ≡ nameByteOk n i c }
+    ensures { result ≡ name_byte_ok n i c }
 {
     if i < n {
         return is_name_byte(c);
@@ -104,7 +104,7 @@ fn name_byte_ok(n: usize, i: usize, c: u8) -> bool
 }
 
 fn all_name_bytes(bytes: &[u8], n: usize) -> bool
-    ensures { result ≡ every (nameByteAt bytes.now n) (length bytes.now) }
+    ensures { result ≡ every (name_byte_at bytes.now n) (length bytes.now) }
 {
     let mut i = 0;
     while i < bytes.len() {
@@ -124,7 +124,7 @@ fn is_name(bytes: &[u8], n: usize) -> bool
 }
 
 fn value_ok(v: Value, l: Label) -> bool
-    ensures { result ≡ valueOk v l }
+    ensures { result ≡ value_ok v l }
 {
     match v {
         Value::Hierarchy(h) => (h <= MAX_HIERARCHY) & is_zero(l),
@@ -149,7 +149,7 @@ pub fn valid(e: Entry) -> bool
 
 // Whether all bytes are name bytes. The loop has no early exit, so that it can take several bytes at a time.
 fn all_of_name(text: &[u8]) -> bool
-    ensures { result ≡ every (λ k. isNameByte (byte_at text.now k)) (length text.now) }
+    ensures { result ≡ every (λ k. is_name_byte (byte_at text.now k)) (length text.now) }
 {
     let mut good = true;
     let mut i = 0;
@@ -162,7 +162,7 @@ fn all_of_name(text: &[u8]) -> bool
 
 // Whether a text is a name or nothing.
 pub fn text_ok(text: &[u8]) -> bool
-    ensures { result ≡ textOk text.now }
+    ensures { result ≡ text_ok text.now }
 {
     ((text.len() == 0) | is_letter(byte(text, 0))) & all_of_name(text)
 }

@@ -15,104 +15,104 @@ use lib.Seq.{ext_get_or}
 use Rattle.common.specs.Index.{tabulate}
 use Rattle.label.specs.Region.{regions}
 use Rattle.label.specs.Words.{bit, words}
-use Rattle.common.proofs.IndexLaws.{every-all, tabulate-at, tabulate-is, tabulate-length}
+use Rattle.common.proofs.IndexLaws.{every_all, tabulate_at, tabulate_is, tabulate_length}
 use Rattle.range.specs.Range
 use Rattle.range.specs.Tuple
 use Rattle.range.specs.declared.Range.{Range}
 use Rattle.range.specs.declared.tuple.RegionRange.{RegionRange}
 use Rattle.range.specs.declared.tuple.Tuple.{Tuple}
-use Rattle.range.proofs.TupleLaws.{range-of, valid-absent, valid-placed, valid-region}
-use Rattle.common.proofs.BytesLaws.{Bytes, bytes-append}
-use Rattle.codec.specs.Body.{baseNumber, rangeAt, rangeBytes, rangeSize}
-use Rattle.codec.specs.Codec.{rangeFits, regionFits, tupleCode, tupleFits}
-use Rattle.codec.specs.Tuples.{presenceOf, presentAt, presentBelow, regionAt, regionBytes, regionsBytes, tupleAt, tupleSize}
-use Rattle.codec.proofs.BodyLaws.{Holds, Within, holds-first, holds-second, part, parts_join, range_back, range-bytes, range-forth, range_length}
-use Rattle.codec.proofs.BodyLoops.{Same, same-later, same-range, valid-range-fits}
-use Rattle.codec.proofs.NumberLaws.{as_number, number_bound, number-digit, number-only}
+use Rattle.range.proofs.TupleLaws.{range_of_lem, valid_absent, valid_placed, valid_region}
+use Rattle.common.proofs.BytesLaws.{Bytes, bytes_append}
+use Rattle.codec.specs.Body.{base_number, range_at, range_bytes, range_size}
+use Rattle.codec.specs.Codec.{range_fits, region_fits, tuple_code, tuple_fits}
+use Rattle.codec.specs.Tuples.{presence_of, present_at, present_below, region_at, region_bytes, regions_bytes, tuple_at, tuple_size}
+use Rattle.codec.proofs.BodyLaws.{Holds, Within, holds_first, holds_second, part, parts_join, range_back, range_bytes_lem, range_forth, range_length}
+use Rattle.codec.proofs.BodyLoops.{Same, same_later, same_range, valid_range_fits}
+use Rattle.codec.proofs.NumberLaws.{as_number, number_bound, number_digit, number_only}
 
 -- ---- one region
 
-pub region-there : (w : ℕ) (e : RegionRange) → Tuple.isThere e ≡ true → regionBytes w e ≡ rangeBytes w e.range
-unfolding regionBytes
-region-there w e h = rw h
+pub region_there : (w : ℕ) (e : RegionRange) → Tuple.is_there e ≡ true → region_bytes w e ≡ range_bytes w e.range
+unfolding region_bytes
+region_there w e h = rw h
 
-pub region-none : (w : ℕ) (e : RegionRange) → Tuple.isThere e ≡ false → regionBytes w e ≡ []
-unfolding regionBytes
-region-none w e h = rw h
+pub region_none : (w : ℕ) (e : RegionRange) → Tuple.is_there e ≡ false → region_bytes w e ≡ []
+unfolding region_bytes
+region_none w e h = rw h
 
-pub regions-next : (w : ℕ) (t : Tuple) (n : ℕ) → regionsBytes w t (n + 1) ≡ regionsBytes w t n ++ regionBytes w (Tuple.regionRangeAt t n)
-unfolding regionsBytes
-regions-next w t n = rw add-one
+pub regions_next : (w : ℕ) (t : Tuple) (n : ℕ) → regions_bytes w t (n + 1) ≡ regions_bytes w t n ++ region_bytes w (Tuple.region_range_at t n)
+unfolding regions_bytes
+regions_next w t n = rw add-one
 
-pub below_next : (p n : ℕ) → presentBelow p n + cond (bit p n) 1 0 ≡ presentBelow p (n + 1)
-unfolding presentBelow
+pub below_next : (p n : ℕ) → present_below p n + cond (bit p n) 1 0 ≡ present_below p (n + 1)
+unfolding present_below
 below_next p n = rw add-one
 
 -- ---- sizes
 
 -- a region is there or not
-by-present : {A : Type 0} (b : Bool) → (b ≡ true → A) → (b ≡ false → A) → A
-by-present true f g = f refl
-by-present false f g = g refl
+by_present : {A : Type 0} (b : Bool) → (b ≡ true → A) → (b ≡ false → A) → A
+by_present true f g = f refl
+by_present false f g = g refl
 
-region-size : (w : ℕ) (e : RegionRange) → length (regionBytes w e) ≡ cond (Tuple.isThere e) 1 0 * rangeSize w
-region-size w e =
-    by-present (Tuple.isThere e) (λ h. ap length (region-there w e h) ∙ range_length w e.range ∙ sym (ap (λ (b : Bool). cond b 1 0 * rangeSize w) h ∙ omega arith))
-    (λ h. ap length (region-none w e h) ∙ sym (ap (λ (b : Bool). cond b 1 0 * rangeSize w) h ∙ omega arith))
+region_size : (w : ℕ) (e : RegionRange) → length (region_bytes w e) ≡ cond (Tuple.is_there e) 1 0 * range_size w
+region_size w e =
+    by_present (Tuple.is_there e) (λ h. ap length (region_there w e h) ∙ range_length w e.range ∙ sym (ap (λ (b : Bool). cond b 1 0 * range_size w) h ∙ omega arith))
+    (λ h. ap length (region_none w e h) ∙ sym (ap (λ (b : Bool). cond b 1 0 * range_size w) h ∙ omega arith))
 
 pub one_of : (b : Bool) → cond b 1 0 ≤ 1
 one_of true = omega arith
 one_of false = omega arith
 
-pub regions-size : (w : ℕ) (t : Tuple) (n : ℕ) → length (regionsBytes w t n) ≤ n * rangeSize w
-unfolding regionsBytes
-regions-size w t zero = omega arith
-regions-size w t (suc n) =
-    let ih : length (regionsBytes w t n) ≤ n * rangeSize w = regions-size w t n in
-    let a = length-append (regionsBytes w t n) (regionBytes w (Tuple.regionRangeAt t n)) in
-    let e = region-size w (Tuple.regionRangeAt t n) in
-    let m : cond (Tuple.isThere (Tuple.regionRangeAt t n)) 1 0 * rangeSize w ≤ 1 * rangeSize w = mul-le-mul_right (rangeSize w) (one_of (Tuple.isThere (Tuple.regionRangeAt t n))) in
-    let s = suc-mul n (rangeSize w) in
+pub regions_size : (w : ℕ) (t : Tuple) (n : ℕ) → length (regions_bytes w t n) ≤ n * range_size w
+unfolding regions_bytes
+regions_size w t zero = omega arith
+regions_size w t (suc n) =
+    let ih : length (regions_bytes w t n) ≤ n * range_size w = regions_size w t n in
+    let a = length-append (regions_bytes w t n) (region_bytes w (Tuple.region_range_at t n)) in
+    let e = region_size w (Tuple.region_range_at t n) in
+    let m : cond (Tuple.is_there (Tuple.region_range_at t n)) 1 0 * range_size w ≤ 1 * range_size w = mul-le-mul_right (range_size w) (one_of (Tuple.is_there (Tuple.region_range_at t n))) in
+    let s = suc-mul n (range_size w) in
     omega arith
 
 -- where all are there, exactly
-pub regions-full : (w : ℕ) (t : Tuple) (n : ℕ) → ((r : ℕ) → r < n → Tuple.isThere (Tuple.regionRangeAt t r) ≡ true) → length (regionsBytes w t n) ≡ n * rangeSize w
-unfolding regionsBytes
-regions-full w t zero h = sym (zero-mul (rangeSize w))
-regions-full w t (suc n) h =
-    let ih : length (regionsBytes w t n) ≡ n * rangeSize w = regions-full w t n (λ r l. h r (omega arith)) in
-    let a = length-append (regionsBytes w t n) (regionBytes w (Tuple.regionRangeAt t n)) in
-    let e = rw (h n (omega arith)) at (region-size w (Tuple.regionRangeAt t n)) in
-    let o = one-mul (rangeSize w) in
-    let s = suc-mul n (rangeSize w) in
+pub regions_full : (w : ℕ) (t : Tuple) (n : ℕ) → ((r : ℕ) → r < n → Tuple.is_there (Tuple.region_range_at t r) ≡ true) → length (regions_bytes w t n) ≡ n * range_size w
+unfolding regions_bytes
+regions_full w t zero h = sym (zero-mul (range_size w))
+regions_full w t (suc n) h =
+    let ih : length (regions_bytes w t n) ≡ n * range_size w = regions_full w t n (λ r l. h r (omega arith)) in
+    let a = length-append (regions_bytes w t n) (region_bytes w (Tuple.region_range_at t n)) in
+    let e = rw (h n (omega arith)) at (region_size w (Tuple.region_range_at t n)) in
+    let o = one-mul (range_size w) in
+    let s = suc-mul n (range_size w) in
     omega arith
 
 -- the bytes of fewer regions are no more
-regions-within : (w : ℕ) (t : Tuple) (m n : ℕ) → m ≤ n → length (regionsBytes w t m) ≤ length (regionsBytes w t n)
-unfolding regionsBytes
-regions-within w t m zero h = let e : m ≡ 0 = omega arith in rw e (omega arith)
-regions-within w t m (suc n) h =
+regions_within : (w : ℕ) (t : Tuple) (m n : ℕ) → m ≤ n → length (regions_bytes w t m) ≤ length (regions_bytes w t n)
+unfolding regions_bytes
+regions_within w t m zero h = let e : m ≡ 0 = omega arith in rw e (omega arith)
+regions_within w t m (suc n) h =
     ⊎_elim (λ e. rw e (omega arith))
-    (λ l. let ih : length (regionsBytes w t m) ≤ length (regionsBytes w t n) = regions-within w t m n (omega arith) in
-    let a = length-append (regionsBytes w t n) (regionBytes w (Tuple.regionRangeAt t n)) in omega arith) (eq-or-lt_of_le h)
+    (λ l. let ih : length (regions_bytes w t m) ≤ length (regions_bytes w t n) = regions_within w t m n (omega arith) in
+    let a = length-append (regions_bytes w t n) (region_bytes w (Tuple.region_range_at t n)) in omega arith) (eq-or-lt_of_le h)
 
 -- there is room for one more
-pub regions-room : (w : ℕ) (t : Tuple) (r : ℕ) → r < regions → length (regionsBytes w t r ++ regionBytes w (Tuple.regionRangeAt t r)) ≤ length (regionsBytes w t regions)
-regions-room w t r h = rw (← regions-next w t r) (regions-within w t (r + 1) regions (omega arith))
+pub regions_room : (w : ℕ) (t : Tuple) (r : ℕ) → r < regions → length (regions_bytes w t r ++ region_bytes w (Tuple.region_range_at t r)) ≤ length (regions_bytes w t regions)
+regions_room w t r h = rw (← regions_next w t r) (regions_within w t (r + 1) regions (omega arith))
 
-below-mono : (p m n : ℕ) → m ≤ n → presentBelow p m ≤ presentBelow p n
-unfolding presentBelow
-below-mono p m zero h = let e : m ≡ 0 = omega arith in rw e (omega arith)
-below-mono p m (suc n) h =
-    ⊎_elim (λ e. rw e (omega arith)) (λ l. let ih : presentBelow p m ≤ presentBelow p n = below-mono p m n (omega arith) in omega arith) (eq-or-lt_of_le h)
+below_mono : (p m n : ℕ) → m ≤ n → present_below p m ≤ present_below p n
+unfolding present_below
+below_mono p m zero h = let e : m ≡ 0 = omega arith in rw e (omega arith)
+below_mono p m (suc n) h =
+    ⊎_elim (λ e. rw e (omega arith)) (λ l. let ih : present_below p m ≤ present_below p n = below_mono p m n (omega arith) in omega arith) (eq-or-lt_of_le h)
 
 -- no more regions are there than there are
-pub below-most : (p n : ℕ) → presentBelow p n ≤ n
-unfolding presentBelow
-below-most p zero = omega arith
-below-most p (suc n) = go (bit p n) (below-most p n)
+pub below_most : (p n : ℕ) → present_below p n ≤ n
+unfolding present_below
+below_most p zero = omega arith
+below_most p (suc n) = go (bit p n) (below_most p n)
   where
-    go : (b : Bool) → presentBelow p n ≤ n → presentBelow p n + cond b 1 0 ≤ suc n
+    go : (b : Bool) → present_below p n ≤ n → present_below p n + cond b 1 0 ≤ suc n
     go true h = omega arith
     go false h = omega arith
 
@@ -123,180 +123,180 @@ one_more k n s h =
     let q = suc-mul k s in
     omega arith
 
-pub present-room : (p r n s : ℕ) → r < n → bit p r ≡ true → presentBelow p r * s + s ≤ presentBelow p n * s
-present-room p r n s h e =
+pub present_room : (p r n s : ℕ) → r < n → bit p r ≡ true → present_below p r * s + s ≤ present_below p n * s
+present_room p r n s h e =
     let one : ◌≡◌ {A = ℕ} (cond (bit p r) 1 0) 1 = ap (λ (b : Bool). cond b 1 0) e in
-    let k : presentBelow p (r + 1) ≤ presentBelow p n = below-mono p (r + 1) n (omega arith) in
+    let k : present_below p (r + 1) ≤ present_below p n = below_mono p (r + 1) n (omega arith) in
     let b = below_next p r in
-    one_more (presentBelow p r) (presentBelow p n) s (omega arith)
+    one_more (present_below p r) (present_below p n) s (omega arith)
 
 -- ---- the byte of presence
 
-pub present-small : (t : Tuple) (r : ℕ) → presentAt t r < 2
-present-small t r = let one = one_of (Tuple.isThere (Tuple.regionRangeAt t r)) in omega arith
+pub present_small : (t : Tuple) (r : ℕ) → present_at t r < 2
+present_small t r = let one = one_of (Tuple.is_there (Tuple.region_range_at t r)) in omega arith
 
 -- the bits past the lowest leave room for one more
-pub presence-room : (t : Tuple) (r n : ℕ) → n ≤ 2 → baseNumber 2 (presentAt t) r n < 4
-presence-room t r n h = lt_of_lt_of_le (number_bound 2 (presentAt t) (present-small t) r n) (pow_mono h)
+pub presence_room : (t : Tuple) (r n : ℕ) → n ≤ 2 → base_number 2 (present_at t) r n < 4
+presence_room t r n h = lt_of_lt_of_le (number_bound 2 (present_at t) (present_small t) r n) (pow_mono h)
 
-pub presence-small : (t : Tuple) → presenceOf t < 8
-unfolding presenceOf
-presence-small t = number_bound 2 (presentAt t) (present-small t) 0 regions
+pub presence_small : (t : Tuple) → presence_of t < 8
+unfolding presence_of
+presence_small t = number_bound 2 (present_at t) (present_small t) 0 regions
 
-as-bit : (b : Bool) → eqb (cond b 1 0) 1 ≡ b
-as-bit true = refl
-as-bit false = refl
+as_bit : (b : Bool) → eqb (cond b 1 0) 1 ≡ b
+as_bit true = refl
+as_bit false = refl
 
-presence-bit : (t : Tuple) (r : ℕ) → r < regions → bit (presenceOf t) r ≡ Tuple.isThere (Tuple.regionRangeAt t r)
-unfolding bit presenceOf
-presence-bit t r h =
-    ap (λ (x : ℕ). eqb x 1) (number-digit 2 (presentAt t) (present-small t) 0 regions r h ∙ ap (presentAt t) (omega arith)) ∙ as-bit (Tuple.isThere (Tuple.regionRangeAt t r))
+presence_bit : (t : Tuple) (r : ℕ) → r < regions → bit (presence_of t) r ≡ Tuple.is_there (Tuple.region_range_at t r)
+unfolding bit presence_of
+presence_bit t r h =
+    ap (λ (x : ℕ). eqb x 1) (number_digit 2 (present_at t) (present_small t) 0 regions r h ∙ ap (present_at t) (omega arith)) ∙ as_bit (Tuple.is_there (Tuple.region_range_at t r))
 
-presence-below : (w : ℕ) (t : Tuple) (n : ℕ) → n ≤ regions → length (regionsBytes w t n) ≡ presentBelow (presenceOf t) n * rangeSize w
-unfolding regionsBytes presentBelow
-presence-below w t zero h = sym (zero-mul (rangeSize w))
-presence-below w t (suc n) h =
-    length-append (regionsBytes w t n) (regionBytes w (Tuple.regionRangeAt t n))
-    ∙ ap₂ ◌+◌ (presence-below w t n (omega arith)) (region-size w (Tuple.regionRangeAt t n) ∙ ap (λ (b : Bool). cond b 1 0 * rangeSize w) (sym (presence-bit t n h)))
-    ∙ sym (add-mul (presentBelow (presenceOf t) n) (cond (bit (presenceOf t) n) 1 0) (rangeSize w))
+presence_below : (w : ℕ) (t : Tuple) (n : ℕ) → n ≤ regions → length (regions_bytes w t n) ≡ present_below (presence_of t) n * range_size w
+unfolding regions_bytes present_below
+presence_below w t zero h = sym (zero-mul (range_size w))
+presence_below w t (suc n) h =
+    length-append (regions_bytes w t n) (region_bytes w (Tuple.region_range_at t n))
+    ∙ ap₂ ◌+◌ (presence_below w t n (omega arith)) (region_size w (Tuple.region_range_at t n) ∙ ap (λ (b : Bool). cond b 1 0 * range_size w) (sym (presence_bit t n h)))
+    ∙ sym (add-mul (present_below (presence_of t) n) (cond (bit (presence_of t) n) 1 0) (range_size w))
 
-pub presence-size : (w : ℕ) (t : Tuple) → length (regionsBytes w t regions) ≡ presentBelow (presenceOf t) regions * rangeSize w
-presence-size w t = presence-below w t regions (omega arith)
+pub presence_size : (w : ℕ) (t : Tuple) → length (regions_bytes w t regions) ≡ present_below (presence_of t) regions * range_size w
+presence_size w t = presence_below w t regions (omega arith)
 
-pub tuple-long : (w : ℕ) (t : Tuple) → length (presenceOf t ∷ regionsBytes w t regions) ≡ tupleSize w (presenceOf t)
-tuple-long w t = let n = presence-size w t in omega arith
+pub tuple_long : (w : ℕ) (t : Tuple) → length (presence_of t ∷ regions_bytes w t regions) ≡ tuple_size w (presence_of t)
+tuple_long w t = let n = presence_size w t in omega arith
 
 -- ---- the bytes of a tuple read back as the tuple
 
 -- every category of a tuple's labels stands in the bytes of w words
 abbrev pub WithinTuple : ℕ → Tuple → Type 0
-WithinTuple w t = (r : ℕ) → r < regions → Within w (Tuple.regionRangeAt t r).range.low × Within w (Tuple.regionRangeAt t r).range.high
+WithinTuple w t = (r : ℕ) → r < regions → Within w (Tuple.region_range_at t r).range.low × Within w (Tuple.region_range_at t r).range.high
 
-region-bytes : (w : ℕ) (e : RegionRange) → (Tuple.isThere e ≡ true → Range.valid_of e.range ≡ true) → Bytes (regionBytes w e)
-region-bytes w e v =
-    by-present (Tuple.isThere e) (λ h. rw (region-there w e h) (range-bytes w e.range (v h))) (λ h. rw (region-none w e h) (λ i. omega arith))
+region_bytes_lem : (w : ℕ) (e : RegionRange) → (Tuple.is_there e ≡ true → Range.valid_of e.range ≡ true) → Bytes (region_bytes w e)
+region_bytes_lem w e v =
+    by_present (Tuple.is_there e) (λ h. rw (region_there w e h) (range_bytes_lem w e.range (v h))) (λ h. rw (region_none w e h) (λ i. omega arith))
 
 -- the range of a region that is there is valid
-pub present-valid : (t : Tuple) → Tuple.valid_of t ≡ true → (r : ℕ) → r < regions → Tuple.isThere (Tuple.regionRangeAt t r) ≡ true → Range.valid_of (Tuple.regionRangeAt t r).range ≡ true
-present-valid t v r l p = (valid-placed r (Tuple.regionRangeAt t r) p (valid-region t v r l)).valid
+pub present_valid : (t : Tuple) → Tuple.valid_of t ≡ true → (r : ℕ) → r < regions → Tuple.is_there (Tuple.region_range_at t r) ≡ true → Range.valid_of (Tuple.region_range_at t r).range ≡ true
+present_valid t v r l p = (valid_placed r (Tuple.region_range_at t r) p (valid_region t v r l)).valid
 
-pub regions-bytes : (w : ℕ) (t : Tuple) → Tuple.valid_of t ≡ true → (n : ℕ) → n ≤ regions → Bytes (regionsBytes w t n)
-unfolding regionsBytes
-regions-bytes w t v zero h = λ i. omega arith
-regions-bytes w t v (suc n) h =
-    bytes-append (regionsBytes w t n) (regionBytes w (Tuple.regionRangeAt t n)) (regions-bytes w t v n (omega arith)) (region-bytes w (Tuple.regionRangeAt t n) (present-valid t v n h))
+pub regions_bytes_lem : (w : ℕ) (t : Tuple) → Tuple.valid_of t ≡ true → (n : ℕ) → n ≤ regions → Bytes (regions_bytes w t n)
+unfolding regions_bytes
+regions_bytes_lem w t v zero h = λ i. omega arith
+regions_bytes_lem w t v (suc n) h =
+    bytes_append (regions_bytes w t n) (region_bytes w (Tuple.region_range_at t n)) (regions_bytes_lem w t v n (omega arith)) (region_bytes_lem w (Tuple.region_range_at t n) (present_valid t v n h))
 
 -- the regions below n stand first
-holds-below : (w : ℕ) (t : Tuple) (bs : List ℕ) (i m n : ℕ) → m ≤ n → Holds bs i (regionsBytes w t n) → Holds bs i (regionsBytes w t m)
-unfolding regionsBytes
-holds-below w t bs i m zero l h = let e : m ≡ 0 = omega arith in rw e h
-holds-below w t bs i m (suc n) l h =
-    ⊎_elim (λ e. rw e h) (λ q. holds-below w t bs i m n (omega arith) (holds-first bs i (regionsBytes w t n) (regionBytes w (Tuple.regionRangeAt t n)) h)) (eq-or-lt_of_le l)
+holds_below : (w : ℕ) (t : Tuple) (bs : List ℕ) (i m n : ℕ) → m ≤ n → Holds bs i (regions_bytes w t n) → Holds bs i (regions_bytes w t m)
+unfolding regions_bytes
+holds_below w t bs i m zero l h = let e : m ≡ 0 = omega arith in rw e h
+holds_below w t bs i m (suc n) l h =
+    ⊎_elim (λ e. rw e h) (λ q. holds_below w t bs i m n (omega arith) (holds_first bs i (regions_bytes w t n) (region_bytes w (Tuple.region_range_at t n)) h)) (eq-or-lt_of_le l)
 
 module _ (w : ℕ) (t : Tuple) (bs : List ℕ) (i : ℕ) (ty : Tuple.TypedTuple t) (within : WithinTuple w t) (valid : Tuple.valid_of t ≡ true)
-    (h : Holds bs i (regionsBytes w t regions)) where
-  region-back : (r : ℕ) → r < regions → regionAt w bs (presenceOf t) i r ≡ Tuple.regionRangeAt t r
-  unfolding regionAt
-  region-back r l = by-present (Tuple.isThere e) there none
+    (h : Holds bs i (regions_bytes w t regions)) where
+  region_back : (r : ℕ) → r < regions → region_at w bs (presence_of t) i r ≡ Tuple.region_range_at t r
+  unfolding region_at
+  region_back r l = by_present (Tuple.is_there e) there none
     where
       e : RegionRange
-      e = Tuple.regionRangeAt t r
+      e = Tuple.region_range_at t r
 
-      same : bit (presenceOf t) r ≡ Tuple.isThere e
-      same = presence-bit t r l
+      same : bit (presence_of t) r ≡ Tuple.is_there e
+      same = presence_bit t r l
 
-      here : Holds bs (i + presentBelow (presenceOf t) r * rangeSize w) (regionBytes w e)
+      here : Holds bs (i + present_below (presence_of t) r * range_size w) (region_bytes w e)
       here =
-          holds-second bs i (i + presentBelow (presenceOf t) r * rangeSize w) (regionsBytes w t r) (regionBytes w e) (ap (λ (n : ℕ). i + n) (sym (presence-below w t r (omega arith))))
-          (rw (← regions-next w t r) (holds-below w t bs i (r + 1) regions (omega arith) h))
+          holds_second bs i (i + present_below (presence_of t) r * range_size w) (regions_bytes w t r) (region_bytes w e) (ap (λ (n : ℕ). i + n) (sym (presence_below w t r (omega arith))))
+          (rw (← regions_next w t r) (holds_below w t bs i (r + 1) regions (omega arith) h))
 
-      there : Tuple.isThere e ≡ true → regionAt w bs (presenceOf t) i r ≡ e
+      there : Tuple.is_there e ≡ true → region_at w bs (presence_of t) i r ≡ e
       there p =
-          let x = range_back w bs (i + presentBelow (presenceOf t) r * rangeSize w) e.range (rw (region-there w e p) at here) (ty.range r l) (within r l).0 (within r l).1 in
-          ap (λ (b : Bool). cond b (Tuple.present (rangeAt w bs (i + presentBelow (presenceOf t) r * rangeSize w))) Tuple.absent) (same ∙ p)
+          let x = range_back w bs (i + present_below (presence_of t) r * range_size w) e.range (rw (region_there w e p) at here) (ty.range r l) (within r l).0 (within r l).1 in
+          ap (λ (b : Bool). cond b (Tuple.present (range_at w bs (i + present_below (presence_of t) r * range_size w))) Tuple.absent) (same ∙ p)
           ∙ ap₂ (λ (n : ℕ) (y : Range). record { present = n; range = y }) (sym (eqb-true e.present 1 p)) x
 
-      none : Tuple.isThere e ≡ false → regionAt w bs (presenceOf t) i r ≡ e
+      none : Tuple.is_there e ≡ false → region_at w bs (presence_of t) i r ≡ e
       none p =
-          ap (λ (b : Bool). cond b (Tuple.present (rangeAt w bs (i + presentBelow (presenceOf t) r * rangeSize w))) Tuple.absent) (same ∙ p)
-          ∙ sym (valid-absent r e (ty.range r l) p (valid-region t valid r l))
+          ap (λ (b : Bool). cond b (Tuple.present (range_at w bs (i + present_below (presence_of t) r * range_size w))) Tuple.absent) (same ∙ p)
+          ∙ sym (valid_absent r e (ty.range r l) p (valid_region t valid r l))
 
-  pub tuple-back : tupleAt w bs (presenceOf t) i ≡ t
-  unfolding tupleAt
-  tuple-back =
+  pub tuple_back : tuple_at w bs (presence_of t) i ≡ t
+  unfolding tuple_at
+  tuple_back =
       ap Tuple.tuple_of
-      (ext_get_or _ (tabulate (regionAt w bs (presenceOf t) i) regions) t.ranges (tabulate-length (regionAt w bs (presenceOf t) i) regions ∙ sym ty.length-is)
-      (λ r l. let k : r < regions = omega (arith, tabulate-length (regionAt w bs (presenceOf t) i) regions) in tabulate-at (regionAt w bs (presenceOf t) i) regions r _ k ∙ region-back r k))
+      (ext_get_or _ (tabulate (region_at w bs (presence_of t) i) regions) t.ranges (tabulate_length (region_at w bs (presence_of t) i) regions ∙ sym ty.length_is)
+      (λ r l. let k : r < regions = omega (arith, tabulate_length (region_at w bs (presence_of t) i) regions) in tabulate_at (region_at w bs (presence_of t) i) regions r _ k ∙ region_back r k))
 
 -- ---- a tuple that is read is written as the bytes that it was read from
 
 module _ (w : ℕ) (bs : List ℕ) (p i : ℕ) where
-  at-region : (r : ℕ) → r < regions → Tuple.regionRangeAt (tupleAt w bs p i) r ≡ regionAt w bs p i r
-  unfolding tupleAt
-  at-region r h = range-of (regionAt w bs p i) r h
+  at_region : (r : ℕ) → r < regions → Tuple.region_range_at (tuple_at w bs p i) r ≡ region_at w bs p i r
+  unfolding tuple_at
+  at_region r h = range_of_lem (region_at w bs p i) r h
 
-  region-present : (r : ℕ) → Tuple.isThere (regionAt w bs p i r) ≡ bit p r
-  unfolding regionAt
-  region-present r = by-present (bit p r) (λ e. rw e) (λ e. rw e)
+  region_present : (r : ℕ) → Tuple.is_there (region_at w bs p i r) ≡ bit p r
+  unfolding region_at
+  region_present r = by_present (bit p r) (λ e. rw e) (λ e. rw e)
 
-  pub presence-forth : p < 8 → presenceOf (tupleAt w bs p i) ≡ p
-  unfolding presenceOf bit
-  presence-forth h =
-      number-only 2 (presentAt (tupleAt w bs p i)) (zero-lt-suc 1) 0 regions p
-      (λ r l. ap (presentAt (tupleAt w bs p i)) (omega arith) ∙ ap (λ (e : RegionRange). cond (Tuple.isThere e) 1 0) (at-region r l)
-      ∙ ap (λ (b : Bool). cond b 1 0) (region-present r) ∙ as_number (p / 2 ^ r % 2) (mod-lt (p / 2 ^ r) (zero-lt-suc 1)))
+  pub presence_forth : p < 8 → presence_of (tuple_at w bs p i) ≡ p
+  unfolding presence_of bit
+  presence_forth h =
+      number_only 2 (present_at (tuple_at w bs p i)) (zero-lt-suc 1) 0 regions p
+      (λ r l. ap (present_at (tuple_at w bs p i)) (omega arith) ∙ ap (λ (e : RegionRange). cond (Tuple.is_there e) 1 0) (at_region r l)
+      ∙ ap (λ (b : Bool). cond b 1 0) (region_present r) ∙ as_number (p / 2 ^ r % 2) (mod-lt (p / 2 ^ r) (zero-lt-suc 1)))
       h
 
-  region-forth : Bytes bs → w ≤ words → (r : ℕ) → r < regions → i + presentBelow p regions * rangeSize w ≤ length bs
-      → regionBytes w (regionAt w bs p i r) ≡ part (i + presentBelow p r * rangeSize w) (cond (bit p r) 1 0 * rangeSize w) bs
-  unfolding regionAt
-  region-forth small fits r l room = by-present (bit p r) there none
+  region_forth : Bytes bs → w ≤ words → (r : ℕ) → r < regions → i + present_below p regions * range_size w ≤ length bs
+      → region_bytes w (region_at w bs p i r) ≡ part (i + present_below p r * range_size w) (cond (bit p r) 1 0 * range_size w) bs
+  unfolding region_at
+  region_forth small fits r l room = by_present (bit p r) there none
     where
       at : ℕ
-      at = i + presentBelow p r * rangeSize w
+      at = i + present_below p r * range_size w
 
-      there : bit p r ≡ true → regionBytes w (regionAt w bs p i r) ≡ part at (cond (bit p r) 1 0 * rangeSize w) bs
+      there : bit p r ≡ true → region_bytes w (region_at w bs p i r) ≡ part at (cond (bit p r) 1 0 * range_size w) bs
       there e =
-          let k = present-room p r regions (rangeSize w) l e in
-          let whole : ◌≡◌ {A = ℕ} (cond (bit p r) 1 0 * rangeSize w) (rangeSize w) = ap (λ (b : Bool). cond b 1 0 * rangeSize w) e ∙ omega arith in
-          ap (λ (b : Bool). regionBytes w (cond b (Tuple.present (rangeAt w bs at)) Tuple.absent)) e
-          ∙ region-there w (Tuple.present (rangeAt w bs at)) refl ∙ range-forth w bs at small fits (omega arith)
+          let k = present_room p r regions (range_size w) l e in
+          let whole : ◌≡◌ {A = ℕ} (cond (bit p r) 1 0 * range_size w) (range_size w) = ap (λ (b : Bool). cond b 1 0 * range_size w) e ∙ omega arith in
+          ap (λ (b : Bool). region_bytes w (cond b (Tuple.present (range_at w bs at)) Tuple.absent)) e
+          ∙ region_there w (Tuple.present (range_at w bs at)) refl ∙ range_forth w bs at small fits (omega arith)
           ∙ ap (λ (n : ℕ). part at n bs) (sym whole)
 
-      none : bit p r ≡ false → regionBytes w (regionAt w bs p i r) ≡ part at (cond (bit p r) 1 0 * rangeSize w) bs
+      none : bit p r ≡ false → region_bytes w (region_at w bs p i r) ≡ part at (cond (bit p r) 1 0 * range_size w) bs
       none e =
-          let nothing : ◌≡◌ {A = ℕ} (cond (bit p r) 1 0 * rangeSize w) 0 = ap (λ (b : Bool). cond b 1 0 * rangeSize w) e ∙ omega arith in
-          ap (λ (b : Bool). regionBytes w (cond b (Tuple.present (rangeAt w bs at)) Tuple.absent)) e
-          ∙ region-none w Tuple.absent refl ∙ ap (λ (n : ℕ). part at n bs) (sym nothing)
+          let nothing : ◌≡◌ {A = ℕ} (cond (bit p r) 1 0 * range_size w) 0 = ap (λ (b : Bool). cond b 1 0 * range_size w) e ∙ omega arith in
+          ap (λ (b : Bool). region_bytes w (cond b (Tuple.present (range_at w bs at)) Tuple.absent)) e
+          ∙ region_none w Tuple.absent refl ∙ ap (λ (n : ℕ). part at n bs) (sym nothing)
 
-  pub regions-forth : Bytes bs → w ≤ words → i + presentBelow p regions * rangeSize w ≤ length bs → (n : ℕ) → n ≤ regions
-      → regionsBytes w (tupleAt w bs p i) n ≡ part i (presentBelow p n * rangeSize w) bs
-  unfolding regionsBytes presentBelow
-  regions-forth small fits room zero h = ap (λ (n : ℕ). part i n bs) (sym (zero-mul (rangeSize w)))
-  regions-forth small fits room (suc n) h =
-      ap₂ ◌++◌ (regions-forth small fits room n (omega arith)) (ap (regionBytes w) (at-region n h) ∙ region-forth small fits n h room)
-      ∙ parts_join i (presentBelow p n * rangeSize w) (cond (bit p n) 1 0 * rangeSize w) bs
-      ∙ ap (λ (m : ℕ). part i m bs) (sym (add-mul (presentBelow p n) (cond (bit p n) 1 0) (rangeSize w)))
+  pub regions_forth : Bytes bs → w ≤ words → i + present_below p regions * range_size w ≤ length bs → (n : ℕ) → n ≤ regions
+      → regions_bytes w (tuple_at w bs p i) n ≡ part i (present_below p n * range_size w) bs
+  unfolding regions_bytes present_below
+  regions_forth small fits room zero h = ap (λ (n : ℕ). part i n bs) (sym (zero-mul (range_size w)))
+  regions_forth small fits room (suc n) h =
+      ap₂ ◌++◌ (regions_forth small fits room n (omega arith)) (ap (region_bytes w) (at_region n h) ∙ region_forth small fits n h room)
+      ∙ parts_join i (present_below p n * range_size w) (cond (bit p n) 1 0 * range_size w) bs
+      ∙ ap (λ (m : ℕ). part i m bs) (sym (add-mul (present_below p n) (cond (bit p n) 1 0) (range_size w)))
 
 -- ---- what fits its bytes
 
-pub valid-tuple-fits : (t : Tuple) → Tuple.valid_of t ≡ true → tupleFits t ≡ true
-valid-tuple-fits t v = every-all (λ r. regionFits (Tuple.regionRangeAt t r)) regions (λ r l. go r (present-valid t v r l) (Tuple.isThere (Tuple.regionRangeAt t r)) refl)
+pub valid_tuple_fits : (t : Tuple) → Tuple.valid_of t ≡ true → tuple_fits t ≡ true
+valid_tuple_fits t v = every_all (λ r. region_fits (Tuple.region_range_at t r)) regions (λ r l. go r (present_valid t v r l) (Tuple.is_there (Tuple.region_range_at t r)) refl)
   where
-    go : (r : ℕ) → (Tuple.isThere (Tuple.regionRangeAt t r) ≡ true → Range.valid_of (Tuple.regionRangeAt t r).range ≡ true) → (b : Bool) → Tuple.isThere (Tuple.regionRangeAt t r) ≡ b
-        → cond b (rangeFits (Tuple.regionRangeAt t r).range) true ≡ true
-    go r h true e = valid-range-fits (Tuple.regionRangeAt t r).range (h e)
+    go : (r : ℕ) → (Tuple.is_there (Tuple.region_range_at t r) ≡ true → Range.valid_of (Tuple.region_range_at t r).range ≡ true) → (b : Bool) → Tuple.is_there (Tuple.region_range_at t r) ≡ b
+        → cond b (range_fits (Tuple.region_range_at t r).range) true ≡ true
+    go r h true e = valid_range_fits (Tuple.region_range_at t r).range (h e)
     go r h false e = refl
 
-pub tuple-coded : (w : ℕ) (t : Tuple) → Tuple.valid_of t ≡ true → tupleCode w t ≡ presenceOf t ∷ regionsBytes w t regions
-unfolding tupleCode
-tuple-coded w t v = rw (valid-tuple-fits t v)
+pub tuple_coded : (w : ℕ) (t : Tuple) → Tuple.valid_of t ≡ true → tuple_code w t ≡ presence_of t ∷ regions_bytes w t regions
+unfolding tuple_code
+tuple_coded w t v = rw (valid_tuple_fits t v)
 
 -- ---- the tuple is the same where the bytes are
 
-pub same-tuple : (w : ℕ) (xs ys : List ℕ) (p i j : ℕ) → Same xs i ys j → tupleAt w xs p i ≡ tupleAt w ys p j
-unfolding tupleAt regionAt
-same-tuple w xs ys p i j h =
-    ap Tuple.tuple_of (tabulate-is (regionAt w ys p j) (tabulate (regionAt w xs p i) regions) regions Tuple.absent (tabulate-length (regionAt w xs p i) regions)
-    (λ r l. tabulate-at (regionAt w xs p i) regions r Tuple.absent l ∙ ap (λ (x : Range). cond (bit p r) (Tuple.present x) Tuple.absent)
-    (same-range xs ys w (i + presentBelow p r * rangeSize w) (j + presentBelow p r * rangeSize w) (same-later xs ys i j (presentBelow p r * rangeSize w) h))))
+pub same_tuple : (w : ℕ) (xs ys : List ℕ) (p i j : ℕ) → Same xs i ys j → tuple_at w xs p i ≡ tuple_at w ys p j
+unfolding tuple_at region_at
+same_tuple w xs ys p i j h =
+    ap Tuple.tuple_of (tabulate_is (region_at w ys p j) (tabulate (region_at w xs p i) regions) regions Tuple.absent (tabulate_length (region_at w xs p i) regions)
+    (λ r l. tabulate_at (region_at w xs p i) regions r Tuple.absent l ∙ ap (λ (x : Range). cond (bit p r) (Tuple.present x) Tuple.absent)
+    (same_range xs ys w (i + present_below p r * range_size w) (j + present_below p r * range_size w) (same_later xs ys i j (present_below p r * range_size w) h))))

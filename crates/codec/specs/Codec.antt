@@ -9,8 +9,8 @@ use Rattle.range.specs.Tuple
 use Rattle.range.specs.declared.Range.{Range}
 use Rattle.range.specs.declared.tuple.RegionRange.{RegionRange}
 use Rattle.range.specs.declared.tuple.Tuple.{Tuple}
-use Rattle.codec.specs.Body.{byte_at, labelBytes, rangeBytes}
-use Rattle.codec.specs.Tuples.{presenceOf, regionsBytes, tupleAt}
+use Rattle.codec.specs.Body.{byte_at, label_bytes, range_bytes}
+use Rattle.codec.specs.Tuples.{presence_of, regions_bytes, tuple_at}
 
 -- how many words of a set stand in bytes for w words: all that it has, where w is more
 abbrev pub width : ℕ → ℕ
@@ -19,32 +19,32 @@ width w = min w words
 -- ---- what fits its bytes
 
 -- each number of a label has a byte, and of a range
-abbrev pub labelFits : Label → Bool
-labelFits l = leb l.hierarchy 255
+abbrev pub label_fits : Label → Bool
+label_fits l = leb l.hierarchy 255
 
-abbrev pub rangeFits : Range → Bool
-rangeFits x = labelFits x.low && labelFits x.high
+abbrev pub range_fits : Range → Bool
+range_fits x = label_fits x.low && label_fits x.high
 
 -- and of each range that is there in a tuple
-abbrev pub regionFits : RegionRange → Bool
-regionFits e = cond (Tuple.isThere e) (rangeFits e.range) true
+abbrev pub region_fits : RegionRange → Bool
+region_fits e = cond (Tuple.is_there e) (range_fits e.range) true
 
-abbrev pub tupleFits : Tuple → Bool
-tupleFits t = every (λ r. regionFits (Tuple.regionRangeAt t r)) regions
+abbrev pub tuple_fits : Tuple → Bool
+tuple_fits t = every (λ r. region_fits (Tuple.region_range_at t r)) regions
 
 -- ---- bytes, with w words of a set
 
-unfoldable pub labelCode : ℕ → Label → List ℕ
-labelCode w l = cond (labelFits l) (labelBytes w l) []
+unfoldable pub label_code : ℕ → Label → List ℕ
+label_code w l = cond (label_fits l) (label_bytes w l) []
 
-unfoldable pub rangeCode : ℕ → Range → List ℕ
-rangeCode w x = cond (rangeFits x) (rangeBytes w x) []
+unfoldable pub range_code : ℕ → Range → List ℕ
+range_code w x = cond (range_fits x) (range_bytes w x) []
 
 -- the byte of presence, then the ranges that are there
-unfoldable pub tupleCode : ℕ → Tuple → List ℕ
-tupleCode w t = cond (tupleFits t) (presenceOf t ∷ regionsBytes w t regions) []
+unfoldable pub tuple_code : ℕ → Tuple → List ℕ
+tuple_code w t = cond (tuple_fits t) (presence_of t ∷ regions_bytes w t regions) []
 
--- ---- what stands at an index: beside `label_at` and `rangeAt`, the tuple whose byte of presence is there
+-- ---- what stands at an index: beside `label_at` and `range_at`, the tuple whose byte of presence is there
 
-abbrev pub tupleFrom : ℕ → List ℕ → ℕ → Tuple
-tupleFrom w bs i = tupleAt w bs (byte_at bs i) (i + 1)
+abbrev pub tuple_from : ℕ → List ℕ → ℕ → Tuple
+tuple_from w bs i = tuple_at w bs (byte_at bs i) (i + 1)

@@ -3,12 +3,12 @@
 // is answered, as where there is no room.
 ghost use Rattle.std.specs.Prelude.{◌≡◌, true, ◌+◌, ◌*◌, ◌/◌, ◌%◌, ◌<◌, ◌≤◌, ◌^◌, length};
 ghost use Rattle.common.specs.Index.{tabulate};
-ghost use Rattle.label.specs.Words.{words as setWords};
+ghost use Rattle.label.specs.Words.{words as set_words};
 ghost use Rattle.octets.specs.Bytes.{Appended};
 ghost use Rattle.octets.specs.Internal.Put.{Put};
-ghost use Rattle.codec.specs.Body.{byte_at, labelAt, labelBytes, labelSize, baseNumber, rangeAt, rangeBytes, rangeSize, wordFrom};
+ghost use Rattle.codec.specs.Body.{byte_at, label_at, label_bytes, label_size, base_number, range_at, range_bytes, range_size, word_from};
 ghost use Rattle.codec.specs.Codec as codecs;
-ghost use Rattle.codec.specs.Codec.{labelCode, labelFits, rangeCode, rangeFits};
+ghost use Rattle.codec.specs.Codec.{label_code, label_fits, range_code, range_fits};
 
 use crate::{LINE_WORDS, byte, width};
 use label::Label;
@@ -22,16 +22,16 @@ pub const RANGE_BYTES: usize = 2 * LABEL_BYTES;
 
 // How many bytes a label has. The second clause of this and the next follows, and is stated for callers.
 pub fn label_size(words: usize) -> usize
-    ensures value { result ≡ labelSize (codecs.width words) }
-    ensures upper_bound { result ≤ labelSize setWords }
+    ensures value { result ≡ label_size (codecs.width words) }
+    ensures upper_bound { result ≤ label_size set_words }
 {
     1 + 8 * width(words)
 }
 
 // How many bytes a range has.
 pub fn range_size(words: usize) -> usize
-    ensures value { result ≡ rangeSize (codecs.width words) }
-    ensures upper_bound { result ≤ rangeSize setWords }
+    ensures value { result ≡ range_size (codecs.width words) }
+    ensures upper_bound { result ≤ range_size set_words }
 {
     label_size(words) + label_size(words)
 }
@@ -51,8 +51,8 @@ fn put_word(out: &mut [u8], at: usize, w: u64)
 
 // The bytes of a label that fits them, at index at, and the index past them.
 pub(crate) fn put_label(out: &mut [u8], at: usize, l: Label, words: usize) -> usize
-    requires { (words ≤ setWords) × (at + labelSize words ≤ length out.old) × (labelFits l ≡ true) }
-    ensures { Put out.old at (labelBytes words l) result out.new }
+    requires { (words ≤ set_words) × (at + label_size words ≤ length out.old) × (label_fits l ≡ true) }
+    ensures { Put out.old at (label_bytes words l) result out.new }
 {
     out[at] = l.hierarchy as u8;
     let categories = l.categories;
@@ -66,28 +66,28 @@ pub(crate) fn put_label(out: &mut [u8], at: usize, l: Label, words: usize) -> us
 
 // The bytes of a range that fits them, at index at, and the index past them.
 pub(crate) fn put_range(out: &mut [u8], at: usize, x: Range, words: usize) -> usize
-    requires { (words ≤ setWords) × (at + rangeSize words ≤ length out.old) × (rangeFits x ≡ true) }
-    ensures { Put out.old at (rangeBytes words x) result out.new }
+    requires { (words ≤ set_words) × (at + range_size words ≤ length out.old) × (range_fits x ≡ true) }
+    ensures { Put out.old at (range_bytes words x) result out.new }
 {
     let next = put_label(out, at, x.low, words);
     put_label(out, next, x.high, words)
 }
 
 pub(crate) fn label_fits(l: Label) -> bool
-    ensures { result ≡ labelFits l }
+    ensures { result ≡ label_fits l }
 {
     l.hierarchy <= 255
 }
 
 pub(crate) fn range_fits(x: Range) -> bool
-    ensures { result ≡ rangeFits x }
+    ensures { result ≡ range_fits x }
 {
     (x.low.hierarchy <= 255) & (x.high.hierarchy <= 255)
 }
 
 // Appends the bytes of a label to out at index at, and answers the index past them.
 pub fn append_label(out: &mut [u8], at: usize, l: Label, words: usize) -> usize
-    ensures { Appended out.old at (labelCode (codecs.width words) l) result out.new }
+    ensures { Appended out.old at (label_code (codecs.width words) l) result out.new }
 {
     let room = label_fits(l) & octets::fits(out.len(), at, label_size(words));
     if !room {
@@ -98,7 +98,7 @@ pub fn append_label(out: &mut [u8], at: usize, l: Label, words: usize) -> usize
 
 // Appends the bytes of a range to out at index at, and answers the index past them.
 pub fn append_range(out: &mut [u8], at: usize, x: Range, words: usize) -> usize
-    ensures { Appended out.old at (rangeCode (codecs.width words) x) result out.new }
+    ensures { Appended out.old at (range_code (codecs.width words) x) result out.new }
 {
     let room = range_fits(x) & octets::fits(out.len(), at, range_size(words));
     if !room {
@@ -110,7 +110,7 @@ pub fn append_range(out: &mut [u8], at: usize, x: Range, words: usize) -> usize
 // The word whose eight bytes begin at index at, the lowest first.
 fn word_at(bytes: &[u8], at: usize) -> u64
     requires { at + 8 ≤ length bytes.now }
-    ensures { result ≡ baseNumber 256 (byte_at bytes.now) at 8 }
+    ensures { result ≡ base_number 256 (byte_at bytes.now) at 8 }
 {
     let mut w: u64 = 0;
     let mut k = 8;
@@ -135,8 +135,8 @@ fn copy_from(bytes: &[u8], out: &mut [u8])
 
 // Word j of the set of the label at the front of some bytes.
 fn set_word(bytes: &[u8], j: usize, words: usize) -> u64
-    requires { labelSize words ≤ length bytes.now }
-    ensures { result ≡ wordFrom words bytes.now (0 + 1) j }
+    requires { label_size words ≤ length bytes.now }
+    ensures { result ≡ word_from words bytes.now (0 + 1) j }
 {
     if j < words {
         return word_at(bytes, 1 + 8 * j);
@@ -146,8 +146,8 @@ fn set_word(bytes: &[u8], j: usize, words: usize) -> u64
 
 // The label at the front of some bytes, which are all there.
 fn label_in(bytes: &[u8], words: usize) -> Label
-    requires { labelSize words ≤ length bytes.now }
-    ensures { result ≡ labelAt words bytes.now 0 }
+    requires { label_size words ≤ length bytes.now }
+    ensures { result ≡ label_at words bytes.now 0 }
 {
     let mut categories = [0u64; WORDS];
     let mut j = 0;
@@ -163,7 +163,7 @@ fn label_in(bytes: &[u8], words: usize) -> Label
 
 // The label whose bytes begin at index at of any bytes. Only bytes that are cut off are copied first.
 pub fn label_at(bytes: &[u8], at: usize, words: usize) -> Label
-    ensures { result ≡ labelAt (codecs.width words) bytes.now at }
+    ensures { result ≡ label_at (codecs.width words) bytes.now at }
 {
     let own = octets::rest(bytes, at);
     let w = width(words);
@@ -177,7 +177,7 @@ pub fn label_at(bytes: &[u8], at: usize, words: usize) -> Label
 
 // The range whose bytes begin at index at of any bytes.
 pub fn range_at(bytes: &[u8], at: usize, words: usize) -> Range
-    ensures { result ≡ rangeAt (codecs.width words) bytes.now at }
+    ensures { result ≡ range_at (codecs.width words) bytes.now at }
 {
     let own = octets::rest(bytes, at);
     Range {

@@ -7,7 +7,7 @@ pub mod labels;
 pub mod tuples;
 
 ghost use Rattle.std.specs.Prelude.{◌∷◌, [], ◌≡◌, ◌≤◌};
-ghost use Rattle.label.specs.Words.{words as setWords};
+ghost use Rattle.label.specs.Words.{words as set_words};
 ghost use Rattle.octets.specs.Bytes.{Appended};
 ghost use Rattle.codec.specs.Body.{byte_at};
 ghost use Rattle.codec.specs.Codec as codecs;
@@ -20,7 +20,7 @@ pub const LINE_WORDS: usize = 4;
 // How many words of a set stand in the bytes.
 pub(crate) fn width(words: usize) -> usize
     ensures value { result ≡ codecs.width words }
-    ensures upper_bound { result ≤ setWords }
+    ensures upper_bound { result ≤ set_words }
 {
     if words < WORDS { words } else { WORDS }
 }

@@ -1,14 +1,14 @@
 // Tuples as bytes: a byte of presence, then the ranges that are there.
 ghost use Rattle.std.specs.Prelude.{◌≡◌, cond, true, ◌+◌, ◌*◌, ◌<◌, ◌≤◌, length};
 ghost use Rattle.label.specs.Region.{regions};
-ghost use Rattle.label.specs.Words.{bit, words as setWords};
+ghost use Rattle.label.specs.Words.{bit, words as set_words};
 ghost use Rattle.octets.specs.Bytes.{Appended};
 ghost use Rattle.octets.specs.Internal.Put.{Put};
 ghost use Rattle.range.specs.Tuple as tuples;
 ghost use Rattle.codec.specs.Codec as codecs;
-ghost use Rattle.codec.specs.Codec.{regionFits, tupleCode, tupleFits, tupleFrom};
-ghost use Rattle.codec.specs.Tuples.{presenceOf, presentAt, presentBelow, regionAt, regionBytes, regionsBytes, tupleSize};
-ghost use Rattle.codec.specs.Body.{rangeSize};
+ghost use Rattle.codec.specs.Codec.{region_fits, tuple_code, tuple_fits, tuple_from};
+ghost use Rattle.codec.specs.Tuples.{presence_of, present_at, present_below, region_at, region_bytes, regions_bytes, tuple_size};
+ghost use Rattle.codec.specs.Body.{range_size};
 
 use crate::labels::{RANGE_BYTES, put_range, range_at, range_fits, range_size};
 use crate::{append_byte, byte, width};
@@ -21,14 +21,14 @@ pub const TUPLE_BYTES: usize = 1 + REGIONS * RANGE_BYTES;
 
 fn present_at(t: Tuple, r: usize) -> u8
     requires { r < regions }
-    ensures { result ≡ presentAt t r }
+    ensures { result ≡ present_at t r }
 {
     if t.ranges[r].present == 1 { 1 } else { 0 }
 }
 
 // The byte of presence.
 fn presence(t: Tuple) -> u8
-    ensures { result ≡ presenceOf t }
+    ensures { result ≡ presence_of t }
 {
     let mut p: u8 = 0;
     let mut r = REGIONS;
@@ -40,7 +40,7 @@ fn presence(t: Tuple) -> u8
 }
 
 fn region_fits(e: RegionRange) -> bool
-    ensures { result ≡ regionFits e }
+    ensures { result ≡ region_fits e }
 {
     if e.present == 1 {
         return range_fits(e.range);
@@ -49,7 +49,7 @@ fn region_fits(e: RegionRange) -> bool
 }
 
 fn tuple_fits(t: Tuple) -> bool
-    ensures { result ≡ tupleFits t }
+    ensures { result ≡ tuple_fits t }
 {
     let mut good = true;
     let mut r = 0;
@@ -62,8 +62,8 @@ fn tuple_fits(t: Tuple) -> bool
 
 // The bytes of a range that fits them, where it is there, and the index past them.
 fn put_region(out: &mut [u8], at: usize, e: RegionRange, words: usize) -> usize
-    requires { (words ≤ setWords) × (at + length (regionBytes words e) ≤ length out.old) × (regionFits e ≡ true) }
-    ensures { Put out.old at (regionBytes words e) result out.new }
+    requires { (words ≤ set_words) × (at + length (region_bytes words e) ≤ length out.old) × (region_fits e ≡ true) }
+    ensures { Put out.old at (region_bytes words e) result out.new }
 {
     if e.present == 1 {
         return put_range(out, at, e.range, words);
@@ -73,8 +73,8 @@ fn put_region(out: &mut [u8], at: usize, e: RegionRange, words: usize) -> usize
 
 // The bytes of the ranges that are there in a tuple, each of which fits them, at index at, and the index past them.
 fn put_regions(out: &mut [u8], at: usize, t: Tuple, words: usize) -> usize
-    requires { (words ≤ setWords) × (at + length (regionsBytes words t regions) ≤ length out.old) × (tupleFits t ≡ true) }
-    ensures { Put out.old at (regionsBytes words t regions) result out.new }
+    requires { (words ≤ set_words) × (at + length (regions_bytes words t regions) ≤ length out.old) × (tuple_fits t ≡ true) }
+    ensures { Put out.old at (regions_bytes words t regions) result out.new }
 {
     let mut next = at;
     let mut r = 0;
@@ -87,7 +87,7 @@ fn put_regions(out: &mut [u8], at: usize, t: Tuple, words: usize) -> usize
 
 // Appends the bytes of a tuple to out at index at, and answers the index past them.
 pub fn append_tuple(out: &mut [u8], at: usize, t: Tuple, words: usize) -> usize
-    ensures { Appended out.old at (tupleCode (codecs.width words) t) result out.new }
+    ensures { Appended out.old at (tuple_code (codecs.width words) t) result out.new }
 {
     let p = presence(t);
     let room = tuple_fits(t) & octets::fits(out.len(), at, tuple_size(p, words));
@@ -116,7 +116,7 @@ fn count_region(p: u8, r: usize) -> usize
 // How many of the first n regions the byte of presence p has.
 fn present_below(p: u8, n: usize) -> usize
     requires { n ≤ 8 }
-    ensures value { result ≡ presentBelow p n }
+    ensures value { result ≡ present_below p n }
     ensures upper_bound { result ≤ n }
 {
     let mut k = 0;
@@ -132,16 +132,16 @@ fn present_below(p: u8, n: usize) -> usize
 // follows, and is stated for callers.
 fn size_below(p: u8, n: usize, words: usize) -> usize
     requires { n ≤ 8 }
-    ensures value { result ≡ 1 + presentBelow p n * rangeSize (codecs.width words) }
-    ensures upper_bound { result ≤ 1 + 8 * rangeSize setWords }
+    ensures value { result ≡ 1 + present_below p n * range_size (codecs.width words) }
+    ensures upper_bound { result ≤ 1 + 8 * range_size set_words }
 {
     1 + present_below(p, n) * range_size(words)
 }
 
 // How many bytes a tuple has whose byte of presence is p.
 pub fn tuple_size(p: u8, words: usize) -> usize
-    ensures value { result ≡ tupleSize (codecs.width words) p }
-    ensures upper_bound { result ≤ 1 + 8 * rangeSize setWords }
+    ensures value { result ≡ tuple_size (codecs.width words) p }
+    ensures upper_bound { result ≤ 1 + 8 * range_size set_words }
 {
     size_below(p, REGIONS, words)
 }
@@ -149,7 +149,7 @@ pub fn tuple_size(p: u8, words: usize) -> usize
 // Region r of the tuple at the front of some bytes, whose byte of presence is p.
 fn region_at(bytes: &[u8], p: u8, r: usize, words: usize) -> RegionRange
     requires { r < regions }
-    ensures { result ≡ regionAt (codecs.width words) bytes.now p (0 + 1) r }
+    ensures { result ≡ region_at (codecs.width words) bytes.now p (0 + 1) r }
 {
     if has_region(p, r) {
         return RegionRange {
@@ -162,7 +162,7 @@ fn region_at(bytes: &[u8], p: u8, r: usize, words: usize) -> RegionRange
 
 // The tuple whose byte of presence is at index at of any bytes.
 pub fn tuple_at(bytes: &[u8], at: usize, words: usize) -> Tuple
-    ensures { result ≡ tupleFrom (codecs.width words) bytes.now at }
+    ensures { result ≡ tuple_from (codecs.width words) bytes.now at }
 {
     let own = octets::rest(bytes, at);
     let p = byte(own, 0);

@@ -7,27 +7,27 @@ use borrow.Author.Tests.{not-false, not-true}
 pub both : {p q : Bool} → p ≡ true → q ≡ true → (p && q) ≡ true
 both {p} {q} e f = rw (e, f)
 
-pub first-true : (p q : Bool) → (p && q) ≡ true → p ≡ true
-first-true true q e = refl
-first-true false q e = e
+pub first_true : (p q : Bool) → (p && q) ≡ true → p ≡ true
+first_true true q e = refl
+first_true false q e = e
 
-pub second-true : (p q : Bool) → (p && q) ≡ true → q ≡ true
-second-true true q e = e
-second-true false q e = absurd (true≢false (sym e))
+pub second_true : (p q : Bool) → (p && q) ≡ true → q ≡ true
+second_true true q e = e
+second_true false q e = absurd (true≢false (sym e))
 
-pub three-true : (p q r : Bool) → (p && q && r) ≡ true → (p ≡ true) × (q ≡ true) × (r ≡ true)
-three-true p q r e = let h = first-true (p && q) r e in (first-true p q h, second-true p q h, second-true (p && q) r e)
+pub three_true : (p q r : Bool) → (p && q && r) ≡ true → (p ≡ true) × (q ≡ true) × (r ≡ true)
+three_true p q r e = let h = first_true (p && q) r e in (first_true p q h, second_true p q h, second_true (p && q) r e)
 
 pub either : (p q : Bool) → (p || q) ≡ true → (p ≡ true) ⊎ (q ≡ true)
 either true q e = inl refl
 either false q e = inr e
 
-pub or-first : {p : Bool} (q : Bool) → p ≡ true → (p || q) ≡ true
-or-first q e = rw e
+pub or_first : {p : Bool} (q : Bool) → p ≡ true → (p || q) ≡ true
+or_first q e = rw e
 
-pub or-second : (p : Bool) {q : Bool} → q ≡ true → (p || q) ≡ true
-or-second true e = refl
-or-second false e = e
+pub or_second : (p : Bool) {q : Bool} → q ≡ true → (p || q) ≡ true
+or_second true e = refl
+or_second false e = e
 
 pub neither : (p q : Bool) → (p || q) ≡ false → (p ≡ false) × (q ≡ false)
 neither true q e = absurd (true≢false e)
@@ -40,8 +40,8 @@ same_truth false true f g = g refl
 same_truth false false f g = refl
 
 -- a test that is true exactly where two others are
-pub exactly-both : (p q r : Bool) → (p ≡ true → q ≡ true) → (p ≡ true → r ≡ true) → (q ≡ true → r ≡ true → p ≡ true) → p ≡ (q && r)
-exactly-both p q r f g h = same_truth p (q && r) (λ e. both (f e) (g e)) (λ e. h (first-true q r e) (second-true q r e))
+pub exactly_both : (p q r : Bool) → (p ≡ true → q ≡ true) → (p ≡ true → r ≡ true) → (q ≡ true → r ≡ true → p ≡ true) → p ≡ (q && r)
+exactly_both p q r f g h = same_truth p (q && r) (λ e. both (f e) (g e)) (λ e. h (first_true q r e) (second_true q r e))
 
 -- a test that is not true
 pub not_so : (p : Bool) → (p ≡ true → ⊥) → p ≡ false
@@ -49,10 +49,10 @@ not_so true h = absurd (h refl)
 not_so false h = refl
 
 -- a test among others that the others imply
-pub and-implied : (p q r : Bool) → (p ≡ true → r ≡ true → q ≡ true) → (p && q && r) ≡ (p && r)
-and-implied false q r h = refl
-and-implied true true r h = refl
-and-implied true false r h = sym (not_so r (λ e. true≢false (sym (h refl e))))
+pub and_implied : (p q r : Bool) → (p ≡ true → r ≡ true → q ≡ true) → (p && q && r) ≡ (p && r)
+and_implied false q r h = refl
+and_implied true true r h = refl
+and_implied true false r h = sym (not_so r (λ e. true≢false (sym (h refl e))))
 
 pub swap_and : (p q r s : Bool) → ((p && q) && (r && s)) ≡ ((p && r) && (q && s))
 swap_and true q true s = refl
@@ -60,8 +60,8 @@ swap_and true q false s = and-false q
 swap_and false q r s = refl
 
 -- what a branch on the negation of r tells of p, where r is ensured to be p
-pub told-true : {p r : Bool} → r ≡ p → not r ≡ false → p ≡ true
-told-true {p} {r} e h = sym e ∙ not-false r h
+pub told_true : {p r : Bool} → r ≡ p → not r ≡ false → p ≡ true
+told_true {p} {r} e h = sym e ∙ not-false r h
 
-pub told-false : {p r : Bool} → r ≡ p → not r ≡ true → p ≡ false
-told-false {p} {r} e h = sym e ∙ not-true r h
+pub told_false : {p r : Bool} → r ≡ p → not r ≡ true → p ≡ false
+told_false {p} {r} e h = sym e ∙ not-true r h

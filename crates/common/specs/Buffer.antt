@@ -1,14 +1,14 @@
 -- What a writer to a lent buffer answers, and what it leaves there.
 use Rattle.std.specs.Prelude.{cond, List, ◌++◌, ◌≡◌, ℕ, leb, drop, length}
 use Rattle.std.proofs.Math.Option.{some}
-use Rattle.common.specs.Answer.{Answer, granted, refused, refusedBy}
+use Rattle.common.specs.Answer.{Answer, granted, refused, refused_by}
 use Rattle.common.specs.declared.answer.Written.{Written}
 use Rattle.common.specs.declared.answer.Written.TheVariants.{Length, Refused}
 
 -- what the enum Written says
 abbrev pub written_of : Written → Answer ℕ
 written_of (Length n) = granted n
-written_of (Refused e) = refusedBy e
+written_of (Refused e) = refused_by e
 
 -- the bytes of text at the front of a buffer: those past it stay
 abbrev pub overlay : List ℕ → List ℕ → List ℕ
@@ -20,11 +20,11 @@ length_of (granted text) room = cond (leb (length text) room) (granted (length t
 length_of (refused n detail) room = refused n detail
 
 -- what the buffer holds then: on a refusal, every byte as it was
-unfoldable pub bufferOf : Answer (List ℕ) → List ℕ → List ℕ
-bufferOf (granted text) out = cond (leb (length text) (length out)) (overlay text out) out
-bufferOf (refused n detail) out = out
+unfoldable pub buffer_of : Answer (List ℕ) → List ℕ → List ℕ
+buffer_of (granted text) out = cond (leb (length text) (length out)) (overlay text out) out
+buffer_of (refused n detail) out = out
 
 -- r is answered, and `before` becomes `after`, where a text, or its refusal, is to be written
 pub record WrittenTo (r : Written) (text : Answer (List ℕ)) (before after : List ℕ) : Type 0 where
   pub answer : written_of r ≡ length_of text (length before)
-  pub buffer : after ≡ bufferOf text before
+  pub buffer : after ≡ buffer_of text before

@@ -13,24 +13,24 @@ every f zero = true
 every f (suc n) = every f n && f n
 
 -- whether f holds at some number below n
-abbrev pub someBelow : (ℕ → Bool) → ℕ → Bool
-someBelow f n = not (every (λ i. not (f i)) n)
+abbrev pub some_below : (ℕ → Bool) → ℕ → Bool
+some_below f n = not (every (λ i. not (f i)) n)
 
 abbrev pub first_or : Bool → ℕ → Option ℕ → Option ℕ
 first_or true k rest = some k
 first_or false k rest = rest
 
 -- the first among the n numbers from k on at which f holds
-unfoldable pub firstFrom : (ℕ → Bool) → ℕ → ℕ → Option ℕ
-firstFrom f k zero = none
-firstFrom f k (suc n) = first_or (f k) k (firstFrom f (suc k) n)
+unfoldable pub first_from : (ℕ → Bool) → ℕ → ℕ → Option ℕ
+first_from f k zero = none
+first_from f k (suc n) = first_or (f k) k (first_from f (suc k) n)
 
 -- the last among the numbers below n at which f holds
-unfoldable pub lastBelow : (ℕ → Bool) → ℕ → Option ℕ
-lastBelow f zero = none
-lastBelow f (suc n) = first_or (f n) n (lastBelow f n)
+unfoldable pub last_below : (ℕ → Bool) → ℕ → Option ℕ
+last_below f zero = none
+last_below f (suc n) = first_or (f n) n (last_below f n)
 
 -- f k + f (k + 1) + .. , n terms
-unfoldable pub sumFrom : (ℕ → ℕ) → ℕ → ℕ → ℕ
-sumFrom f k zero = 0
-sumFrom f k (suc n) = f k + sumFrom f (suc k) n
+unfoldable pub sum_from : (ℕ → ℕ) → ℕ → ℕ → ℕ
+sum_from f k zero = 0
+sum_from f k (suc n) = f k + sum_from f (suc k) n

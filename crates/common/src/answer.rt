@@ -1,6 +1,6 @@
 // What calls answer where that is no label, range or tuple; and the outcome that stands beside one of these.
 ghost use Rattle.std.specs.Prelude.{◌≡◌};
-ghost use Rattle.common.specs.Answer.{grantedOf};
+ghost use Rattle.common.specs.Answer.{granted_of};
 
 use crate::errno::Errno;
 
@@ -32,7 +32,7 @@ pub enum Written {
 
 // Whether an outcome is a grant.
 pub fn granted(o: Outcome) -> bool
-    ensures { result ≡ grantedOf o }
+    ensures { result ≡ granted_of o }
 {
     match o {
         Outcome::Granted => true,

@@ -1,6 +1,6 @@
 // Refusals, by their POSIX names. A refusal becomes a number here and nowhere else.
 ghost use Rattle.std.specs.Prelude.{◌≡◌};
-ghost use Rattle.common.specs.Errno.{detailOf, carried_of, errnoNumber};
+ghost use Rattle.common.specs.Errno.{detail_of, carried_of, errno_number};
 
 #[derive(Clone, Copy)]
 pub enum Errno {
@@ -34,7 +34,7 @@ pub enum Carried {
 }
 
 pub fn number(e: Errno) -> u8
-    ensures { result ≡ errnoNumber e }
+    ensures { result ≡ errno_number e }
 {
     match e {
         Errno::Perm => 1,
@@ -52,7 +52,7 @@ pub fn number(e: Errno) -> u8
 
 // The number that 7 and the table's 22 carry. Each case is listed, so that a new one has to say what it carries.
 pub fn detail(e: Errno) -> Carried
-    ensures { carried_of result ≡ detailOf e }
+    ensures { carried_of result ≡ detail_of e }
 {
     match e {
         Errno::TooBig(length) => Carried::Number(length),

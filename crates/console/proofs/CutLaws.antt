@@ -9,37 +9,37 @@ use lib.Dec.{leb, ltb}
 use lib.ListN.{length, take, length-append}
 use lib.Seq.{take_all, take-append-add}
 use borrow.Author.Tests.{le-leb, le-ltb, lt-ltb, ltb-true}
-use Rattle.common.proofs.BoolLaws.{both, first-true, not_so, same_truth}
-use Rattle.octets.specs.Bytes.{indexOf, lf, put_at}
-use Rattle.octets.proofs.ByteLaws.{index-append, put-length, put-put}
-use Rattle.console.specs.Lines.{pieceBuffer, fits_of, held, pieceBy, piece_of, skipped}
+use Rattle.common.proofs.BoolLaws.{both, first_true, not_so, same_truth}
+use Rattle.octets.specs.Bytes.{index_of, lf, put_at}
+use Rattle.octets.proofs.ByteLaws.{index_append, put_length, put_put}
+use Rattle.console.specs.Lines.{piece_buffer, fits_of, held, piece_by, piece_of, skipped}
 use Rattle.console.specs.declared.lines.Partial.{Partial}
 use Rattle.console.specs.declared.lines.Piece.{Piece}
-use Rattle.console.proofs.LineLaws.{fits-within}
+use Rattle.console.proofs.LineLaws.{fits_within}
 
 -- fewer bytes fit too
-fewer-fit : (p : Partial) (m n size : ℕ) → m ≤ n → fits_of p n size ≡ true → fits_of p m size ≡ true
+fewer_fit : (p : Partial) (m n size : ℕ) → m ≤ n → fits_of p n size ≡ true → fits_of p m size ≡ true
 unfolding fits_of
-fewer-fit p m n size h e =
-    let l = fits-within p n size e in
-    both (first-true (not p.long) (leb (p.length + (n + 1)) size) e) (le-leb (p.length + (m + 1)) size (omega arith))
+fewer_fit p m n size h e =
+    let l = fits_within p n size e in
+    both (first_true (not p.long) (leb (p.length + (n + 1)) size) e) (le-leb (p.length + (m + 1)) size (omega arith))
 
-skipped-fits : (n size : ℕ) → fits_of skipped n size ≡ false
+skipped_fits : (n size : ℕ) → fits_of skipped n size ≡ false
 unfolding fits_of
-skipped-fits n size = refl
+skipped_fits n size = refl
 
 -- the length of a line that does not fit is not used
-no_length : (t : Bool) (next m n : ℕ) → pieceBy t false next m ≡ pieceBy t false next n
+no_length : (t : Bool) (next m n : ℕ) → piece_by t false next m ≡ piece_by t false next n
 no_length true next m n = refl
 no_length false next m n = refl
 
 -- the bytes xs, with no LF in them, and then ys
-module _ (xs ys : List ℕ) (from : ℕ) (buffer : List ℕ) (p : Partial) (no-lf : indexOf lf xs ≡ length xs) where
+module _ (xs ys : List ℕ) (from : ℕ) (buffer : List ℕ) (p : Partial) (no_lf : index_of lf xs ≡ length xs) where
   abbrev m : ℕ
   m = length xs
 
   abbrev n : ℕ
-  n = indexOf lf ys
+  n = index_of lf ys
 
   abbrev size : ℕ
   size = length buffer
@@ -48,15 +48,15 @@ module _ (xs ys : List ℕ) (from : ℕ) (buffer : List ℕ) (p : Partial) (no-l
   abbrev between : Partial
   between = (piece_of xs from size p).partial
 
-  first_piece : (f : Bool) → fits_of p m size ≡ f → piece_of xs from size p ≡ pieceBy false f (from + m) (p.length + m)
+  first_piece : (f : Bool) → fits_of p m size ≡ f → piece_of xs from size p ≡ piece_by false f (from + m) (p.length + m)
   unfolding piece_of
-  first_piece f e = rw (no-lf, le-ltb m m (omega arith), e)
+  first_piece f e = rw (no_lf, le-ltb m m (omega arith), e)
 
-  held-between : fits_of p m size ≡ true → between ≡ held (p.length + m)
-  held-between e = ap (λ (r : Piece). r.partial) (first_piece true e)
+  held_between : fits_of p m size ≡ true → between ≡ held (p.length + m)
+  held_between e = ap (λ (r : Piece). r.partial) (first_piece true e)
 
-  skipped-between : fits_of p m size ≡ false → between ≡ skipped
-  skipped-between e = ap (λ (r : Piece). r.partial) (first_piece false e)
+  skipped_between : fits_of p m size ≡ false → between ≡ skipped
+  skipped_between e = ap (λ (r : Piece). r.partial) (first_piece false e)
 
   ends : ltb n (length ys) ≡ ltb (m + n) (length (xs ++ ys))
   ends =
@@ -69,44 +69,44 @@ module _ (xs ys : List ℕ) (from : ℕ) (buffer : List ℕ) (p : Partial) (no-l
   unfolding fits_of
   fit_then e =
       let s : p.length + m + (n + 1) ≡ p.length + (m + n + 1) = omega arith in
-      let o : not p.long ≡ true = first-true (not p.long) (leb (p.length + (m + 1)) size) e in rw (o, s)
+      let o : not p.long ≡ true = first_true (not p.long) (leb (p.length + (m + 1)) size) e in rw (o, s)
 
-  piece-held : fits_of p m size ≡ true → piece_of ys (from + m) size (held (p.length + m)) ≡ piece_of (xs ++ ys) from size p
+  piece_held : fits_of p m size ≡ true → piece_of ys (from + m) size (held (p.length + m)) ≡ piece_of (xs ++ ys) from size p
   unfolding piece_of
-  piece-held e = rw (index-append lf xs ys no-lf, ← ends, fit_then e, add_assoc from m n, add_assoc p.length m n)
+  piece_held e = rw (index_append lf xs ys no_lf, ← ends, fit_then e, add_assoc from m n, add_assoc p.length m n)
 
-  piece-skipped : fits_of p m size ≡ false → piece_of ys (from + m) size skipped ≡ piece_of (xs ++ ys) from size p
+  piece_skipped : fits_of p m size ≡ false → piece_of ys (from + m) size skipped ≡ piece_of (xs ++ ys) from size p
   unfolding piece_of
-  piece-skipped e =
+  piece_skipped e =
       let o : fits_of p (m + n) size ≡ false =
-      not_so (fits_of p (m + n) size) (λ (h : fits_of p (m + n) size ≡ true). true≢false (sym (fewer-fit p m (m + n) size (omega arith) h) ∙ e)) in
-      rw (skipped-fits n size, index-append lf xs ys no-lf, ← ends, o, add_assoc from m n) (no_length (ltb n (length ys)) (from + (m + n)) (0 + n) (p.length + (m + n)))
+      not_so (fits_of p (m + n) size) (λ (h : fits_of p (m + n) size ≡ true). true≢false (sym (fewer_fit p m (m + n) size (omega arith) h) ∙ e)) in
+      rw (skipped_fits n size, index_append lf xs ys no_lf, ← ends, o, add_assoc from m n) (no_length (ltb n (length ys)) (from + (m + n)) (0 + n) (p.length + (m + n)))
 
   -- the second of two chunks makes the piece that the one chunk makes
-  pub cut-piece : piece_of ys (from + m) size between ≡ piece_of (xs ++ ys) from size p
-  cut-piece = pick (fits_of p m size) refl
+  pub cut_piece : piece_of ys (from + m) size between ≡ piece_of (xs ++ ys) from size p
+  cut_piece = pick (fits_of p m size) refl
     where
       pick : (f : Bool) → fits_of p m size ≡ f → piece_of ys (from + m) size between ≡ piece_of (xs ++ ys) from size p
-      pick true e = ap (piece_of ys (from + m) size) (held-between e) ∙ piece-held e
-      pick false e = ap (piece_of ys (from + m) size) (skipped-between e) ∙ piece-skipped e
+      pick true e = ap (piece_of ys (from + m) size) (held_between e) ∙ piece_held e
+      pick false e = ap (piece_of ys (from + m) size) (skipped_between e) ∙ piece_skipped e
 
-  buffer-between : fits_of p m size ≡ true → pieceBuffer xs buffer p ≡ put_at buffer p.length xs
-  unfolding pieceBuffer
-  buffer-between e = rw (no-lf, e, take_all (m + 1) xs (omega arith))
+  buffer_between : fits_of p m size ≡ true → piece_buffer xs buffer p ≡ put_at buffer p.length xs
+  unfolding piece_buffer
+  buffer_between e = rw (no_lf, e, take_all (m + 1) xs (omega arith))
 
-  buffer-then : fits_of p (m + n) size ≡ true → (b : List ℕ) → length b ≡ size → b ≡ put_at buffer p.length xs
-      → pieceBuffer ys b (held (p.length + m)) ≡ pieceBuffer (xs ++ ys) buffer p
-  unfolding pieceBuffer
-  buffer-then e b l f =
-      let d = fewer-fit p m (m + n) size (omega arith) e in
-      let w = fits-within p m size d in
+  buffer_then : fits_of p (m + n) size ≡ true → (b : List ℕ) → length b ≡ size → b ≡ put_at buffer p.length xs
+      → piece_buffer ys b (held (p.length + m)) ≡ piece_buffer (xs ++ ys) buffer p
+  unfolding piece_buffer
+  buffer_then e b l f =
+      let d = fewer_fit p m (m + n) size (omega arith) e in
+      let w = fits_within p m size d in
       let t : take (m + n + 1) (xs ++ ys) ≡ xs ++ take (n + 1) ys = rw (add_assoc m n 1) (take-append-add xs ys (n + 1)) in
-      rw (l, fit_then d, index-append lf xs ys no-lf, e, f, t) (put-put buffer p.length xs (take (n + 1) ys) (omega arith))
+      rw (l, fit_then d, index_append lf xs ys no_lf, e, f, t) (put_put buffer p.length xs (take (n + 1) ys) (omega arith))
 
   -- and, where the line fits, the same buffer
-  pub cut-buffer : fits_of p (m + n) size ≡ true → pieceBuffer ys (pieceBuffer xs buffer p) between ≡ pieceBuffer (xs ++ ys) buffer p
-  cut-buffer e =
-      let d = fewer-fit p m (m + n) size (omega arith) e in
-      let w = fits-within p m size d in
-      let b = buffer-between d in
-      ap (pieceBuffer ys (pieceBuffer xs buffer p)) (held-between d) ∙ buffer-then e (pieceBuffer xs buffer p) (ap length b ∙ put-length buffer p.length xs (omega arith)) b
+  pub cut_buffer : fits_of p (m + n) size ≡ true → piece_buffer ys (piece_buffer xs buffer p) between ≡ piece_buffer (xs ++ ys) buffer p
+  cut_buffer e =
+      let d = fewer_fit p m (m + n) size (omega arith) e in
+      let w = fits_within p m size d in
+      let b = buffer_between d in
+      ap (piece_buffer ys (piece_buffer xs buffer p)) (held_between d) ∙ buffer_then e (piece_buffer xs buffer p) (ap length b ∙ put_length buffer p.length xs (omega arith)) b

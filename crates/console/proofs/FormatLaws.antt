@@ -4,8 +4,8 @@ use mathlib.Core.Path.{◌≡◌}
 use Prim.Native.Nat.{ℕ, ◌+◌}
 use native.Mathlib.Omega.{arith}
 use lib.ListN.{length, length-append}
-use Rattle.console.specs.Format.{carriedText, decimalOf, errorWord, refusalText}
+use Rattle.console.specs.Format.{carried_text, decimal_of, error_word, refusal_text}
 
-pub refusal-length : (n : ℕ) (carried : Option ℕ) → length (refusalText n carried) ≡ 6 + length (decimalOf n) + length (carriedText carried) + 1
-unfolding refusalText errorWord
-refusal-length n carried = simp length-append (omega arith)
+pub refusal_length : (n : ℕ) (carried : Option ℕ) → length (refusal_text n carried) ≡ 6 + length (decimal_of n) + length (carried_text carried) + 1
+unfolding refusal_text error_word
+refusal_length n carried = simp length-append (omega arith)

@@ -11,8 +11,8 @@ use lib.Dec.{leb, ltb}
 use lib.ListN.{drop, get_or, length, drop_of_length-le}
 use lib.Seq.{drop-cons}
 use borrow.Author.Tests.{le-leb, le-ltb, lt-leb, lt-ltb}
-use Rattle.common.proofs.BoolLaws.{both, first-true, second-true}
-use Rattle.console.specs.Command.{digits, fieldNumber, decimalFrom}
+use Rattle.common.proofs.BoolLaws.{both, first_true, second_true}
+use Rattle.console.specs.Command.{digits, field_number, decimal_from}
 
 -- ---- digits and their value
 
@@ -20,63 +20,63 @@ pub digits_append : (xs ys : List ℕ) → digits xs ≡ true → digits ys ≡ 
 unfolding digits
 digits_append [] ys e f = f
 digits_append (x ∷ xs) ys e f =
-    both (first-true (leb 48 x && leb x 57) (digits xs) e) (digits_append xs ys (second-true (leb 48 x && leb x 57) (digits xs) e) f)
+    both (first_true (leb 48 x && leb x 57) (digits xs) e) (digits_append xs ys (second_true (leb 48 x && leb x 57) (digits xs) e) f)
 
-pub value-append : (v : ℕ) (xs ys : List ℕ) → decimalFrom v (xs ++ ys) ≡ decimalFrom (decimalFrom v xs) ys
-unfolding decimalFrom
-value-append v [] ys = refl
-value-append v (x ∷ xs) ys = value-append (v * 10 + (x - 48)) xs ys
+pub value_append : (v : ℕ) (xs ys : List ℕ) → decimal_from v (xs ++ ys) ≡ decimal_from (decimal_from v xs) ys
+unfolding decimal_from
+value_append v [] ys = refl
+value_append v (x ∷ xs) ys = value_append (v * 10 + (x - 48)) xs ys
 
-value_grows : (v : ℕ) (bs : List ℕ) → v ≤ decimalFrom v bs
-unfolding decimalFrom
+value_grows : (v : ℕ) (bs : List ℕ) → v ≤ decimal_from v bs
+unfolding decimal_from
 value_grows v [] = omega arith
 value_grows v (b ∷ bs) = let h = value_grows (v * 10 + (b - 48)) bs in omega arith
 
 -- ---- a number, with v read so far
 
 -- what the digits bs make of it
-unfoldable pub numberFrom : ℕ → List ℕ → Option ℕ
-numberFrom v bs = cond (digits bs && ltb (decimalFrom v bs) (2 ^ 64)) (some (decimalFrom v bs)) none
+unfoldable pub number_from : ℕ → List ℕ → Option ℕ
+number_from v bs = cond (digits bs && ltb (decimal_from v bs) (2 ^ 64)) (some (decimal_from v bs)) none
 
-pub number-large : (v : ℕ) (bs : List ℕ) → 2 ^ 64 ≤ v → numberFrom v bs ≡ none
-unfolding numberFrom
-number-large v bs h =
+pub number_large : (v : ℕ) (bs : List ℕ) → 2 ^ 64 ≤ v → number_from v bs ≡ none
+unfolding number_from
+number_large v bs h =
     let g = value_grows v bs in
-    let l : ltb (decimalFrom v bs) (2 ^ 64) ≡ false = le-ltb (decimalFrom v bs) (2 ^ 64) (omega arith) in rw (l, and-false)
+    let l : ltb (decimal_from v bs) (2 ^ 64) ≡ false = le-ltb (decimal_from v bs) (2 ^ 64) (omega arith) in rw (l, and-false)
 
 module _ (v b : ℕ) (bs : List ℕ) where
-  first-digit : 48 ≤ b → b ≤ 57 → numberFrom v (b ∷ bs) ≡ numberFrom (v * 10 + (b - 48)) bs
-  unfolding numberFrom digits decimalFrom
-  first-digit h l = rw (le-leb 48 b h, le-leb b 57 l)
+  first_digit : 48 ≤ b → b ≤ 57 → number_from v (b ∷ bs) ≡ number_from (v * 10 + (b - 48)) bs
+  unfolding number_from digits decimal_from
+  first_digit h l = rw (le-leb 48 b h, le-leb b 57 l)
 
-  first-low : b < 48 → numberFrom v (b ∷ bs) ≡ none
-  unfolding numberFrom digits
-  first-low h = rw (lt-leb 48 b h)
+  first_low : b < 48 → number_from v (b ∷ bs) ≡ none
+  unfolding number_from digits
+  first_low h = rw (lt-leb 48 b h)
 
-  first-high : 57 < b → numberFrom v (b ∷ bs) ≡ none
-  unfolding numberFrom digits
-  first-high h = rw (lt-leb b 57 h, and-false)
+  first_high : 57 < b → number_from v (b ∷ bs) ≡ none
+  unfolding number_from digits
+  first_high h = rw (lt-leb b 57 h, and-false)
 
-pub number-none : (text : List ℕ) → length text ≡ 0 → none ≡ fieldNumber text
-unfolding fieldNumber
-number-none text h = rw h
+pub number_none : (text : List ℕ) → length text ≡ 0 → none ≡ field_number text
+unfolding field_number
+number_none text h = rw h
 
-pub number-start : (text : List ℕ) → (length text ≡ 0 → ⊥) → fieldNumber text ≡ numberFrom 0 text
-unfolding fieldNumber numberFrom
-number-start text h = rw (lt-ltb 0 (length text) (pos_of_ne-zero h))
+pub number_start : (text : List ℕ) → (length text ≡ 0 → ⊥) → field_number text ≡ number_from 0 text
+unfolding field_number number_from
+number_start text h = rw (lt-ltb 0 (length text) (pos_of_ne-zero h))
 
 -- a loop that reads text from the front: v are the digits before index i
-module _ (text : List ℕ) (v i : ℕ) (so_far : fieldNumber text ≡ numberFrom v (drop i text)) where
+module _ (text : List ℕ) (v i : ℕ) (so_far : field_number text ≡ number_from v (drop i text)) where
   module _ (h : i < length text) where
-    pub number-pass : 48 ≤ get_or text i 0 → get_or text i 0 ≤ 57 → fieldNumber text ≡ numberFrom (v * 10 + (get_or text i 0 - 48)) (drop (i + 1) text)
-    number-pass l m = so_far ∙ rw (add-one, drop-cons text i 0 h) (first-digit v (get_or text i 0) (drop (suc i) text) l m)
+    pub number_pass : 48 ≤ get_or text i 0 → get_or text i 0 ≤ 57 → field_number text ≡ number_from (v * 10 + (get_or text i 0 - 48)) (drop (i + 1) text)
+    number_pass l m = so_far ∙ rw (add-one, drop-cons text i 0 h) (first_digit v (get_or text i 0) (drop (suc i) text) l m)
 
-    pub number-low : get_or text i 0 < 48 → none ≡ fieldNumber text
-    number-low l = sym (so_far ∙ rw (drop-cons text i 0 h) (first-low v (get_or text i 0) (drop (suc i) text) l))
+    pub number_low : get_or text i 0 < 48 → none ≡ field_number text
+    number_low l = sym (so_far ∙ rw (drop-cons text i 0 h) (first_low v (get_or text i 0) (drop (suc i) text) l))
 
-    pub number-high : 57 < get_or text i 0 → none ≡ fieldNumber text
-    number-high l = sym (so_far ∙ rw (drop-cons text i 0 h) (first-high v (get_or text i 0) (drop (suc i) text) l))
+    pub number_high : 57 < get_or text i 0 → none ≡ field_number text
+    number_high l = sym (so_far ∙ rw (drop-cons text i 0 h) (first_high v (get_or text i 0) (drop (suc i) text) l))
 
-  pub number-end : length text ≤ i → v < 2 ^ 64 → some v ≡ fieldNumber text
-  unfolding numberFrom digits decimalFrom
-  number-end h l = sym (so_far ∙ rw (drop_of_length-le text h, lt-ltb v (2 ^ 64) l))
+  pub number_end : length text ≤ i → v < 2 ^ 64 → some v ≡ field_number text
+  unfolding number_from digits decimal_from
+  number_end h l = sym (so_far ∙ rw (drop_of_length-le text h, lt-ltb v (2 ^ 64) l))

@@ -1,7 +1,7 @@
 -- What is printed.
 use Rattle.std.specs.Prelude.{cond, List, [], ◌∷◌, ◌++◌, ℕ, zero, suc, ◌+◌, ◌/◌, ◌%◌, ltb}
 use Rattle.std.proofs.Math.Option.{Option, none, some}
-use Rattle.common.specs.Errno.{detailOf, errnoNumber}
+use Rattle.common.specs.Errno.{detail_of, errno_number}
 use Rattle.common.specs.declared.errno.Errno.{Errno}
 use Rattle.octets.specs.Bytes.{ascii, blank, lf}
 
@@ -10,30 +10,30 @@ abbrev pub digit : ℕ → ℕ
 digit d = 48 + d
 
 -- the decimal digits of n, by division by 10, where k steps are enough for them
-unfoldable pub decimalIn : ℕ → ℕ → List ℕ
-decimalIn zero n = []
-decimalIn (suc k) n = cond (ltb n 10) (digit n ∷ []) (decimalIn k (n / 10) ++ (digit (n % 10) ∷ []))
+unfoldable pub decimal_in : ℕ → ℕ → List ℕ
+decimal_in zero n = []
+decimal_in (suc k) n = cond (ltb n 10) (digit n ∷ []) (decimal_in k (n / 10) ++ (digit (n % 10) ∷ []))
 
--- the decimal digits of n, for which n + 1 steps are enough (the laws `decimal-one` and `decimal-more` say it with no steps)
-unfoldable pub decimalOf : ℕ → List ℕ
-decimalOf n = decimalIn (suc n) n
+-- the decimal digits of n, for which n + 1 steps are enough (the laws `decimal_one` and `decimal_more` say it with no steps)
+unfoldable pub decimal_of : ℕ → List ℕ
+decimal_of n = decimal_in (suc n) n
 
 -- a word and a number
 abbrev pub field : List ℕ → ℕ → List ℕ
-field word n = word ++ decimalOf n
+field word n = word ++ decimal_of n
 
-unfoldable pub errorWord : List ℕ
-errorWord = ascii "error "
+unfoldable pub error_word : List ℕ
+error_word = ascii "error "
 
 -- a blank and the one more number that a refusal may carry
-unfoldable pub carriedText : Option ℕ → List ℕ
-carriedText none = []
-carriedText (some n) = blank ∷ decimalOf n
+unfoldable pub carried_text : Option ℕ → List ℕ
+carried_text none = []
+carried_text (some n) = blank ∷ decimal_of n
 
 -- `error N` or `error N M`, and LF
-unfoldable pub refusalText : ℕ → Option ℕ → List ℕ
-refusalText n carried = errorWord ++ decimalOf n ++ carriedText carried ++ (lf ∷ [])
+unfoldable pub refusal_text : ℕ → Option ℕ → List ℕ
+refusal_text n carried = error_word ++ decimal_of n ++ carried_text carried ++ (lf ∷ [])
 
 -- the line that answers a refusal
-unfoldable pub errorText : Errno → List ℕ
-errorText e = refusalText (errnoNumber e) (detailOf e)
+unfoldable pub error_text : Errno → List ℕ
+error_text e = refusal_text (errno_number e) (detail_of e)

@@ -1,7 +1,7 @@
 -- Lines out of chunks.
 use Rattle.std.specs.Prelude.{Bool, true, false, not, ◌&&◌, ◌||◌, cond, List, ◌≡◌, ℕ, ◌+◌, ◌≤◌, max, min, leb, ltb, drop, length, take}
-use Rattle.octets.specs.Bytes.{indexOf, lf, put_at}
-use Rattle.octets.specs.Lines.{firstEnds, firstLine}
+use Rattle.octets.specs.Bytes.{index_of, lf, put_at}
+use Rattle.octets.specs.Lines.{first_ends, first_line}
 use Rattle.console.specs.declared.lines.Line.{Line}
 use Rattle.console.specs.declared.lines.Line.TheVariants.{More, Whole, Bad}
 use Rattle.console.specs.declared.lines.Partial.{Partial}
@@ -23,30 +23,30 @@ unfoldable pub fits_of : Partial → ℕ → ℕ → Bool
 fits_of p n size = not p.long && leb (p.length + (n + 1)) size
 
 -- by whether the line ends in the chunk, and whether it fits: next is the chunk's index and n the line's length, both before the LF
-abbrev pub pieceBy : Bool → Bool → ℕ → ℕ → Piece
-pieceBy true true next n = piece (next + 1) (held 0) (Whole (n + 1))
-pieceBy true false next n = piece (next + 1) (held 0) Bad
-pieceBy false true next n = piece next (held n) More
-pieceBy false false next n = piece next skipped More
+abbrev pub piece_by : Bool → Bool → ℕ → ℕ → Piece
+piece_by true true next n = piece (next + 1) (held 0) (Whole (n + 1))
+piece_by true false next n = piece (next + 1) (held 0) Bad
+piece_by false true next n = piece next (held n) More
+piece_by false false next n = piece next skipped More
 
 -- what the bytes `rest`, which stand in the chunk from index `from` on, make of the line that p holds
 unfoldable pub piece_of : List ℕ → ℕ → ℕ → Partial → Piece
 piece_of rest from size p =
-    pieceBy (firstEnds rest) (fits_of p (indexOf lf rest) size) (from + indexOf lf rest) (p.length + indexOf lf rest)
+    piece_by (first_ends rest) (fits_of p (index_of lf rest) size) (from + index_of lf rest) (p.length + index_of lf rest)
 
 -- the buffer then: where it fits, the first line of `rest`, or what there is of it, is put behind what is held
-unfoldable pub pieceBuffer : List ℕ → List ℕ → Partial → List ℕ
-pieceBuffer rest buffer p = cond (fits_of p (indexOf lf rest) (length buffer)) (put_at buffer p.length (firstLine rest)) buffer
+unfoldable pub piece_buffer : List ℕ → List ℕ → Partial → List ℕ
+piece_buffer rest buffer p = cond (fits_of p (index_of lf rest) (length buffer)) (put_at buffer p.length (first_line rest)) buffer
 
 -- at the end of the input, a line with no LF is bad
-abbrev pub lineAtEnd : Partial → Line
-lineAtEnd p = cond (p.long || ltb 0 p.length) Bad More
+abbrev pub line_at_end : Partial → Line
+line_at_end p = cond (p.long || ltb 0 p.length) Bad More
 
 -- r and the buffer `after` are what `take` makes. The rest follows, and is stated for callers: next is past `from` and no further than the end
 -- of the chunk, unless `from` is not in it, and a whole line is within the buffer
 pub record Taken (chunk : List ℕ) (from : ℕ) (buffer : List ℕ) (p : Partial) (r : Piece) (after : List ℕ) : Type 0 where
   pub piece_is : r ≡ piece_of (drop from chunk) from (length buffer) p
-  pub buffer-is : after ≡ pieceBuffer (drop from chunk) buffer p
+  pub buffer_is : after ≡ piece_buffer (drop from chunk) buffer p
   pub same_length : length after ≡ length buffer
   pub within : r.next ≤ max from (length chunk)
   pub progress : min (from + 1) (length chunk) ≤ r.next

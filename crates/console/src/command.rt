@@ -1,7 +1,7 @@
 // Command lines: a word and numbers, one blank between, and LF.
 ghost use Rattle.std.specs.Prelude.{◌≡◌};
-ghost use Rattle.console.specs.Command.{bodyCommandOf, commandOf, invalidCommand, fieldNumber, skippedOf};
-ghost use Rattle.console.specs.Internal.Numbers.{numberReadOf};
+ghost use Rattle.console.specs.Command.{body_command_of, command_of, invalid_command, field_number, skipped_of};
+ghost use Rattle.console.specs.Internal.Numbers.{number_read_of};
 
 use octets::{BLANK, LF};
 
@@ -29,7 +29,7 @@ enum Number {
 }
 
 fn invalid() -> Command
-    ensures { result ≡ invalidCommand }
+    ensures { result ≡ invalid_command }
 {
     let numbers = [0u64; MAX_NUMBERS];
     Command {
@@ -42,7 +42,7 @@ fn invalid() -> Command
 
 // One or more decimal digits, with a value below 2^64.
 fn read_number(text: &[u8]) -> Number
-    ensures { numberReadOf result ≡ fieldNumber text.now }
+    ensures { number_read_of result ≡ field_number text.now }
 {
     if text.len() == 0 {
         return Number::Bad;
@@ -69,7 +69,7 @@ fn read_number(text: &[u8]) -> Number
 
 // The word up to the first blank, and the numbers after it.
 fn parse_body(body: &[u8]) -> Command
-    ensures { result ≡ bodyCommandOf body.now }
+    ensures { result ≡ body_command_of body.now }
 {
     let word = octets::index_of(BLANK, body);
     let mut at = word;
@@ -98,7 +98,7 @@ fn parse_body(body: &[u8]) -> Command
 
 // Reads a command line.
 pub fn parse(line: &[u8]) -> Command
-    ensures { result ≡ commandOf line.now }
+    ensures { result ≡ command_of line.now }
 {
     let end = octets::index_of(LF, line);
     if end + 1 == line.len() {
@@ -109,7 +109,7 @@ pub fn parse(line: &[u8]) -> Command
 
 // Whether a line between requests gets no answer: an empty line or a comment. A bad line, which comes as no bytes at all, gets one.
 pub fn is_skipped(line: &[u8]) -> bool
-    ensures { result ≡ skippedOf line.now }
+    ensures { result ≡ skipped_of line.now }
 {
     if line.len() == 0 {
         return false;

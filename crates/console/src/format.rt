@@ -3,7 +3,7 @@ ghost use Rattle.std.specs.Prelude.{◌+◌, ◌≤◌, length};
 ghost use Rattle.common.specs.Errno.{carried_of};
 ghost use Rattle.octets.specs.Bytes.{Appended};
 ghost use Rattle.octets.specs.Internal.Put.{Put};
-ghost use Rattle.console.specs.Format.{carriedText, decimalOf, errorText, field, refusalText};
+ghost use Rattle.console.specs.Format.{carried_text, decimal_of, error_text, field, refusal_text};
 ghost use Rattle.console.specs.Internal.Numbers.{ByteCount};
 
 use common::errno;
@@ -11,7 +11,7 @@ use common::errno::{Carried, Errno};
 
 // How many decimal digits n has.
 fn decimal_length(n: u64) -> usize
-    ensures { ByteCount 20 (decimalOf n) result }
+    ensures { ByteCount 20 (decimal_of n) result }
 {
     let mut k = 1;
     let mut left = n;
@@ -24,8 +24,8 @@ fn decimal_length(n: u64) -> usize
 
 // Puts the decimal digits of n in out, from the last to the first, and answers the index past them.
 fn put_decimal(out: &mut [u8], at: usize, n: u64) -> usize
-    requires { at + length (decimalOf n) ≤ length out.old }
-    ensures { Put out.old at (decimalOf n) result out.new }
+    requires { at + length (decimal_of n) ≤ length out.old }
+    ensures { Put out.old at (decimal_of n) result out.new }
 {
     let end = at + decimal_length(n);
     let mut i = end;
@@ -41,7 +41,7 @@ fn put_decimal(out: &mut [u8], at: usize, n: u64) -> usize
 
 // Appends the decimal digits of n.
 pub fn append_decimal(out: &mut [u8], at: usize, n: u64) -> usize
-    ensures { Appended out.old at (decimalOf n) result out.new }
+    ensures { Appended out.old at (decimal_of n) result out.new }
 {
     if octets::fits(out.len(), at, decimal_length(n)) {
         return put_decimal(out, at, n);
@@ -63,7 +63,7 @@ pub fn append_field(out: &mut [u8], at: usize, word: &[u8], n: u64) -> usize
 
 // How many bytes a blank and the carried number take.
 fn carried_length(carried: Carried) -> usize
-    ensures { ByteCount 21 (carriedText (carried_of carried)) result }
+    ensures { ByteCount 21 (carried_text (carried_of carried)) result }
 {
     match carried {
         Carried::Number(n) => 1 + decimal_length(n as u64),
@@ -73,8 +73,8 @@ fn carried_length(carried: Carried) -> usize
 
 // Puts a blank and the carried number.
 fn put_carried(out: &mut [u8], at: usize, carried: Carried) -> usize
-    requires { at + length (carriedText (carried_of carried)) ≤ length out.old }
-    ensures { Put out.old at (carriedText (carried_of carried)) result out.new }
+    requires { at + length (carried_text (carried_of carried)) ≤ length out.old }
+    ensures { Put out.old at (carried_text (carried_of carried)) result out.new }
 {
     match carried {
         Carried::Number(n) => {
@@ -87,8 +87,8 @@ fn put_carried(out: &mut [u8], at: usize, carried: Carried) -> usize
 
 // Puts a refusal's line.
 fn put_refusal(out: &mut [u8], at: usize, number: u64, carried: Carried) -> usize
-    requires { at + length (refusalText number (carried_of carried)) ≤ length out.old }
-    ensures { Put out.old at (refusalText number (carried_of carried)) result out.new }
+    requires { at + length (refusal_text number (carried_of carried)) ≤ length out.old }
+    ensures { Put out.old at (refusal_text number (carried_of carried)) result out.new }
 {
     let word = octets::append(out, at, b"error ");
     let digits = put_decimal(out, word, number);
@@ -98,7 +98,7 @@ fn put_refusal(out: &mut [u8], at: usize, number: u64, carried: Carried) -> usiz
 
 // Appends a refusal's line: `error N`, or `error N M` where it carries one more number, and LF.
 pub fn append_error(out: &mut [u8], at: usize, e: Errno) -> usize
-    ensures { Appended out.old at (errorText e) result out.new }
+    ensures { Appended out.old at (error_text e) result out.new }
 {
     let number = errno::number(e) as u64;
     let carried = errno::detail(e);

@@ -1,7 +1,7 @@
 // Lines out of chunks: a line is kept in a lent buffer until its LF comes. A line that does not fit with its LF is skipped to its LF, and is
 // answered as one bad line.
 ghost use Rattle.std.specs.Prelude.{◌≡◌};
-ghost use Rattle.console.specs.Lines.{Taken, held, lineAtEnd, piece};
+ghost use Rattle.console.specs.Lines.{Taken, held, line_at_end, piece};
 
 use octets::LF;
 
@@ -90,7 +90,7 @@ pub fn take(chunk: &[u8], from: usize, buffer: &mut [u8], partial: Partial) -> P
 
 // At the end of the input: a line that has no LF is bad.
 pub fn last(partial: Partial) -> Line
-    ensures { result ≡ lineAtEnd partial }
+    ensures { result ≡ line_at_end partial }
 {
     if partial.long | (0 < partial.length) {
         return Line::Bad;

@@ -4,68 +4,68 @@ use mathlib.Core.Option.{none}
 use mathlib.Core.Path.{◌≡◌, refl}
 use Prim.Native.Nat.{ℕ}
 use Rattle.common.specs.Answer.{granted, refused}
-use Rattle.label.specs.Example.{exampleOf}
-use Rattle.common.specs.Index.{every, firstFrom, sumFrom}
+use Rattle.label.specs.Example.{example_of}
+use Rattle.common.specs.Index.{every, first_from, sum_from}
 use Rattle.label.specs.Label
-use Rattle.label.specs.Region.{regionOf}
-use Rattle.label.specs.Words.{includesOf, sameOf}
+use Rattle.label.specs.Region.{region_of}
+use Rattle.label.specs.Words.{includes_of, same_of}
 use Rattle.range.specs.Range
 use Rattle.range.specs.Tuple
 use Rattle.segments.specs.Calls
-use Rattle.segments.specs.Calls.{closeCall, lookCall, openCall, postCall}
+use Rattle.segments.specs.Calls.{close_call, look_call, open_call, post_call}
 use Rattle.segment_table.specs.Operator
 use Rattle.segment_table.specs.Replies.{done, opened, shown}
-use Rattle.segment_table.specs.Segments.{emptyTable, segmentOf, slot, tenantId}
+use Rattle.segment_table.specs.Segments.{empty_table, segment_of, slot, tenant_id}
 use Rattle.segment_table.specs.Slots
 use Rattle.segment_table.specs.Sound
-use Rattle.examples.specs.Examples.{AnsweredRequest, Request, ◌gets◌, admit, board, call, ceiling, l, make, openBy, played, sizeBy}
+use Rattle.examples.specs.Examples.{AnsweredRequest, Request, ◌gets◌, admit, board, call, ceiling, l, make, open_by, played, size_by}
 
-abbrev postBy : ℕ → ℕ → ℕ → Request
-postBy t p version = call (postCall (tenantId t) l (slot p) version)
+abbrev post_by : ℕ → ℕ → ℕ → Request
+post_by t p version = call (post_call (tenant_id t) l (slot p) version)
 
-abbrev lookBy : ℕ → ℕ → Request
-lookBy t p = call (lookCall (tenantId t) l (slot p))
+abbrev look_by : ℕ → ℕ → Request
+look_by t p = call (look_call (tenant_id t) l (slot p))
 
-abbrev closeBy : ℕ → ℕ → Request
-closeBy t p = call (closeCall (tenantId t) l (slot p))
+abbrev close_by : ℕ → ℕ → Request
+close_by t p = call (close_call (tenant_id t) l (slot p))
 
 -- an open under (h,{})
-abbrev openUnder : ℕ → ℕ → ℕ → Request
-openUnder h t pages = call (openCall (tenantId t) (exampleOf h []) pages)
+abbrev open_under : ℕ → ℕ → ℕ → Request
+open_under h t pages = call (open_call (tenant_id t) (example_of h []) pages)
 
 abbrev others : List AnsweredRequest
 others =
-    (postBy 0 0 7 gets granted done)
-    ∷ (lookBy 1 0 gets granted (shown (segmentOf l 59 7)))
-    ∷ (sizeBy 1 0 1 gets refused 13 none)
-    ∷ (lookBy 2 0 gets refused 22 none)
-    ∷ (lookBy 0 64 gets refused 22 none)
-    ∷ (openBy 0 0 gets refused 22 none)
+    (post_by 0 0 7 gets granted done)
+    ∷ (look_by 1 0 gets granted (shown (segment_of l 59 7)))
+    ∷ (size_by 1 0 1 gets refused 13 none)
+    ∷ (look_by 2 0 gets refused 22 none)
+    ∷ (look_by 0 64 gets refused 22 none)
+    ∷ (open_by 0 0 gets refused 22 none)
     ∷ (ceiling 0 59 gets refused 16 none)
     ∷ (ceiling 0 61 gets refused 12 none)
     ∷ (ceiling 3 1 gets refused 22 none)
     ∷ (admit 1 1 gets refused 16 none)
-    ∷ (closeBy 1 8 gets granted done)
-    ∷ (lookBy 0 8 gets refused 13 none)
+    ∷ (close_by 1 8 gets granted done)
+    ∷ (look_by 0 8 gets refused 13 none)
     ∷ (ceiling 1 39 gets granted done)
     ∷ (admit 2 1 gets granted done)
-    ∷ (closeBy 0 0 gets granted done)
-    ∷ (openBy 0 2 gets granted (opened (slot 0)))
-    ∷ (openBy 1 1 gets granted (opened (slot 8)))
-    ∷ (openBy 1 1 gets granted (opened (slot 9)))
-    ∷ (openBy 1 1 gets granted (opened (slot 10)))
-    ∷ (openBy 1 1 gets granted (opened (slot 11)))
-    ∷ (openBy 1 1 gets granted (opened (slot 12)))
-    ∷ (openBy 1 1 gets granted (opened (slot 13)))
-    ∷ (openBy 1 1 gets granted (opened (slot 14)))
-    ∷ (openBy 1 1 gets granted (opened (slot 15)))
-    ∷ (openBy 1 40 gets refused 28 none)
-    ∷ (openUnder 21 1 1 gets refused 1 none)
-    ∷ (openUnder 200 1 1 gets refused 22 none)
+    ∷ (close_by 0 0 gets granted done)
+    ∷ (open_by 0 2 gets granted (opened (slot 0)))
+    ∷ (open_by 1 1 gets granted (opened (slot 8)))
+    ∷ (open_by 1 1 gets granted (opened (slot 9)))
+    ∷ (open_by 1 1 gets granted (opened (slot 10)))
+    ∷ (open_by 1 1 gets granted (opened (slot 11)))
+    ∷ (open_by 1 1 gets granted (opened (slot 12)))
+    ∷ (open_by 1 1 gets granted (opened (slot 13)))
+    ∷ (open_by 1 1 gets granted (opened (slot 14)))
+    ∷ (open_by 1 1 gets granted (opened (slot 15)))
+    ∷ (open_by 1 40 gets refused 28 none)
+    ∷ (open_under 21 1 1 gets refused 1 none)
+    ∷ (open_under 200 1 1 gets refused 22 none)
     ∷ (make 0 gets refused 22 none)
     ∷ (make 1048577 gets refused 22 none)
     ∷ []
 
-board-holds : played (emptyTable 0) (board ++ others) ≡ board ++ others
-unfolding every firstFrom sumFrom Label.valid_of Label.dominatesOf Label.equal_of includesOf sameOf regionOf Range.valid_of Range.containsOf Tuple.validAt Tuple.valid_of Tuple.containsAt Tuple.containsOf Tuple.emptyOf Slots.first_slot Slots.slotCount Slots.owns Slots.filled Slots.lowestEmpty Slots.pagesOf Slots.ceilingsOf Sound.admitted Sound.tenantSound Sound.clearedBy Sound.isZeroSegment Sound.slotSound Sound.underCeiling Sound.sound Operator.makeAnswer Operator.makeOf Operator.admitAnswer Operator.admitOf Operator.setCeilingAnswer Operator.setCeilingOf Calls.callValid Calls.cleared Calls.writable Calls.visible Calls.accessOf Calls.decisionOn Calls.step_of
-board-holds = refl
+board_holds : played (empty_table 0) (board ++ others) ≡ board ++ others
+unfolding every first_from sum_from Label.valid_of Label.dominates_of Label.equal_of includes_of same_of region_of Range.valid_of Range.contains_of Tuple.valid_at Tuple.valid_of Tuple.contains_at Tuple.contains_of Tuple.empty_of Slots.first_slot Slots.slot_count Slots.owns Slots.filled Slots.lowest_empty Slots.pages_of Slots.ceilings_of Sound.admitted Sound.tenant_sound Sound.cleared_by Sound.is_zero_segment Sound.slot_sound Sound.under_ceiling Sound.sound Operator.make_answer Operator.make_of Operator.admit_answer Operator.admit_of Operator.set_ceiling_answer Operator.set_ceiling_of Calls.call_valid Calls.cleared Calls.writable Calls.visible Calls.access_of Calls.decision_on Calls.step_of
+board_holds = refl

@@ -5,7 +5,7 @@
 ghost use Rattle.std.specs.Prelude.{◌≡◌, ◌+◌, ◌-◌, ◌*◌, ◌/◌, ◌%◌, ◌<◌, ◌≤◌, true, length, take, ◌==◌, slice_index, slice_set};
 ghost use Rattle.common.specs.Buffer.{WrittenTo, overlay};
 ghost use Rattle.common.specs.Index.{every, tabulate};
-ghost use Rattle.frame.specs.Frame.{body_of, bytes_of, decodedIn, digitOf, digitsOf, frameAnswerOf, framedOf, isDigit, soundBody, spelledOf, sum_of, digitValue};
+ghost use Rattle.frame.specs.Frame.{body_of, bytes_of, decoded_in, digit_of, digits_of, frame_answer_of, framed_of, is_digit, sound_body, spelled_of, sum_of, digit_value};
 
 use common::answer::Written;
 use common::errno::Errno;
@@ -22,13 +22,13 @@ const BLOCK: usize = 16;
 // Letters stand 39 past where the decimal digits would go on. This takes fewer instructions than a choice.
 fn digit(n: u8) -> u8
     requires { n < 16 }
-    ensures { result ≡ digitOf n }
+    ensures { result ≡ digit_of n }
 {
     48 + n + 39 * (n / 10)
 }
 
 fn is_digit(c: u8) -> bool
-    ensures { result ≡ isDigit c }
+    ensures { result ≡ is_digit c }
 {
     ((48 <= c) & (c <= 57)) | ((97 <= c) & (c <= 102))
 }
@@ -43,7 +43,7 @@ fn pair(line: &[u8], i: usize) -> u16
 
 // The byte of two digits, by arithmetic that takes fewer instructions than a choice.
 fn pair_value(p: u16) -> u16
-    ensures { result ≡ digitValue (p % 256) * 16 + digitValue (p / 256) }
+    ensures { result ≡ digit_value (p % 256) * 16 + digit_value (p / 256) }
 {
     let h = p % 256;
     let l = p / 256;
@@ -75,7 +75,7 @@ pub fn byte(line: &[u8], i: usize) -> u8
 // Whether n bytes of a line from index at on are digits. A fault does not end the loop, which tests several at once without a way out.
 fn digits_from(line: &[u8], at: usize, n: usize) -> bool
     requires { at + n ≤ length line.now }
-    ensures { result ≡ every (λ i. isDigit (slice_index line.now (at + i))) n }
+    ensures { result ≡ every (λ i. is_digit (slice_index line.now (at + i))) n }
 {
     let mut good = true;
     let mut i = 0;
@@ -89,7 +89,7 @@ fn digits_from(line: &[u8], at: usize, n: usize) -> bool
 // Whether the first n bytes of a line are digits. The last eight are tested together, some for the second time, so that none is tested alone.
 fn all_digits(line: &[u8], n: usize) -> bool
     requires { n ≤ length line.now }
-    ensures { result ≡ every (λ i. isDigit (slice_index line.now i)) n }
+    ensures { result ≡ every (λ i. is_digit (slice_index line.now i)) n }
 {
     if n < 8 {
         return digits_from(line, 0, n);
@@ -99,7 +99,7 @@ fn all_digits(line: &[u8], n: usize) -> bool
 
 // Whether a line is pairs of digits, then LF and nothing after it.
 fn spelled(line: &[u8]) -> bool
-    ensures { result ≡ spelledOf line.now }
+    ensures { result ≡ spelled_of line.now }
 {
     let n = line.len();
     if n % 2 == 0 {
@@ -176,8 +176,8 @@ fn sums_up(bytes: &[u8], check: u8) -> bool
 
 // Decodes a line that is spelled, its body in all of out, and answers whether it is a frame.
 fn decode_spelled(line: &[u8], out: &mut [u8]) -> bool
-    requires { (spelledOf line.now ≡ true) × (length out.old + 1 ≡ length line.now / 2) }
-    ensures value { result ≡ framedOf line.now }
+    requires { (spelled_of line.now ≡ true) × (length out.old + 1 ≡ length line.now / 2) }
+    ensures value { result ≡ framed_of line.now }
     ensures out_after { out.new ≡ body_of line.now }
 {
     fill(line, out);
@@ -187,8 +187,8 @@ fn decode_spelled(line: &[u8], out: &mut [u8]) -> bool
 // Tests a line and decodes it, its body at the front of out: how many bytes that is, 0 where the line is no frame or has no room. Digits are
 // tested first; then the bytes are made, and added up where they were put.
 pub fn decode(line: &[u8], out: &mut [u8]) -> usize
-    ensures value { result ≡ length (soundBody line.now (length out.old)) }
-    ensures out_after { out.new ≡ decodedIn line.now out.old }
+    ensures value { result ≡ length (sound_body line.now (length out.old)) }
+    ensures out_after { out.new ≡ decoded_in line.now out.old }
 {
     let bytes = line.len() / 2;
     if bytes == 0 {
@@ -211,7 +211,7 @@ pub fn decode(line: &[u8], out: &mut [u8]) -> usize
 // The two digits of b at index at.
 fn put(out: &mut [u8], at: usize, b: u8)
     requires { at + 1 < length out.old }
-    ensures { out.new ≡ slice_set (slice_set out.old at (digitOf (b / 16))) (at + 1) (digitOf (b % 16)) }
+    ensures { out.new ≡ slice_set (slice_set out.old at (digit_of (b / 16))) (at + 1) (digit_of (b % 16)) }
 {
     out[at] = digit(b / 16);
     out[at + 1] = digit(b % 16);
@@ -221,7 +221,7 @@ fn put(out: &mut [u8], at: usize, b: u8)
 fn spell(body: &[u8], out: &mut [u8]) -> u64
     requires { 2 * length body.now ≤ length out.old }
     ensures value { result ≡ sum_of body.now % 256 }
-    ensures out_after { out.new ≡ overlay (digitsOf body.now) out.old }
+    ensures out_after { out.new ≡ overlay (digits_of body.now) out.old }
 {
     let mut s: u64 = 0;
     let mut i = 0;
@@ -235,7 +235,7 @@ fn spell(body: &[u8], out: &mut [u8]) -> u64
 
 // The line of a body, at the front of out.
 pub fn write(body: &[u8], out: &mut [u8]) -> Written
-    ensures { WrittenTo result (frameAnswerOf body.now) out.old out.new }
+    ensures { WrittenTo result (frame_answer_of body.now) out.old out.new }
 {
     let n = body.len();
     if MAX_BODY < n {

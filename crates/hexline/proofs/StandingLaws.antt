@@ -7,107 +7,107 @@ use Prim.Native.Nat.{ℕ, ◌+◌, ◌≤◌, ◌<◌, min}
 use native.Mathlib.Omega.{arith}
 use lib.ListN.{get_or, length, take, length-take}
 use lib.Seq.{ext_get_or, get_or-take}
-use Rattle.common.specs.Answer.{granted, isGranted}
+use Rattle.common.specs.Answer.{granted, is_granted}
 use Rattle.common.specs.Index.{tabulate}
-use Rattle.common.proofs.IndexLaws.{tabulate-at, tabulate-length}
+use Rattle.common.proofs.IndexLaws.{tabulate_at, tabulate_length}
 use Rattle.frame.specs.Frame.{body_of}
-use Rattle.frame.proofs.FrameLaws.{body-small}
-use Rattle.codec.specs.Body.{byte_at, lineWords}
+use Rattle.frame.proofs.FrameLaws.{body_small}
+use Rattle.codec.specs.Body.{byte_at, line_words}
 use Rattle.alias_entry.specs.Entry
-use Rattle.alias_entry.specs.Entry.{TypedEntry, abbreviationBytes, abbreviationSize, at_most, entryFrom, isNameByte, layout_of, nameBytes, name_of, nameSize, textByte, textFrom}
-use Rattle.alias_entry.specs.Internal.Spans.{spanBytes}
-use Rattle.hexline.specs.Line.{abbreviationIn, entryForm, entryIn, nameIn, readEntryLine, standingIn}
+use Rattle.alias_entry.specs.Entry.{TypedEntry, abbreviation_bytes, abbreviation_size, at_most, entry_from, is_name_byte, layout_of, name_bytes, name_of, name_size, text_byte, text_from}
+use Rattle.alias_entry.specs.Internal.Spans.{span_bytes}
+use Rattle.hexline.specs.Line.{abbreviation_in, entry_form, entry_in, name_in, read_entry_line, standing_in}
 use Rattle.alias_entry.specs.declared.Entry.{Entry}
 use Rattle.alias_entry.specs.declared.bytes.Span.{Span}
-use Rattle.alias_entry.proofs.EntryLaws.{label-from-typed, name-byte, text-byte, text-bytes, valid-parts}
-use Rattle.hexline.proofs.LineLaws.{read-contents, read-granted}
+use Rattle.alias_entry.proofs.EntryLaws.{label_from_typed, name_byte, text_byte_lem, text_bytes_lem, valid_parts}
+use Rattle.hexline.proofs.LineLaws.{read_contents, read_granted}
 
 -- ---- of an accepted line, what stands there is what is read, and is valid
 
-pub entry-standing : (line : List ℕ) (e : Entry) → readEntryLine line ≡ granted e → (standingIn line ≡ e) × (Entry.valid_of e ≡ true)
-unfolding standingIn
-entry-standing = read-granted (entryForm 4 lineWords) (entryIn lineWords) Entry.valid_of
+pub entry_standing : (line : List ℕ) (e : Entry) → read_entry_line line ≡ granted e → (standing_in line ≡ e) × (Entry.valid_of e ≡ true)
+unfolding standing_in
+entry_standing = read_granted (entry_form 4 line_words) (entry_in line_words) Entry.valid_of
 
-pub standing-read : (line : List ℕ) → isGranted (readEntryLine line) ≡ true → readEntryLine line ≡ granted (standingIn line)
-unfolding standingIn
-standing-read = read-contents (entryForm 4 lineWords) (entryIn lineWords) Entry.valid_of
+pub standing_read : (line : List ℕ) → is_granted (read_entry_line line) ≡ true → read_entry_line line ≡ granted (standing_in line)
+unfolding standing_in
+standing_read = read_contents (entry_form 4 line_words) (entry_in line_words) Entry.valid_of
 
 -- ---- the bytes at a span
 
-pub span-length : (bs : List ℕ) (s : Span) → length (spanBytes bs s) ≡ s.length
-unfolding spanBytes
-span-length bs s = tabulate-length (λ k. byte_at bs (s.at + k)) s.length
+pub span_length : (bs : List ℕ) (s : Span) → length (span_bytes bs s) ≡ s.length
+unfolding span_bytes
+span_length bs s = tabulate_length (λ k. byte_at bs (s.at + k)) s.length
 
-pub span-at : (bs : List ℕ) (s : Span) (k : ℕ) → k < s.length → get_or (spanBytes bs s) k 0 ≡ byte_at bs (s.at + k)
-unfolding spanBytes
-span-at bs s k h = tabulate-at (λ k. byte_at bs (s.at + k)) s.length k 0 h
+pub span_at : (bs : List ℕ) (s : Span) (k : ℕ) → k < s.length → get_or (span_bytes bs s) k 0 ≡ byte_at bs (s.at + k)
+unfolding span_bytes
+span_at bs s k h = tabulate_at (λ k. byte_at bs (s.at + k)) s.length k 0 h
 
 -- ---- in any line, the texts of what stands there are the bytes at their spans
 
-pub text-stands : (most : ℕ) (bs : List ℕ) (s : Span) → take s.length (textFrom most bs s.at s.length) ≡ spanBytes bs (at_most most s)
-unfolding textFrom
-text-stands most bs s = ext_get_or 0 xs (spanBytes bs (at_most most s)) (size ∙ sym (span-length bs (at_most most s))) at-index
+pub text_stands : (most : ℕ) (bs : List ℕ) (s : Span) → take s.length (text_from most bs s.at s.length) ≡ span_bytes bs (at_most most s)
+unfolding text_from
+text_stands most bs s = ext_get_or 0 xs (span_bytes bs (at_most most s)) (size ∙ sym (span_length bs (at_most most s))) at_index
   where
     n : ℕ
     n = s.length
 
     f : ℕ → ℕ
-    f = textByte bs s.at n
+    f = text_byte bs s.at n
 
     xs : List ℕ
     xs = take n (tabulate f most)
 
     size : length xs ≡ min n most
-    size = let t = tabulate-length f most in let l = length-take n (tabulate f most) in omega arith
+    size = let t = tabulate_length f most in let l = length-take n (tabulate f most) in omega arith
 
-    at-index : (k : ℕ) → k < length xs → get_or xs k 0 ≡ get_or (spanBytes bs (at_most most s)) k 0
-    at-index k l =
+    at_index : (k : ℕ) → k < length xs → get_or xs k 0 ≡ get_or (span_bytes bs (at_most most s)) k 0
+    at_index k l =
         let e = size in
-        get_or-take n (tabulate f most) k 0 (omega arith) ∙ tabulate-at f most k 0 (omega arith) ∙ text-byte bs s.at n k (omega arith)
-        ∙ sym (span-at bs (at_most most s) k (omega arith))
+        get_or-take n (tabulate f most) k 0 (omega arith) ∙ tabulate_at f most k 0 (omega arith) ∙ text_byte_lem bs s.at n k (omega arith)
+        ∙ sym (span_at bs (at_most most s) k (omega arith))
 
-pub name-stands : (line : List ℕ) → nameBytes (standingIn line) ≡ spanBytes (body_of line) (nameIn line)
-unfolding standingIn nameIn entryFrom
-name-stands line = text-stands nameSize (body_of line) (layout_of lineWords (body_of line) 1).name
+pub name_stands : (line : List ℕ) → name_bytes (standing_in line) ≡ span_bytes (body_of line) (name_in line)
+unfolding standing_in name_in entry_from
+name_stands line = text_stands name_size (body_of line) (layout_of line_words (body_of line) 1).name
 
-pub abbreviation-stands : (line : List ℕ) → abbreviationBytes (standingIn line) ≡ spanBytes (body_of line) (abbreviationIn line)
-unfolding standingIn abbreviationIn entryFrom
-abbreviation-stands line = text-stands abbreviationSize (body_of line) (layout_of lineWords (body_of line) 1).abbreviation
+pub abbreviation_stands : (line : List ℕ) → abbreviation_bytes (standing_in line) ≡ span_bytes (body_of line) (abbreviation_in line)
+unfolding standing_in abbreviation_in entry_from
+abbreviation_stands line = text_stands abbreviation_size (body_of line) (layout_of line_words (body_of line) 1).abbreviation
 
 -- ---- in any line, what stands there has what its type says
 
-pub standing-typed : (line : List ℕ) → TypedEntry (standingIn line)
-unfolding standingIn entryFrom textFrom
-standing-typed line =
+pub standing_typed : (line : List ℕ) → TypedEntry (standing_in line)
+unfolding standing_in entry_from text_from
+standing_typed line =
     let bs = body_of line in
-    let p = layout_of lineWords bs 1 in
+    let p = layout_of line_words bs 1 in
     let n = p.name in
     let a = p.abbreviation in
     record {
-      label = label-from-typed lineWords bs p.class 2 (body-small line);
-      name-size = tabulate-length (textByte bs n.at n.length) nameSize;
-      name-byte = text-bytes bs n.at n.length nameSize (body-small line);
-      abbreviation-size = tabulate-length (textByte bs a.at a.length) abbreviationSize;
-      abbreviation-byte = text-bytes bs a.at a.length abbreviationSize (body-small line);
+      label = label_from_typed line_words bs p.class 2 (body_small line);
+      name_has_size = tabulate_length (text_byte bs n.at n.length) name_size;
+      name_byte = text_bytes_lem bs n.at n.length name_size (body_small line);
+      abbreviation_has_size = tabulate_length (text_byte bs a.at a.length) abbreviation_size;
+      abbreviation_byte = text_bytes_lem bs a.at a.length abbreviation_size (body_small line);
     }
 
 -- ---- the texts of a valid entry
 
 -- each byte of a name, or of nothing, is a name byte
-pub text-letters : (bs : List ℕ) (n : ℕ) → name_of bs n ≡ true → (k : ℕ) → k < length (take n bs) → isNameByte (get_or (take n bs) k 0) ≡ true
-text-letters bs n e k h =
+pub text_letters : (bs : List ℕ) (n : ℕ) → name_of bs n ≡ true → (k : ℕ) → k < length (take n bs) → is_name_byte (get_or (take n bs) k 0) ≡ true
+text_letters bs n e k h =
     let l = length-take n bs in
     let i : k < n = omega arith in
-    rw (get_or-take n bs k 0 i) (name-byte bs n e k i)
+    rw (get_or-take n bs k 0 i) (name_byte bs n e k i)
 
-pub name-letters : (e : Entry) → Entry.valid_of e ≡ true → (k : ℕ) → k < length (nameBytes e) → isNameByte (get_or (nameBytes e) k 0) ≡ true
-name-letters e v = text-letters e.name.bytes e.name.length (valid-parts e v).name
+pub name_letters : (e : Entry) → Entry.valid_of e ≡ true → (k : ℕ) → k < length (name_bytes e) → is_name_byte (get_or (name_bytes e) k 0) ≡ true
+name_letters e v = text_letters e.name.bytes e.name.length (valid_parts e v).name
 
-pub abbreviation-letters : (e : Entry) → Entry.valid_of e ≡ true → (k : ℕ) → k < length (abbreviationBytes e)
-    → isNameByte (get_or (abbreviationBytes e) k 0) ≡ true
-abbreviation-letters e v = text-letters e.abbreviation.bytes e.abbreviation.length (valid-parts e v).abbreviation
+pub abbreviation_letters : (e : Entry) → Entry.valid_of e ≡ true → (k : ℕ) → k < length (abbreviation_bytes e)
+    → is_name_byte (get_or (abbreviation_bytes e) k 0) ≡ true
+abbreviation_letters e v = text_letters e.abbreviation.bytes e.abbreviation.length (valid_parts e v).abbreviation
 
 -- ---- the name of an entry of the code's type, valid or not
 
-pub name-length : (e : Entry) → TypedEntry e → length (nameBytes e) ≤ nameSize
-name-length e t = let n = t.name-size in let l = length-take e.name.length e.name.bytes in omega arith
+pub name_length : (e : Entry) → TypedEntry e → length (name_bytes e) ≤ name_size
+name_length e t = let n = t.name_has_size in let l = length-take e.name.length e.name.bytes in omega arith

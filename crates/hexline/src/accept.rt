@@ -2,10 +2,10 @@
 ghost use Rattle.std.specs.Prelude.{◌≡◌, ◌&&◌, ◌+◌, ◌<◌};
 ghost use Rattle.common.specs.Answer.{Answered};
 ghost use Rattle.codec.specs.Codec.{width};
-ghost use Rattle.alias_entry.specs.Entry.{layout_of, valid_of, zeroEntry};
-ghost use Rattle.hexline.specs.Accept.{acceptedBody};
-ghost use Rattle.hexline.specs.Internal.Accept.{valueByteOk};
-ghost use Rattle.hexline.specs.Line.{contentsOf, entryForm, entryIn};
+ghost use Rattle.alias_entry.specs.Entry.{layout_of, valid_of, zero_entry};
+ghost use Rattle.hexline.specs.Accept.{accepted_body};
+ghost use Rattle.hexline.specs.Internal.Accept.{value_byte_ok};
+ghost use Rattle.hexline.specs.Line.{contents_of, entry_form, entry_in};
 
 use alias_entry::bytes::{ENTRY_BYTES, Layout, entry_at, layout_in};
 use alias_entry::{EntryAnswer, text_ok};
@@ -20,7 +20,7 @@ pub const ENTRY_BODY: usize = 1 + ENTRY_BYTES;
 // Whether a body has the form of an alias entry's.
 fn formed(body: &[u8], p: Layout, kind: u8, words: usize) -> bool
     requires { (p ≡ layout_of (width words) body.now 1) × (p.abbreviation.at + p.abbreviation.length < 1024) }
-    ensures { result ≡ entryForm kind (width words) body.now }
+    ensures { result ≡ entry_form kind (width words) body.now }
 {
     let name = p.name;
     let abbreviation = p.abbreviation;
@@ -33,14 +33,14 @@ fn formed(body: &[u8], p: Layout, kind: u8, words: usize) -> bool
 
 // Whether b is the first byte of a value of a class.
 fn value_ok(class: u8, b: u8) -> bool
-    ensures { result ≡ valueByteOk class b }
+    ensures { result ≡ value_byte_ok class b }
 {
     (class == 2) | (b as u64 <= MAX_HIERARCHY)
 }
 
 // Whether a body is that of a valid alias entry: no entry is made.
 fn judge(body: &[u8], kind: u8, words: usize) -> bool
-    ensures { result ≡ (entryForm kind (width words) body.now && valid_of (entryIn (width words) body.now)) }
+    ensures { result ≡ (entry_form kind (width words) body.now && valid_of (entry_in (width words) body.now)) }
 {
     let p = layout_in(body, words);
     if !formed(body, p, kind, words) {
@@ -55,7 +55,7 @@ fn judge(body: &[u8], kind: u8, words: usize) -> bool
 
 // What is read of a body: the alias entry in it.
 pub(crate) fn entry_of(body: &[u8], kind: u8, words: usize) -> EntryAnswer
-    ensures { Answered result.outcome result.entry zeroEntry (contentsOf (entryForm kind (width words)) (entryIn (width words)) valid_of body.now) }
+    ensures { Answered result.outcome result.entry zero_entry (contents_of (entry_form kind (width words)) (entry_in (width words)) valid_of body.now) }
 {
     if !judge(body, kind, words) {
         return EntryAnswer {
@@ -71,7 +71,7 @@ pub(crate) fn entry_of(body: &[u8], kind: u8, words: usize) -> EntryAnswer
 
 // Whether a body is that of an accepted line of kind 04.
 pub fn accepts(body: &[u8]) -> bool
-    ensures { result ≡ acceptedBody body.now }
+    ensures { result ≡ accepted_body body.now }
 {
     judge(body, 4, LINE_WORDS)
 }

@@ -15,8 +15,8 @@ ghost use Rattle.range.specs.Range as ranges;
 ghost use Rattle.range.specs.Tuple as tuples;
 ghost use Rattle.codec.specs.Codec.{width};
 ghost use Rattle.alias_entry.specs.Entry as entries;
-ghost use Rattle.frame.specs.Frame.{frameAnswerOf};
-ghost use Rattle.hexline.specs.Line.{contentsOf, entryLineOf, bodyForm, kindAnswerOf, kindNumbered, lineKindOf, labelForm, labelInBody, labelLineOf, rangeForm, rangeIn, rangeLineOf, readEntryLine, readLabelLine, readRangeLine, readTupleLine, tupleForm, tupleIn, tupleLineOf};
+ghost use Rattle.frame.specs.Frame.{frame_answer_of};
+ghost use Rattle.hexline.specs.Line.{contents_of, entry_line_of, body_form, kind_answer_of, kind_numbered, line_kind_of, label_form, label_in_body, label_line_of, range_form, range_in, range_line_of, read_entry_line, read_label_line, read_range_line, read_tuple_line, tuple_form, tuple_in, tuple_line_of};
 
 use crate::accept::{ENTRY_BODY, entry_of};
 use alias_entry::bytes::append_entry;
@@ -52,7 +52,7 @@ pub enum Kind {
 
 // The kind of a number.
 fn kind_numbered(kind: u8) -> Kind
-    ensures { kindAnswerOf result ≡ kindNumbered kind }
+    ensures { kind_answer_of result ≡ kind_numbered kind }
 {
     if kind == 1 {
         return Kind::OfLabel;
@@ -71,7 +71,7 @@ fn kind_numbered(kind: u8) -> Kind
 
 // Which reader a line is for.
 pub fn kind_of(line: &[u8]) -> Kind
-    ensures { kindAnswerOf result ≡ lineKindOf line.now }
+    ensures { kind_answer_of result ≡ line_kind_of line.now }
 {
     let mut bytes = [0u8; TUPLE_BODY];
     let n = frame::decode(line, &mut bytes);
@@ -80,14 +80,14 @@ pub fn kind_of(line: &[u8]) -> Kind
 
 // The line of a body, the first n bytes.
 fn write_line(bytes: &[u8], n: usize, out: &mut [u8]) -> Written
-    ensures { WrittenTo result (frameAnswerOf (take n bytes.now)) out.old out.new }
+    ensures { WrittenTo result (frame_answer_of (take n bytes.now)) out.old out.new }
 {
     frame::write(octets::front(bytes, n), out)
 }
 
 // The line of a label, kind 01.
 pub fn write_label(l: Label, out: &mut [u8]) -> Written
-    ensures { WrittenTo result (labelLineOf l) out.old out.new }
+    ensures { WrittenTo result (label_line_of l) out.old out.new }
 {
     if !label::valid(l) {
         return Written::Refused(Errno::Invalid);
@@ -100,7 +100,7 @@ pub fn write_label(l: Label, out: &mut [u8]) -> Written
 
 // The line of a range, kind 02.
 pub fn write_range(x: Range, out: &mut [u8]) -> Written
-    ensures { WrittenTo result (rangeLineOf x) out.old out.new }
+    ensures { WrittenTo result (range_line_of x) out.old out.new }
 {
     if !range::valid(x) {
         return Written::Refused(Errno::Invalid);
@@ -113,7 +113,7 @@ pub fn write_range(x: Range, out: &mut [u8]) -> Written
 
 // The line of a tuple, kind 03.
 pub fn write_tuple(t: Tuple, out: &mut [u8]) -> Written
-    ensures { WrittenTo result (tupleLineOf t) out.old out.new }
+    ensures { WrittenTo result (tuple_line_of t) out.old out.new }
 {
     if !tuple::valid(t) {
         return Written::Refused(Errno::Invalid);
@@ -126,7 +126,7 @@ pub fn write_tuple(t: Tuple, out: &mut [u8]) -> Written
 
 // The line of an alias entry, kind 04.
 pub fn write_entry(e: Entry, out: &mut [u8]) -> Written
-    ensures { WrittenTo result (entryLineOf e) out.old out.new }
+    ensures { WrittenTo result (entry_line_of e) out.old out.new }
 {
     if !alias_entry::valid(e) {
         return Written::Refused(Errno::Invalid);
@@ -139,13 +139,13 @@ pub fn write_entry(e: Entry, out: &mut [u8]) -> Written
 
 // Whether a body has that many bytes, and that kind.
 fn has_form(body: &[u8], bytes: usize, kind: u8) -> bool
-    ensures { result ≡ bodyForm body.now bytes kind }
+    ensures { result ≡ body_form body.now bytes kind }
 {
     (body.len() == bytes) & (byte(body, 0) == kind)
 }
 
 fn no_label() -> LabelAnswer
-    ensures { (result.outcome ≡ Refused Invalid) × (result.label ≡ labels.zeroLabel) }
+    ensures { (result.outcome ≡ Refused Invalid) × (result.label ≡ labels.zero_label) }
 {
     LabelAnswer {
         outcome: Outcome::Refused(Errno::Invalid),
@@ -155,7 +155,7 @@ fn no_label() -> LabelAnswer
 
 // What is read of a body: the label in it.
 fn label_of(body: &[u8], kind: u8, words: usize) -> LabelAnswer
-    ensures { Answered result.outcome result.label labels.zeroLabel (contentsOf (labelForm kind (width words)) (labelInBody (width words)) labels.valid_of body.now) }
+    ensures { Answered result.outcome result.label labels.zero_label (contents_of (label_form kind (width words)) (label_in_body (width words)) labels.valid_of body.now) }
 {
     if !has_form(body, 1 + label_size(words), kind) {
         return no_label();
@@ -172,7 +172,7 @@ fn label_of(body: &[u8], kind: u8, words: usize) -> LabelAnswer
 
 // The label of a line of kind 01.
 pub fn read_label(line: &[u8]) -> LabelAnswer
-    ensures { Answered result.outcome result.label labels.zeroLabel (readLabelLine line.now) }
+    ensures { Answered result.outcome result.label labels.zero_label (read_label_line line.now) }
 {
     let mut bytes = [0u8; LABEL_BODY];
     let n = frame::decode(line, &mut bytes);
@@ -180,7 +180,7 @@ pub fn read_label(line: &[u8]) -> LabelAnswer
 }
 
 fn no_range() -> RangeAnswer
-    ensures { (result.outcome ≡ Refused Invalid) × (result.range ≡ ranges.zeroRange) }
+    ensures { (result.outcome ≡ Refused Invalid) × (result.range ≡ ranges.zero_range) }
 {
     RangeAnswer {
         outcome: Outcome::Refused(Errno::Invalid),
@@ -190,7 +190,7 @@ fn no_range() -> RangeAnswer
 
 // What is read of a body: the range in it.
 fn range_of(body: &[u8], kind: u8, words: usize) -> RangeAnswer
-    ensures { Answered result.outcome result.range ranges.zeroRange (contentsOf (rangeForm kind (width words)) (rangeIn (width words)) ranges.valid_of body.now) }
+    ensures { Answered result.outcome result.range ranges.zero_range (contents_of (range_form kind (width words)) (range_in (width words)) ranges.valid_of body.now) }
 {
     if !has_form(body, 1 + range_size(words), kind) {
         return no_range();
@@ -207,7 +207,7 @@ fn range_of(body: &[u8], kind: u8, words: usize) -> RangeAnswer
 
 // The range of a line of kind 02.
 pub fn read_range(line: &[u8]) -> RangeAnswer
-    ensures { Answered result.outcome result.range ranges.zeroRange (readRangeLine line.now) }
+    ensures { Answered result.outcome result.range ranges.zero_range (read_range_line line.now) }
 {
     let mut bytes = [0u8; RANGE_BODY];
     let n = frame::decode(line, &mut bytes);
@@ -216,14 +216,14 @@ pub fn read_range(line: &[u8]) -> RangeAnswer
 
 // Whether a body has the form of a tuple's: that kind, and as many ranges as its byte of presence says.
 fn has_tuple_form(body: &[u8], kind: u8, words: usize) -> bool
-    ensures { result ≡ tupleForm kind (width words) body.now }
+    ensures { result ≡ tuple_form kind (width words) body.now }
 {
     let p = byte(body, 1);
     (p < 8) & has_form(body, 1 + tuple_size(p, words), kind)
 }
 
 fn no_tuple() -> TupleAnswer
-    ensures { (result.outcome ≡ Refused Invalid) × (result.tuple ≡ tuples.emptyTuple) }
+    ensures { (result.outcome ≡ Refused Invalid) × (result.tuple ≡ tuples.empty_tuple) }
 {
     TupleAnswer {
         outcome: Outcome::Refused(Errno::Invalid),
@@ -233,7 +233,7 @@ fn no_tuple() -> TupleAnswer
 
 // What is read of a body: the tuple in it.
 fn tuple_of(body: &[u8], kind: u8, words: usize) -> TupleAnswer
-    ensures { Answered result.outcome result.tuple tuples.emptyTuple (contentsOf (tupleForm kind (width words)) (tupleIn (width words)) tuples.valid_of body.now) }
+    ensures { Answered result.outcome result.tuple tuples.empty_tuple (contents_of (tuple_form kind (width words)) (tuple_in (width words)) tuples.valid_of body.now) }
 {
     if !has_tuple_form(body, kind, words) {
         return no_tuple();
@@ -250,7 +250,7 @@ fn tuple_of(body: &[u8], kind: u8, words: usize) -> TupleAnswer
 
 // The tuple of a line of kind 03.
 pub fn read_tuple(line: &[u8]) -> TupleAnswer
-    ensures { Answered result.outcome result.tuple tuples.emptyTuple (readTupleLine line.now) }
+    ensures { Answered result.outcome result.tuple tuples.empty_tuple (read_tuple_line line.now) }
 {
     let mut bytes = [0u8; TUPLE_BODY];
     let n = frame::decode(line, &mut bytes);
@@ -259,7 +259,7 @@ pub fn read_tuple(line: &[u8]) -> TupleAnswer
 
 // The alias entry of a line of kind 04.
 pub fn read_entry(line: &[u8]) -> EntryAnswer
-    ensures { Answered result.outcome result.entry entries.zeroEntry (readEntryLine line.now) }
+    ensures { Answered result.outcome result.entry entries.zero_entry (read_entry_line line.now) }
 {
     let mut bytes = [0u8; ENTRY_BODY];
     let n = frame::decode(line, &mut bytes);

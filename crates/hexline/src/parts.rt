@@ -3,9 +3,9 @@
 ghost use Rattle.std.specs.Prelude.{◌≡◌, ◌+◌, ◌<◌, ◌≤◌, length};
 ghost use Rattle.common.specs.Index.{tabulate};
 ghost use Rattle.frame.specs.Frame.{body_of};
-ghost use Rattle.codec.specs.Body.{byte_at, lineWords};
-ghost use Rattle.alias_entry.specs.Entry.{abbreviationSize, at_most, layout_of, nameSize, span_of};
-ghost use Rattle.hexline.specs.Line.{abbreviationIn, nameIn, standingIn};
+ghost use Rattle.codec.specs.Body.{byte_at, line_words};
+ghost use Rattle.alias_entry.specs.Entry.{abbreviation_size, at_most, layout_of, name_size, span_of};
+ghost use Rattle.hexline.specs.Line.{abbreviation_in, name_in, standing_in};
 
 use alias_entry::bytes::{Layout, Span, value_from, value_size};
 use alias_entry::{ABBREVIATION_BYTES, NAME_BYTES, Value};
@@ -50,7 +50,7 @@ fn span_at(line: &[u8], at: usize) -> Span
 
 // The layout of the entry in a line's body.
 fn layout_at(line: &[u8]) -> Layout
-    ensures value { result ≡ layout_of lineWords (body_of line.now) 1 }
+    ensures value { result ≡ layout_of line_words (body_of line.now) 1 }
     ensures at_bound { (result.name.at < 512) × (result.abbreviation.at < 768) × (result.abbreviation.length < 256) }
 {
     let class = frame::byte(line, 1);
@@ -65,7 +65,7 @@ fn layout_at(line: &[u8]) -> Layout
 
 // What the entry stands for; of a whole label, `label` has the label.
 pub fn value(line: &[u8]) -> Value
-    ensures { result ≡ (standingIn line.now).value }
+    ensures { result ≡ (standing_in line.now).value }
 {
     value_from(frame::byte(line, 1), frame::byte(line, 2))
 }
@@ -84,7 +84,7 @@ fn bytes_from(line: &[u8], at: usize, out: &mut [u8])
 
 // The hierarchy of that label.
 pub fn hierarchy(line: &[u8]) -> u64
-    ensures { result ≡ (standingIn line.now).label.hierarchy }
+    ensures { result ≡ (standing_in line.now).label.hierarchy }
 {
     if frame::byte(line, 1) == 3 {
         return frame::byte(line, 2) as u64;
@@ -94,7 +94,7 @@ pub fn hierarchy(line: &[u8]) -> u64
 
 // The label of the entry, zeros where its class has none.
 pub fn label(line: &[u8]) -> Label
-    ensures { result ≡ (standingIn line.now).label }
+    ensures { result ≡ (standing_in line.now).label }
 {
     if frame::byte(line, 1) == 3 {
         let mut bytes = [0u8; LABEL_BYTES];
@@ -106,8 +106,8 @@ pub fn label(line: &[u8]) -> Label
 
 // Where the texts of the entry stand in the line's body. The second clause follows, and is stated for callers.
 pub fn texts(line: &[u8]) -> TextSpans
-    ensures name_value { (result.name ≡ nameIn line.now) × (result.abbreviation ≡ abbreviationIn line.now) }
-    ensures length_bound { (result.name.at + result.name.length < 1024) × (result.name.length ≤ nameSize) × (result.abbreviation.at + result.abbreviation.length < 1024) × (result.abbreviation.length ≤ abbreviationSize) }
+    ensures name_value { (result.name ≡ name_in line.now) × (result.abbreviation ≡ abbreviation_in line.now) }
+    ensures length_bound { (result.name.at + result.name.length < 1024) × (result.name.length ≤ name_size) × (result.abbreviation.at + result.abbreviation.length < 1024) × (result.abbreviation.length ≤ abbreviation_size) }
 {
     let p = layout_at(line);
     TextSpans {

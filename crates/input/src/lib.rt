@@ -3,7 +3,7 @@
 #![tactic(auto)]
 
 ghost use Rattle.std.specs.Prelude.{false, ◌≡◌, length};
-ghost use Rattle.input.specs.Input.{NextLine, Pieced, Refilled, Stepped, Waited, emptyInput, linesAfter, linesWith, mostLines, turnAfterRead, waitsOf};
+ghost use Rattle.input.specs.Input.{NextLine, Pieced, Refilled, Stepped, Waited, empty_input, lines_after, lines_with, most_lines, turn_after_read, waits_of};
 
 use console::lines;
 use console::lines::{Line, Partial};
@@ -42,7 +42,7 @@ pub struct Lines {
 
 // Nothing is held and nothing is left to take.
 fn empty_input(ended: bool, failed: bool) -> Input
-    ensures { result ≡ emptyInput ended failed }
+    ensures { result ≡ empty_input ended failed }
 {
     Input {
         partial: lines::start(),
@@ -55,13 +55,13 @@ fn empty_input(ended: bool, failed: bool) -> Input
 
 // No line is at hand yet.
 pub fn start() -> Lines
-    ensures { result ≡ linesWith (emptyInput false false) 0 mostLines }
+    ensures { result ≡ lines_with (empty_input false false) 0 most_lines }
 {
     lines_with(empty_input(false, false), 0, u64::MAX)
 }
 
 fn lines_with(input: Input, length: usize, left: u64) -> Lines
-    ensures { result ≡ linesWith input length left }
+    ensures { result ≡ lines_with input length left }
 {
     Lines {
         input,
@@ -90,7 +90,7 @@ fn next_piece(i: Input, chunk: &[u8], line: &mut [u8]) -> Turn
 
 // What a read of n bytes makes. No bytes are the end of the input, or a read that failed, which ends it too.
 fn after_read(partial: Partial, n: usize, failed: bool) -> Turn
-    ensures { result ≡ turnAfterRead partial n failed }
+    ensures { result ≡ turn_after_read partial n failed }
 {
     if n == 0 {
         let input = empty_input(true, failed);
@@ -134,7 +134,7 @@ fn step(i: Input, chunk: &mut [u8], line: &mut [u8]) -> Turn
 
 // Whether a step is to be followed by another: it made no line and did not find the end.
 fn waits(t: Turn) -> bool
-    ensures { result ≡ waitsOf t }
+    ensures { result ≡ waits_of t }
 {
     let input = t.input;
     let line = t.line;
@@ -163,7 +163,7 @@ fn steps(i: Input, chunk: &mut [u8], line: &mut [u8]) -> Turn
 
 // The lines after a step, where so many may still come.
 fn after_step(left: u64, t: Turn) -> Lines
-    ensures { result ≡ linesAfter left t.input t.line }
+    ensures { result ≡ lines_after left t.input t.line }
 {
     let input = t.input;
     let line = t.line;

@@ -3,10 +3,10 @@ use Rattle.std.specs.Prelude.{true, cond, ◌⊎◌, ◌↔◌, ◌≡◌, ℕ, 
 use mathlib.Core.List.{List, [], ◌∷◌, Forall₂}
 use Rattle.std.proofs.Math.Option.{Option, none, some}
 use Rattle.common.specs.Answer.{Answer, refused}
-use Rattle.segments.specs.Calls.{callRow, step_of, visible}
+use Rattle.segments.specs.Calls.{call_row, step_of, visible}
 use Rattle.segment_table.specs.Replies.{Grant}
-use Rattle.segment_table.specs.Segments.{ceilingAt, clearanceAt, segmentAt, tenantTotal}
-use Rattle.segment_table.specs.Slots.{owns, pagesOf}
+use Rattle.segment_table.specs.Segments.{ceiling_at, clearance_at, segment_at, tenant_total}
+use Rattle.segment_table.specs.Slots.{owns, pages_of}
 use Rattle.segment_table.specs.Sound.{sound}
 use Rattle.segments.specs.declared.Call.{Call}
 use Rattle.segment_table.specs.declared.SegmentTable.{SegmentTable}
@@ -49,8 +49,8 @@ project call t (x ∷ xs) = cond (eqb (call x).tenant.0 t.0) (x ∷ project call
 abbrev pub calls_of : TenantId → List Call → List Call
 calls_of t = project (λ c. c) t
 
-abbrev pub tenantEntries : TenantId → List Entry → List Entry
-tenantEntries t = project (λ e. e.call) t
+abbrev pub tenant_entries : TenantId → List Entry → List Entry
+tenant_entries t = project (λ e. e.call) t
 
 abbrev pub Interleaving : List Call → List Call → Type 0
 Interleaving xs ys = (t : TenantId) → calls_of t xs ≡ calls_of t ys
@@ -58,9 +58,9 @@ Interleaving xs ys = (t : TenantId) → calls_of t xs ≡ calls_of t ys
 -- "Every open, size, post and close gets the same answer in both, and so does every look at a place of the caller's own."
 
 -- the slot of a look that is not at a place of the caller's own
-abbrev pub otherSlot : SegmentTable → TenantId → Option Slot → Option Slot
-otherSlot s t none = none
-otherSlot s t (some p) = cond (owns s t p) none (some p)
+abbrev pub other_slot : SegmentTable → TenantId → Option Slot → Option Slot
+other_slot s t none = none
+other_slot s t (some p) = cond (owns s t p) none (some p)
 
 -- "Any other look gets different answers exactly when neither is the refusal 22 or 1, its place doesn't hold the same in both lists at
 -- that moment, and in at least one the looker's label dominates the label there (an empty place has none)."
@@ -71,7 +71,7 @@ Not22or1 a = (detail : Option ℕ) → (a ≡ refused 22 detail → ⊥) × (a �
 
 pub record Different (p : Slot) (e f : Entry) : Type 0 where
   pub unrefused : Not22or1 e.answer × Not22or1 f.answer
-  pub changed : segmentAt e.table p ≡ segmentAt f.table p → ⊥
+  pub changed : segment_at e.table p ≡ segment_at f.table p → ⊥
   pub seen : (visible e.table e.call.label p ≡ true) ⊎ (visible f.table f.call.label p ≡ true)
 
 -- a look at slot p, not of the caller's own: when the answers differ, and that else they are equal
@@ -86,16 +86,16 @@ Compared (some p) e f = LookCompared p e f
 -- a tenant's k-th calls in two lists
 pub record Agree (e f : Entry) : Type 0 where
   pub call : e.call ≡ f.call
-  pub answer : Compared (otherSlot e.table e.call.tenant (callRow e.call.action).lookedAt) e f
+  pub answer : Compared (other_slot e.table e.call.tenant (call_row e.call.action).looked_at) e f
 
 -- "At the start and after every call, pool, clearances and ceilings are as they began, and each tenant's open pages are at most its
 -- ceiling."
 
 pub record Limited (s u : SegmentTable) : Type 0 where
   pub pool : u.pool ≡ s.pool
-  pub clearances : (t : TenantId) → clearanceAt u t ≡ clearanceAt s t
-  pub ceilings : (t : TenantId) → ceilingAt u t ≡ ceilingAt s t
-  pub pages : (t : TenantId) → t.0 < tenantTotal → pagesOf u t ≤ ceilingAt u t
+  pub clearances : (t : TenantId) → clearance_at u t ≡ clearance_at s t
+  pub ceilings : (t : TenantId) → ceiling_at u t ≡ ceiling_at s t
+  pub pages : (t : TenantId) → t.0 < tenant_total → pages_of u t ≤ ceiling_at u t
 
 unfoldable pub Each : {A : Type 0} → (A → Type 0) → List A → Type 0
 Each P [] = Unit {0}
@@ -106,7 +106,7 @@ pub record Isolated (s : SegmentTable) (xs ys : List Call) : Type 0 where
   -- "From the same board both lists end in the same board."
   pub table : run s xs ≡ run s ys
   -- the two sentences on answers, of every tenant number: its calls one by one, so also as many in both
-  pub answers : (t : TenantId) → Forall₂ Agree (tenantEntries t (trace s xs)) (tenantEntries t (trace s ys))
+  pub answers : (t : TenantId) → Forall₂ Agree (tenant_entries t (trace s xs)) (tenant_entries t (trace s ys))
   -- the sentence on what stays, of either list
   pub limits : Each (Limited s) (states s xs) × Each (Limited s) (states s ys)
 

@@ -15,91 +15,91 @@ use lib.Dec.{eqb}
 use lib.ListN.{length, get_or, length-append, get_or-append, get_or-eq_default}
 use lib.Pow.{pow_pos, mod-pow-add, shr-shr, shr_le}
 use lib.Seq.{get_or_at}
-use Rattle.common.specs.Index.{firstFrom}
-use Rattle.label.specs.Words.{bit, has, listedIf, membersBelow, members_of, nextCategoryFrom, word_at}
-use Rattle.label.proofs.BitLaws.{bit_high, bit-suc, bit-zero}
-use Rattle.common.proofs.IndexLaws.{le-or-lt}
-use Rattle.common.proofs.SearchLaws.{Least, first-least, first-none, hit, pass, search-end}
-use Rattle.label.proofs.WordLaws.{has-at}
+use Rattle.common.specs.Index.{first_from}
+use Rattle.label.specs.Words.{bit, has, listed_if, members_below, members_of, next_category_from, word_at}
+use Rattle.label.proofs.BitLaws.{bit_high, bit_suc, bit_zero}
+use Rattle.common.proofs.IndexLaws.{le_or_lt}
+use Rattle.common.proofs.SearchLaws.{Least, first_least, first_none, hit, pass, search_end}
+use Rattle.label.proofs.WordLaws.{has_at}
 
-no-bit : (j : ℕ) → bit 0 j ≡ false
-no-bit j = bit_high 0 j j (pow_pos j) (le_refl j)
+no_bit : (j : ℕ) → bit 0 j ≡ false
+no_bit j = bit_high 0 j j (pow_pos j) (le_refl j)
 
 -- no category lies past the last word
-pub has-beyond : (ws : List ℕ) (c : ℕ) → length ws * 64 ≤ c → has ws c ≡ false
+pub has_beyond : (ws : List ℕ) (c : ℕ) → length ws * 64 ≤ c → has ws c ≡ false
 unfolding has
-has-beyond ws c h = ap (λ (w : ℕ). bit w (c % 64)) (get_or-eq_default ws 0 (omega arith)) ∙ no-bit (c % 64)
+has_beyond ws c h = ap (λ (w : ℕ). bit w (c % 64)) (get_or-eq_default ws 0 (omega arith)) ∙ no_bit (c % 64)
 
 pub has_within : (ws : List ℕ) (c : ℕ) → has ws c ≡ true → c < length ws * 64
-has_within ws c h = ⊎_elim (λ l. absurd (true≢false (sym h ∙ has-beyond ws c l))) (λ l. l) (le-or-lt (length ws * 64) c)
+has_within ws c h = ⊎_elim (λ l. absurd (true≢false (sym h ∙ has_beyond ws c l))) (λ l. l) (le_or_lt (length ws * 64) c)
 
 -- ---- the number of categories
 
-abbrev toN : Bool → ℕ
-toN true = 1
-toN false = 0
+abbrev to_n : Bool → ℕ
+to_n true = 1
+to_n false = 0
 
-length-listed : (p : Bool) (c : ℕ) (l : List ℕ) → length (listedIf p c l) ≡ length l + toN p
-length-listed true c l = length-append l (c ∷ [])
-length-listed false c l = sym (add-zero (length l))
+length_listed : (p : Bool) (c : ℕ) (l : List ℕ) → length (listed_if p c l) ≡ length l + to_n p
+length_listed true c l = length-append l (c ∷ [])
+length_listed false c l = sym (add-zero (length l))
 
-ones-digit : (r : ℕ) → r < 2 → ones r ≡ toN (eqb r 1)
+ones_digit : (r : ℕ) → r < 2 → ones r ≡ to_n (eqb r 1)
 unfolding ones
-ones-digit zero h = refl
-ones-digit (suc zero) h = refl
-ones-digit (suc (suc r)) h = absurd (omega arith)
+ones_digit zero h = refl
+ones_digit (suc zero) h = refl
+ones_digit (suc (suc r)) h = absurd (omega arith)
 
-ones-suc : (w k : ℕ) → ones (w % 2 ^ suc k) ≡ ones (w % 2 ^ k) + toN (bit w k)
+ones_suc : (w k : ℕ) → ones (w % 2 ^ suc k) ≡ ones (w % 2 ^ k) + to_n (bit w k)
 unfolding bit
-ones-suc w k =
+ones_suc w k =
     ap (λ (e : ℕ). ones (w % 2 ^ e)) (sym (one-add k)) ∙ ap ones (mod-pow-add w 1 k)
     ∙ ones_cat k (w / 2 ^ k % 2) (w % 2 ^ k) (mod-lt w (pow_pos k))
-    ∙ ap (λ (n : ℕ). n + ones (w % 2 ^ k)) (ones-digit (w / 2 ^ k % 2) (mod-lt (w / 2 ^ k) (zero-lt-suc 1)))
+    ∙ ap (λ (n : ℕ). n + ones (w % 2 ^ k)) (ones_digit (w / 2 ^ k % 2) (mod-lt (w / 2 ^ k) (zero-lt-suc 1)))
     ∙ add_comm _ (ones (w % 2 ^ k))
 
-below_word : (ws : List ℕ) (i k : ℕ) → k ≤ 64 → length (membersBelow ws (i * 64 + k)) ≡ length (membersBelow ws (i * 64)) + ones (word_at ws i % 2 ^ k)
-unfolding membersBelow ones
+below_word : (ws : List ℕ) (i k : ℕ) → k ≤ 64 → length (members_below ws (i * 64 + k)) ≡ length (members_below ws (i * 64)) + ones (word_at ws i % 2 ^ k)
+unfolding members_below ones
 below_word ws i zero h =
-    ap (λ (c : ℕ). length (membersBelow ws c)) (add-zero (i * 64)) ∙ sym (add-zero _)
-    ∙ ap (λ (n : ℕ). length (membersBelow ws (i * 64)) + ones n) (sym (mod-one (word_at ws i)))
+    ap (λ (c : ℕ). length (members_below ws c)) (add-zero (i * 64)) ∙ sym (add-zero _)
+    ∙ ap (λ (n : ℕ). length (members_below ws (i * 64)) + ones n) (sym (mod-one (word_at ws i)))
 below_word ws i (suc k) h =
-    ap (λ (c : ℕ). length (membersBelow ws c)) (add-suc (i * 64) k)
-    ∙ length-listed (has ws (i * 64 + k)) (i * 64 + k) (membersBelow ws (i * 64 + k))
-    ∙ ap₂ (λ (n : ℕ) (p : Bool). n + toN p) (below_word ws i k (omega arith)) (has-at ws i k h)
-    ∙ add_assoc (length (membersBelow ws (i * 64))) (ones (word_at ws i % 2 ^ k)) (toN (bit (word_at ws i) k))
-    ∙ ap (λ (n : ℕ). length (membersBelow ws (i * 64)) + n) (sym (ones-suc (word_at ws i) k))
+    ap (λ (c : ℕ). length (members_below ws c)) (add-suc (i * 64) k)
+    ∙ length_listed (has ws (i * 64 + k)) (i * 64 + k) (members_below ws (i * 64 + k))
+    ∙ ap₂ (λ (n : ℕ) (p : Bool). n + to_n p) (below_word ws i k (omega arith)) (has_at ws i k h)
+    ∙ add_assoc (length (members_below ws (i * 64))) (ones (word_at ws i % 2 ^ k)) (to_n (bit (word_at ws i) k))
+    ∙ ap (λ (n : ℕ). length (members_below ws (i * 64)) + n) (sym (ones_suc (word_at ws i) k))
 
 -- a word more has as many categories more as it has set bits
 pub below_more : (ws : List ℕ) (i : ℕ) → word_at ws i < 2 ^ 64
-    → length (membersBelow ws ((i + 1) * 64)) ≡ length (membersBelow ws (i * 64)) + ones (word_at ws i)
+    → length (members_below ws ((i + 1) * 64)) ≡ length (members_below ws (i * 64)) + ones (word_at ws i)
 below_more ws i h =
     let e : (i + 1) * 64 ≡ i * 64 + 64 = omega arith in
-    ap (λ (c : ℕ). length (membersBelow ws c)) e ∙ below_word ws i 64 (le_refl 64)
-    ∙ ap (λ (n : ℕ). length (membersBelow ws (i * 64)) + ones n) (mod-eq_of_lt h)
+    ap (λ (c : ℕ). length (members_below ws c)) e ∙ below_word ws i 64 (le_refl 64)
+    ∙ ap (λ (n : ℕ). length (members_below ws (i * 64)) + ones n) (mod-eq_of_lt h)
 
 -- ---- the lowest set bit
 
-tz-low : (k x j : ℕ) → j < count_trailing_zeros k x → bit x j ≡ false
+tz_low : (k x j : ℕ) → j < count_trailing_zeros k x → bit x j ≡ false
 unfolding count_trailing_zeros
-tz-low zero x j h = absurd (omega arith)
-tz-low (suc k) x j h = go (x % 2) refl j h (tz-low k (x / 2))
+tz_low zero x j h = absurd (omega arith)
+tz_low (suc k) x j h = go (x % 2) refl j h (tz_low k (x / 2))
   where
     go : (r : ℕ) → x % 2 ≡ r → (j : ℕ) → j < under r (count_trailing_zeros k (x / 2)) → ((i : ℕ) → i < count_trailing_zeros k (x / 2) → bit (x / 2) i ≡ false) → bit x j ≡ false
-    go zero e zero l ih = bit-zero x ∙ ap (λ (z : ℕ). eqb z 1) e
-    go zero e (suc i) l ih = bit-suc x i ∙ ih i (le_of_suc-le-suc l)
+    go zero e zero l ih = bit_zero x ∙ ap (λ (z : ℕ). eqb z 1) e
+    go zero e (suc i) l ih = bit_suc x i ∙ ih i (le_of_suc-le-suc l)
     go (suc r) e i l ih = absurd (omega arith)
 
 is_one : (x r : ℕ) → x % 2 ≡ suc r → x % 2 ≡ 1
 is_one x r e = omega arith
 
-tz-hit : (k x : ℕ) → 0 < x → x < 2 ^ k → bit x (count_trailing_zeros k x) ≡ true
+tz_hit : (k x : ℕ) → 0 < x → x < 2 ^ k → bit x (count_trailing_zeros k x) ≡ true
 unfolding count_trailing_zeros
-tz-hit zero x p h = absurd (omega arith)
-tz-hit (suc k) x p h = go (x % 2) refl (λ q. tz-hit k (x / 2) q ((div-lt_iff_lt-mul (zero-lt-suc 1)).1 (rw pow-suc at h)))
+tz_hit zero x p h = absurd (omega arith)
+tz_hit (suc k) x p h = go (x % 2) refl (λ q. tz_hit k (x / 2) q ((div-lt_iff_lt-mul (zero-lt-suc 1)).1 (rw pow-suc at h)))
   where
     go : (r : ℕ) → x % 2 ≡ r → (0 < x / 2 → bit (x / 2) (count_trailing_zeros k (x / 2)) ≡ true) → bit x (under r (count_trailing_zeros k (x / 2))) ≡ true
-    go zero e ih = bit-suc x _ ∙ ih (omega arith)
-    go (suc r) e ih = bit-zero x ∙ ap (λ (z : ℕ). eqb z 1) (is_one x r e)
+    go zero e ih = bit_suc x _ ∙ ih (omega arith)
+    go (suc r) e ih = bit_zero x ∙ ap (λ (z : ℕ). eqb z 1) (is_one x r e)
 
 -- ---- the next category, word by word
 
@@ -107,177 +107,177 @@ tz-hit (suc k) x p h = go (x % 2) refl (λ q. tz-hit k (x / 2) q ((div-lt_iff_lt
 abbrev pub shifted : List ℕ → ℕ → ℕ
 shifted ws c = word_at ws (c / 64) / 2 ^ (c % 64)
 
-bit-shr : (w s j : ℕ) → bit w (s + j) ≡ bit (w / 2 ^ s) j
+bit_shr : (w s j : ℕ) → bit w (s + j) ≡ bit (w / 2 ^ s) j
 unfolding bit
-bit-shr w s j = ap (λ (z : ℕ). eqb (z % 2) 1) (sym (shr-shr w s j))
+bit_shr w s j = ap (λ (z : ℕ). eqb (z % 2) 1) (sym (shr-shr w s j))
 
-has-shifted : (ws : List ℕ) (c j : ℕ) → c % 64 + j < 64 → has ws (c + j) ≡ bit (shifted ws c) j
-has-shifted ws c j h =
+has_shifted : (ws : List ℕ) (c j : ℕ) → c % 64 + j < 64 → has ws (c + j) ≡ bit (shifted ws c) j
+has_shifted ws c j h =
     let e : c + j ≡ c / 64 * 64 + (c % 64 + j) = omega arith in
-    ap (has ws) e ∙ has-at ws (c / 64) (c % 64 + j) h ∙ bit-shr (word_at ws (c / 64)) (c % 64) j
+    ap (has ws) e ∙ has_at ws (c / 64) (c % 64 + j) h ∙ bit_shr (word_at ws (c / 64)) (c % 64) j
 
 -- the lowest set bit of a shifted word lies in the word
-tz-inside : (w s : ℕ) → w < 2 ^ 64 → 0 < w / 2 ^ s → s + count_trailing_zeros 64 (w / 2 ^ s) < 64
-tz-inside w s h p =
+tz_inside : (w s : ℕ) → w < 2 ^ 64 → 0 < w / 2 ^ s → s + count_trailing_zeros 64 (w / 2 ^ s) < 64
+tz_inside w s h p =
     lt_of_not-le (λ (g : 64 ≤ s + count_trailing_zeros 64 (w / 2 ^ s)).
-    true≢false (sym (tz-hit 64 (w / 2 ^ s) p (lt_of_le_of_lt (shr_le w s) h)) ∙ sym (bit-shr w s _) ∙ bit_high w 64 _ h g))
+    true≢false (sym (tz_hit 64 (w / 2 ^ s) p (lt_of_le_of_lt (shr_le w s) h)) ∙ sym (bit_shr w s _) ∙ bit_high w 64 _ h g))
 
 -- a step of the search by words: the word has a category at or above c, or the search goes on with the next word
-pub next-hit : (ws : List ℕ) (c : ℕ) → c < length ws * 64 → word_at ws (c / 64) < 2 ^ 64 → 0 < shifted ws c
-    → some (c + count_trailing_zeros 64 (shifted ws c)) ≡ nextCategoryFrom ws c
-unfolding nextCategoryFrom
-next-hit ws c l h p =
-    let s : c % 64 + count_trailing_zeros 64 (shifted ws c) < 64 = tz-inside (word_at ws (c / 64)) (c % 64) h p in
+pub next_hit : (ws : List ℕ) (c : ℕ) → c < length ws * 64 → word_at ws (c / 64) < 2 ^ 64 → 0 < shifted ws c
+    → some (c + count_trailing_zeros 64 (shifted ws c)) ≡ next_category_from ws c
+unfolding next_category_from
+next_hit ws c l h p =
+    let s : c % 64 + count_trailing_zeros 64 (shifted ws c) < 64 = tz_inside (word_at ws (c / 64)) (c % 64) h p in
     sym (hit (has ws) c (length ws * 64 - c) (count_trailing_zeros 64 (shifted ws c)) (omega arith)
-    (λ j k. has-shifted ws c j (omega arith) ∙ tz-low 64 (shifted ws c) j k)
-    (has-shifted ws c _ s ∙ tz-hit 64 (shifted ws c) p (lt_of_le_of_lt (shr_le (word_at ws (c / 64)) (c % 64)) h)))
+    (λ j k. has_shifted ws c j (omega arith) ∙ tz_low 64 (shifted ws c) j k)
+    (has_shifted ws c _ s ∙ tz_hit 64 (shifted ws c) p (lt_of_le_of_lt (shr_le (word_at ws (c / 64)) (c % 64)) h)))
 
-pub next-pass : (ws : List ℕ) (c : ℕ) → c < length ws * 64 → shifted ws c ≡ 0 → nextCategoryFrom ws c ≡ nextCategoryFrom ws ((c / 64 + 1) * 64)
-unfolding nextCategoryFrom
-next-pass ws c l e =
+pub next_pass : (ws : List ℕ) (c : ℕ) → c < length ws * 64 → shifted ws c ≡ 0 → next_category_from ws c ≡ next_category_from ws ((c / 64 + 1) * 64)
+unfolding next_category_from
+next_pass ws c l e =
     let f : length ws * 64 - c ≡ (64 - c % 64) + (length ws * 64 - (c / 64 + 1) * 64) = omega arith in
     let g : c + (64 - c % 64) ≡ (c / 64 + 1) * 64 = omega arith in
-    ap (firstFrom (has ws) c) f
-    ∙ pass (has ws) c (64 - c % 64) _ (λ j k. has-shifted ws c j (omega arith) ∙ ap (λ (x : ℕ). bit x j) e ∙ no-bit j)
-    ∙ ap (λ (k : ℕ). firstFrom (has ws) k (length ws * 64 - (c / 64 + 1) * 64)) g
+    ap (first_from (has ws) c) f
+    ∙ pass (has ws) c (64 - c % 64) _ (λ j k. has_shifted ws c j (omega arith) ∙ ap (λ (x : ℕ). bit x j) e ∙ no_bit j)
+    ∙ ap (λ (k : ℕ). first_from (has ws) k (length ws * 64 - (c / 64 + 1) * 64)) g
 
-pub next-end : (ws : List ℕ) (c : ℕ) → length ws * 64 ≤ c → nextCategoryFrom ws c ≡ none
-unfolding nextCategoryFrom
-next-end ws c h = search-end (has ws) c (length ws * 64) h
+pub next_end : (ws : List ℕ) (c : ℕ) → length ws * 64 ≤ c → next_category_from ws c ≡ none
+unfolding next_category_from
+next_end ws c h = search_end (has ws) c (length ws * 64) h
 
 -- ---- the next category is the least at or above, and there is none exactly if the set has none there
 
-next-least : (ws : List ℕ) (c k : ℕ) → nextCategoryFrom ws c ≡ some k → Least (has ws) c k
-unfolding nextCategoryFrom
-next-least ws c k e = (first-least (has ws) c _ k e).0
+next_least : (ws : List ℕ) (c k : ℕ) → next_category_from ws c ≡ some k → Least (has ws) c k
+unfolding next_category_from
+next_least ws c k e = (first_least (has ws) c _ k e).0
 
-pub next-none : (ws : List ℕ) (c : ℕ) → (nextCategoryFrom ws c ≡ none) ↔ ((k : ℕ) → c ≤ k → has ws k ≡ false)
-unfolding nextCategoryFrom
-next-none ws c = (λ e k a. ⊎_elim (has-beyond ws k) (λ l. first-none (has ws) c _ e k a (omega arith)) (le-or-lt (length ws * 64) k), λ h. go h (nextCategoryFrom ws c) refl)
+pub next_none : (ws : List ℕ) (c : ℕ) → (next_category_from ws c ≡ none) ↔ ((k : ℕ) → c ≤ k → has ws k ≡ false)
+unfolding next_category_from
+next_none ws c = (λ e k a. ⊎_elim (has_beyond ws k) (λ l. first_none (has ws) c _ e k a (omega arith)) (le_or_lt (length ws * 64) k), λ h. go h (next_category_from ws c) refl)
   where
-    go : ((k : ℕ) → c ≤ k → has ws k ≡ false) → (o : Option ℕ) → nextCategoryFrom ws c ≡ o → nextCategoryFrom ws c ≡ none
+    go : ((k : ℕ) → c ≤ k → has ws k ≡ false) → (o : Option ℕ) → next_category_from ws c ≡ o → next_category_from ws c ≡ none
     go h none e = e
-    go h (some k) e = let r = next-least ws c k e in absurd (true≢false (sym r.there ∙ h k r.above))
+    go h (some k) e = let r = next_least ws c k e in absurd (true≢false (sym r.there ∙ h k r.above))
 
 -- the least is what the search answers
-pub next-exact : (ws : List ℕ) (c k : ℕ) → (nextCategoryFrom ws c ≡ some k) ↔ Least (has ws) c k
-next-exact ws c k = (next-least ws c k, λ l. go l (nextCategoryFrom ws c) refl)
+pub next_exact : (ws : List ℕ) (c k : ℕ) → (next_category_from ws c ≡ some k) ↔ Least (has ws) c k
+next_exact ws c k = (next_least ws c k, λ l. go l (next_category_from ws c) refl)
   where
-    go : Least (has ws) c k → (o : Option ℕ) → nextCategoryFrom ws c ≡ o → nextCategoryFrom ws c ≡ some k
-    go l none e = absurd (true≢false (sym l.there ∙ (next-none ws c).0 e k l.above))
-    go l (some m) e = e ∙ ap some (only (next-least ws c m e))
+    go : Least (has ws) c k → (o : Option ℕ) → next_category_from ws c ≡ o → next_category_from ws c ≡ some k
+    go l none e = absurd (true≢false (sym l.there ∙ (next_none ws c).0 e k l.above))
+    go l (some m) e = e ∙ ap some (only (next_least ws c m e))
       where
         only : Least (has ws) c m → m ≡ k
         only r = ⊎_elim (λ u. ⊎_elim (λ v. v) (λ v. absurd (true≢false (sym r.there ∙ l.none_before m r.above v))) (eq-or-lt_of_le u))
-            (λ u. absurd (true≢false (sym l.there ∙ r.none_before k l.above u))) (le-or-lt m k)
+            (λ u. absurd (true≢false (sym l.there ∙ r.none_before k l.above u))) (le_or_lt m k)
 
 -- ---- the listing is strictly rising and holds exactly the members
 
-below-bound : (ws : List ℕ) (c i : ℕ) → i < length (membersBelow ws c) → get_or (membersBelow ws c) i 0 < c
-unfolding membersBelow
-below-bound ws zero i h = absurd (omega arith)
-below-bound ws (suc c) i h = go (has ws c) h (below-bound ws c i)
+below_bound : (ws : List ℕ) (c i : ℕ) → i < length (members_below ws c) → get_or (members_below ws c) i 0 < c
+unfolding members_below
+below_bound ws zero i h = absurd (omega arith)
+below_bound ws (suc c) i h = go (has ws c) h (below_bound ws c i)
   where
-    go : (p : Bool) → i < length (listedIf p c (membersBelow ws c)) → (i < length (membersBelow ws c) → get_or (membersBelow ws c) i 0 < c) → get_or (listedIf p c (membersBelow ws c)) i 0 < suc c
+    go : (p : Bool) → i < length (listed_if p c (members_below ws c)) → (i < length (members_below ws c) → get_or (members_below ws c) i 0 < c) → get_or (listed_if p c (members_below ws c)) i 0 < suc c
     go false l ih = let g = ih l in omega arith
-    go true l ih = ⊎_elim at-end within (le-or-lt (length (membersBelow ws c)) i)
+    go true l ih = ⊎_elim at_end_lem within (le_or_lt (length (members_below ws c)) i)
       where
-        at-end : length (membersBelow ws c) ≤ i → get_or (membersBelow ws c ++ (c ∷ [])) i 0 < suc c
-        at-end u =
-            let n = length-append (membersBelow ws c) (c ∷ []) in
-            let e = get_or_at (membersBelow ws c) c [] 0 i (omega arith) in
+        at_end_lem : length (members_below ws c) ≤ i → get_or (members_below ws c ++ (c ∷ [])) i 0 < suc c
+        at_end_lem u =
+            let n = length-append (members_below ws c) (c ∷ []) in
+            let e = get_or_at (members_below ws c) c [] 0 i (omega arith) in
             omega arith
 
-        within : i < length (membersBelow ws c) → get_or (membersBelow ws c ++ (c ∷ [])) i 0 < suc c
-        within u = let g = ih u in let e = get_or-append (membersBelow ws c) (c ∷ []) 0 i u in omega arith
+        within : i < length (members_below ws c) → get_or (members_below ws c ++ (c ∷ [])) i 0 < suc c
+        within u = let g = ih u in let e = get_or-append (members_below ws c) (c ∷ []) 0 i u in omega arith
 
-below-rising : (ws : List ℕ) (c i j : ℕ) → i < j → j < length (membersBelow ws c) → get_or (membersBelow ws c) i 0 < get_or (membersBelow ws c) j 0
-unfolding membersBelow
-below-rising ws zero i j l h = absurd (omega arith)
-below-rising ws (suc c) i j l h = go (has ws c) h (below-rising ws c i j l)
+below_rising : (ws : List ℕ) (c i j : ℕ) → i < j → j < length (members_below ws c) → get_or (members_below ws c) i 0 < get_or (members_below ws c) j 0
+unfolding members_below
+below_rising ws zero i j l h = absurd (omega arith)
+below_rising ws (suc c) i j l h = go (has ws c) h (below_rising ws c i j l)
   where
-    go : (p : Bool) → j < length (listedIf p c (membersBelow ws c)) → (j < length (membersBelow ws c) → get_or (membersBelow ws c) i 0 < get_or (membersBelow ws c) j 0)
-        → get_or (listedIf p c (membersBelow ws c)) i 0 < get_or (listedIf p c (membersBelow ws c)) j 0
+    go : (p : Bool) → j < length (listed_if p c (members_below ws c)) → (j < length (members_below ws c) → get_or (members_below ws c) i 0 < get_or (members_below ws c) j 0)
+        → get_or (listed_if p c (members_below ws c)) i 0 < get_or (listed_if p c (members_below ws c)) j 0
     go false u ih = ih u
-    go true u ih = ⊎_elim at-end within (le-or-lt (length (membersBelow ws c)) j)
+    go true u ih = ⊎_elim at_end_lem within (le_or_lt (length (members_below ws c)) j)
       where
-        at-end : length (membersBelow ws c) ≤ j → get_or (membersBelow ws c ++ (c ∷ [])) i 0 < get_or (membersBelow ws c ++ (c ∷ [])) j 0
-        at-end v =
-            let n = length-append (membersBelow ws c) (c ∷ []) in
-            let e = get_or_at (membersBelow ws c) c [] 0 j (omega arith) in
-            let f = get_or-append (membersBelow ws c) (c ∷ []) 0 i (omega arith) in
-            let g = below-bound ws c i (omega arith) in
+        at_end_lem : length (members_below ws c) ≤ j → get_or (members_below ws c ++ (c ∷ [])) i 0 < get_or (members_below ws c ++ (c ∷ [])) j 0
+        at_end_lem v =
+            let n = length-append (members_below ws c) (c ∷ []) in
+            let e = get_or_at (members_below ws c) c [] 0 j (omega arith) in
+            let f = get_or-append (members_below ws c) (c ∷ []) 0 i (omega arith) in
+            let g = below_bound ws c i (omega arith) in
             omega arith
 
-        within : j < length (membersBelow ws c) → get_or (membersBelow ws c ++ (c ∷ [])) i 0 < get_or (membersBelow ws c ++ (c ∷ [])) j 0
+        within : j < length (members_below ws c) → get_or (members_below ws c ++ (c ∷ [])) i 0 < get_or (members_below ws c ++ (c ∷ [])) j 0
         within v =
             let g = ih v in
-            let e = get_or-append (membersBelow ws c) (c ∷ []) 0 j v in
-            let f = get_or-append (membersBelow ws c) (c ∷ []) 0 i (omega arith) in
+            let e = get_or-append (members_below ws c) (c ∷ []) 0 j v in
+            let f = get_or-append (members_below ws c) (c ∷ []) 0 i (omega arith) in
             omega arith
 
-pub members-rising : (ws : List ℕ) (i j : ℕ) → i < j → j < length (members_of ws) → get_or (members_of ws) i 0 < get_or (members_of ws) j 0
+pub members_rising : (ws : List ℕ) (i j : ℕ) → i < j → j < length (members_of ws) → get_or (members_of ws) i 0 < get_or (members_of ws) j 0
 unfolding members_of
-members-rising ws i j l h = below-rising ws (length ws * 64) i j l h
+members_rising ws i j l h = below_rising ws (length ws * 64) i j l h
 
-listed_has : (ws : List ℕ) (c k : ℕ) → Memᴰ k (membersBelow ws c) → has ws k ≡ true
-unfolding membersBelow
+listed_has : (ws : List ℕ) (c k : ℕ) → Memᴰ k (members_below ws c) → has ws k ≡ true
+unfolding members_below
 listed_has ws zero k m = absurd (Memᴰ.not-nil m)
 listed_has ws (suc c) k m = go (has ws c) refl m (listed_has ws c k)
   where
-    go : (p : Bool) → has ws c ≡ p → Memᴰ k (listedIf p c (membersBelow ws c)) → (Memᴰ k (membersBelow ws c) → has ws k ≡ true) → has ws k ≡ true
-    go true h m ih = ⊎_elim ih (λ u. ap (has ws) (Memᴰ.eq_of_singleton u) ∙ h) (Memᴰ.append_cases (membersBelow ws c) m)
+    go : (p : Bool) → has ws c ≡ p → Memᴰ k (listed_if p c (members_below ws c)) → (Memᴰ k (members_below ws c) → has ws k ≡ true) → has ws k ≡ true
+    go true h m ih = ⊎_elim ih (λ u. ap (has ws) (Memᴰ.eq_of_singleton u) ∙ h) (Memᴰ.append_cases (members_below ws c) m)
     go false h m ih = ih m
 
-has_listed : (ws : List ℕ) (c k : ℕ) → k < c → has ws k ≡ true → Memᴰ k (membersBelow ws c)
-unfolding membersBelow
+has_listed : (ws : List ℕ) (c k : ℕ) → k < c → has ws k ≡ true → Memᴰ k (members_below ws c)
+unfolding members_below
 has_listed ws zero k l h = absurd (omega arith)
 has_listed ws (suc c) k l h = go (has ws c) refl (λ u. has_listed ws c k u h) (eq-or-lt_of_le (le_of_suc-le-suc l))
   where
-    go : (p : Bool) → has ws c ≡ p → (k < c → Memᴰ k (membersBelow ws c)) → (k ≡ c) ⊎ (k < c) → Memᴰ k (listedIf p c (membersBelow ws c))
-    go true e ih (inl u) = Memᴰ.append_right (membersBelow ws c) (Memᴰ.head u)
+    go : (p : Bool) → has ws c ≡ p → (k < c → Memᴰ k (members_below ws c)) → (k ≡ c) ⊎ (k < c) → Memᴰ k (listed_if p c (members_below ws c))
+    go true e ih (inl u) = Memᴰ.append_right (members_below ws c) (Memᴰ.head u)
     go true e ih (inr u) = Memᴰ.append_left (c ∷ []) (ih u)
     go false e ih (inl u) = absurd (true≢false (sym h ∙ ap (has ws) u ∙ e))
     go false e ih (inr u) = ih u
 
-pub members-exact : (ws : List ℕ) (k : ℕ) → Memᴰ k (members_of ws) ↔ (has ws k ≡ true)
+pub members_exact : (ws : List ℕ) (k : ℕ) → Memᴰ k (members_of ws) ↔ (has ws k ≡ true)
 unfolding members_of
-members-exact ws k = (listed_has ws (length ws * 64) k, λ h. has_listed ws (length ws * 64) k (has_within ws k h) h)
+members_exact ws k = (listed_has ws (length ws * 64) k, λ h. has_listed ws (length ws * 64) k (has_within ws k h) h)
 
 -- ---- a listing by one search after another
 
-pub next-within : (ws : List ℕ) (c k : ℕ) → nextCategoryFrom ws c ≡ some k → (c ≤ k) × (k < length ws * 64)
-next-within ws c k e = let l = next-least ws c k e in (l.above, has_within ws k l.there)
+pub next_within : (ws : List ℕ) (c k : ℕ) → next_category_from ws c ≡ some k → (c ≤ k) × (k < length ws * 64)
+next_within ws c k e = let l = next_least ws c k e in (l.above, has_within ws k l.there)
 
-below-skip : (ws : List ℕ) (c d : ℕ) → c ≤ d → ((j : ℕ) → c ≤ j → j < d → has ws j ≡ false) → membersBelow ws d ≡ membersBelow ws c
-unfolding membersBelow
-below-skip ws c zero l h = let e : c ≡ 0 = omega arith in rw e
-below-skip ws c (suc d) l h =
-    ⊎_elim (λ e. ap (membersBelow ws) (sym e)) (λ u. rw (h d (omega arith) (omega arith)) (below-skip ws c d (omega arith) (λ j a b. h j a (omega arith)))) (eq-or-lt_of_le l)
+below_skip : (ws : List ℕ) (c d : ℕ) → c ≤ d → ((j : ℕ) → c ≤ j → j < d → has ws j ≡ false) → members_below ws d ≡ members_below ws c
+unfolding members_below
+below_skip ws c zero l h = let e : c ≡ 0 = omega arith in rw e
+below_skip ws c (suc d) l h =
+    ⊎_elim (λ e. ap (members_below ws) (sym e)) (λ u. rw (h d (omega arith) (omega arith)) (below_skip ws c d (omega arith) (λ j a b. h j a (omega arith)))) (eq-or-lt_of_le l)
 
 -- the category that is found is listed next
-pub next-listed : (ws : List ℕ) (c k : ℕ) → nextCategoryFrom ws c ≡ some k → membersBelow ws (k + 1) ≡ membersBelow ws c ++ (k ∷ [])
-unfolding membersBelow
-next-listed ws c k e = let l = next-least ws c k e in rw (add-one, l.there, below-skip ws c k l.above l.none_before)
+pub next_listed : (ws : List ℕ) (c k : ℕ) → next_category_from ws c ≡ some k → members_below ws (k + 1) ≡ members_below ws c ++ (k ∷ [])
+unfolding members_below
+next_listed ws c k e = let l = next_least ws c k e in rw (add-one, l.there, below_skip ws c k l.above l.none_before)
 
 -- where none is found, all are listed
-pub last-listed : (ws : List ℕ) (c d : ℕ) → nextCategoryFrom ws c ≡ none → c ≤ d → membersBelow ws d ≡ membersBelow ws c
-last-listed ws c d e l = below-skip ws c d l (λ j a b. (next-none ws c).0 e j a)
+pub last_listed : (ws : List ℕ) (c d : ℕ) → next_category_from ws c ≡ none → c ≤ d → members_below ws d ≡ members_below ws c
+last_listed ws c d e l = below_skip ws c d l (λ j a b. (next_none ws c).0 e j a)
 
-pub all_listed : (ws : List ℕ) (c : ℕ) → c ≡ length ws * 64 → membersBelow ws c ≡ members_of ws
+pub all_listed : (ws : List ℕ) (c : ℕ) → c ≡ length ws * 64 → members_below ws c ≡ members_of ws
 unfolding members_of
-all_listed ws c e = ap (membersBelow ws) e
+all_listed ws c e = ap (members_below ws) e
 
 -- what is listed first stays in front
-below-front : (ws : List ℕ) (c d : ℕ) → c ≤ d → (rest : List ℕ) × (membersBelow ws d ≡ membersBelow ws c ++ rest)
-unfolding membersBelow
-below-front ws c zero l = let e : c ≡ 0 = omega arith in ([], rw e)
-below-front ws c (suc d) l = ⊎_elim (λ e. ([], rw e (sym (append-nil (membersBelow ws (suc d)))))) (λ u. go (has ws d) (below-front ws c d (omega arith))) (eq-or-lt_of_le l)
+below_front : (ws : List ℕ) (c d : ℕ) → c ≤ d → (rest : List ℕ) × (members_below ws d ≡ members_below ws c ++ rest)
+unfolding members_below
+below_front ws c zero l = let e : c ≡ 0 = omega arith in ([], rw e)
+below_front ws c (suc d) l = ⊎_elim (λ e. ([], rw e (sym (append-nil (members_below ws (suc d)))))) (λ u. go (has ws d) (below_front ws c d (omega arith))) (eq-or-lt_of_le l)
   where
-    go : (p : Bool) → (rest : List ℕ) × (membersBelow ws d ≡ membersBelow ws c ++ rest) → (rest : List ℕ) × (listedIf p d (membersBelow ws d) ≡ membersBelow ws c ++ rest)
-    go true r = (r.0 ++ (d ∷ []), rw r.1 (append_assoc (membersBelow ws c) r.0 (d ∷ [])))
+    go : (p : Bool) → (rest : List ℕ) × (members_below ws d ≡ members_below ws c ++ rest) → (rest : List ℕ) × (listed_if p d (members_below ws d) ≡ members_below ws c ++ rest)
+    go true r = (r.0 ++ (d ∷ []), rw r.1 (append_assoc (members_below ws c) r.0 (d ∷ [])))
     go false r = r
 
-pub members-front : (ws : List ℕ) (c : ℕ) → c ≤ length ws * 64 → (rest : List ℕ) × (members_of ws ≡ membersBelow ws c ++ rest)
+pub members_front : (ws : List ℕ) (c : ℕ) → c ≤ length ws * 64 → (rest : List ℕ) × (members_of ws ≡ members_below ws c ++ rest)
 unfolding members_of
-members-front ws c l = below-front ws c (length ws * 64) l
+members_front ws c l = below_front ws c (length ws * 64) l

@@ -6,19 +6,19 @@ use native.Mathlib.Omega.{arith}
 use lib.Dec.{leb, lit<}
 use borrow.Author.Tests.{leb-true, leb-false, le-leb, lt-leb}
 use Rattle.common.specs.Index.{every}
-use Rattle.label.specs.Region.{firstHierarchy, lastHierarchy, regionOf, regions}
-use Rattle.common.proofs.BoolLaws.{first-true, second-true}
-use Rattle.common.proofs.IndexLaws.{every-at}
+use Rattle.label.specs.Region.{first_hierarchy, last_hierarchy, region_of, regions}
+use Rattle.common.proofs.BoolLaws.{first_true, second_true}
+use Rattle.common.proofs.IndexLaws.{every_at}
 
 pub record Within (r h : ℕ) : Type 0 where
   pub known : r < regions
-  pub first : firstHierarchy r ≤ h
-  pub last : h ≤ 199 → h ≤ lastHierarchy r
+  pub first : first_hierarchy r ≤ h
+  pub last : h ≤ 199 → h ≤ last_hierarchy r
 
 -- the region of a hierarchy holds it, where it is valid
-pub region-within : (h : ℕ) → Within (regionOf h) h
-unfolding regionOf
-region-within h = go (leb h 19) refl (leb h 179) refl
+pub region_within : (h : ℕ) → Within (region_of h) h
+unfolding region_of
+region_within h = go (leb h 19) refl (leb h 179) refl
   where
     go : (p : Bool) → leb h 19 ≡ p → (q : Bool) → leb h 179 ≡ q → Within (cond p 0 (cond q 1 2)) h
     go true e q f = let a = leb-true h 19 e in record { known = lit< tt; first = omega arith; last = λ v. omega arith }
@@ -29,19 +29,19 @@ region-within h = go (leb h 19) refl (leb h 179) refl
     go false e false f = let b = leb-false h 179 f in record { known = lit< tt; first = omega arith; last = λ v. omega arith }
 
 -- and it is the only one that does
-pub region-unique : (r h : ℕ) → r < regions → firstHierarchy r ≤ h → h ≤ lastHierarchy r → regionOf h ≡ r
-unfolding regionOf
-region-unique zero h k f l = simp (le-leb h 19 l)
-region-unique (suc zero) h k f l = simp (lt-leb h 19 f, le-leb h 179 l)
-region-unique (suc (suc zero)) h k f l = let g : 19 < h = omega arith in simp (lt-leb h 19 g, lt-leb h 179 f)
-region-unique (suc (suc (suc r))) h k f l = absurd (omega arith)
+pub region_unique : (r h : ℕ) → r < regions → first_hierarchy r ≤ h → h ≤ last_hierarchy r → region_of h ≡ r
+unfolding region_of
+region_unique zero h k f l = simp (le-leb h 19 l)
+region_unique (suc zero) h k f l = simp (lt-leb h 19 f, le-leb h 179 l)
+region_unique (suc (suc zero)) h k f l = let g : 19 < h = omega arith in simp (lt-leb h 19 g, lt-leb h 179 f)
+region_unique (suc (suc (suc r))) h k f l = absurd (omega arith)
 
 -- a region's borders are in order, and valid: a test over the whole table, and the rule at each region
-borders : every (λ r. leb (firstHierarchy r) (lastHierarchy r) && leb (lastHierarchy r) 199) regions ≡ true
+borders : every (λ r. leb (first_hierarchy r) (last_hierarchy r) && leb (last_hierarchy r) 199) regions ≡ true
 unfolding every
 borders = refl
 
-pub region-order : (r : ℕ) → r < regions → (firstHierarchy r ≤ lastHierarchy r) × (lastHierarchy r ≤ 199)
-region-order r h =
-    let e = every-at (λ k. leb (firstHierarchy k) (lastHierarchy k) && leb (lastHierarchy k) 199) regions r borders h in
-    (leb-true (firstHierarchy r) (lastHierarchy r) (first-true _ _ e), leb-true (lastHierarchy r) 199 (second-true (leb (firstHierarchy r) (lastHierarchy r)) _ e))
+pub region_order : (r : ℕ) → r < regions → (first_hierarchy r ≤ last_hierarchy r) × (last_hierarchy r ≤ 199)
+region_order r h =
+    let e = every_at (λ k. leb (first_hierarchy k) (last_hierarchy k) && leb (last_hierarchy k) 199) regions r borders h in
+    (leb-true (first_hierarchy r) (last_hierarchy r) (first_true _ _ e), leb-true (last_hierarchy r) 199 (second_true (leb (first_hierarchy r) (last_hierarchy r)) _ e))

@@ -9,16 +9,16 @@ regions = 3
 abbrev pub firsts : List ℕ
 firsts = 0 ∷ 20 ∷ 180 ∷ []
 
-abbrev pub firstHierarchy : ℕ → ℕ
-firstHierarchy r = get_or firsts r 0
+abbrev pub first_hierarchy : ℕ → ℕ
+first_hierarchy r = get_or firsts r 0
 
 -- a region's greatest hierarchy
 abbrev pub lasts : List ℕ
 lasts = 19 ∷ 179 ∷ 199 ∷ []
 
-abbrev pub lastHierarchy : ℕ → ℕ
-lastHierarchy r = get_or lasts r 0
+abbrev pub last_hierarchy : ℕ → ℕ
+last_hierarchy r = get_or lasts r 0
 
 -- the region of a valid hierarchy
-unfoldable pub regionOf : ℕ → ℕ
-regionOf h = cond (leb h (lastHierarchy 0)) 0 (cond (leb h (lastHierarchy 1)) 1 2)
+unfoldable pub region_of : ℕ → ℕ
+region_of h = cond (leb h (last_hierarchy 0)) 0 (cond (leb h (last_hierarchy 1)) 1 2)

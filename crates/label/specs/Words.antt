@@ -3,7 +3,7 @@
 use Rattle.std.specs.Prelude.{Bool, true, false, ◌&&◌, List, [], ◌∷◌, ◌++◌, ℕ, zero, suc, ◌*◌, ◌-◌, ◌/◌, ◌%◌, ◌^◌, max, eqb, get_or, length, replicate, set}
 use Rattle.std.proofs.Math.Option.{Option, none, some}
 use Rattle.std.specs.Int.Bits.{bit_and, bit_or}
-use Rattle.common.specs.Index.{every, firstFrom, tabulate}
+use Rattle.common.specs.Index.{every, first_from, tabulate}
 use Rattle.label.specs.declared.words.FoundCategory.{FoundCategory}
 use Rattle.label.specs.declared.words.FoundCategory.TheVariants.{At, Nothing}
 
@@ -27,53 +27,53 @@ unfoldable pub has : List ℕ → ℕ → Bool
 has ws c = bit (word_at ws (c / 64)) (c % 64)
 
 -- the set that has the category c alone; no set has one past its last word
-unfoldable pub singleOf : ℕ → List ℕ
-singleOf c = set (replicate words 0) (c / 64) (2 ^ (c % 64))
+unfoldable pub single_of : ℕ → List ℕ
+single_of c = set (replicate words 0) (c / 64) (2 ^ (c % 64))
 
 -- two sets put together word by word
-abbrev pub combinedAt : (ℕ → ℕ → ℕ) → List ℕ → List ℕ → ℕ → ℕ
-combinedAt op a b i = op (word_at a i) (word_at b i)
+abbrev pub combined_at : (ℕ → ℕ → ℕ) → List ℕ → List ℕ → ℕ → ℕ
+combined_at op a b i = op (word_at a i) (word_at b i)
 
 unfoldable pub combine : (ℕ → ℕ → ℕ) → List ℕ → List ℕ → List ℕ
-combine op a b = tabulate (combinedAt op a b) (max (length a) (length b))
+combine op a b = tabulate (combined_at op a b) (max (length a) (length b))
 
-unfoldable pub unionOf : List ℕ → List ℕ → List ℕ
-unionOf a b = combine bit_or a b
+unfoldable pub union_of : List ℕ → List ℕ → List ℕ
+union_of a b = combine bit_or a b
 
-unfoldable pub intersectionOf : List ℕ → List ℕ → List ℕ
-intersectionOf a b = combine bit_and a b
+unfoldable pub intersection_of : List ℕ → List ℕ → List ℕ
+intersection_of a b = combine bit_and a b
 
 -- whether each bit of b's word i is set in a's
-abbrev pub includesAt : List ℕ → List ℕ → ℕ → Bool
-includesAt a b i = eqb (combinedAt bit_and a b i) (word_at b i)
+abbrev pub includes_at : List ℕ → List ℕ → ℕ → Bool
+includes_at a b i = eqb (combined_at bit_and a b i) (word_at b i)
 
 -- whether each category of b is in a
-unfoldable pub includesOf : List ℕ → List ℕ → Bool
-includesOf a b = every (includesAt a b) (max (length a) (length b))
+unfoldable pub includes_of : List ℕ → List ℕ → Bool
+includes_of a b = every (includes_at a b) (max (length a) (length b))
 
 -- whether a and b have the same categories: each includes the other
-unfoldable pub sameOf : List ℕ → List ℕ → Bool
-sameOf a b = includesOf a b && includesOf b a
+unfoldable pub same_of : List ℕ → List ℕ → Bool
+same_of a b = includes_of a b && includes_of b a
 
 -- the listing l with c at its end, where c is to be listed
-abbrev pub listedIf : Bool → ℕ → List ℕ → List ℕ
-listedIf true c l = l ++ (c ∷ [])
-listedIf false c l = l
+abbrev pub listed_if : Bool → ℕ → List ℕ → List ℕ
+listed_if true c l = l ++ (c ∷ [])
+listed_if false c l = l
 
 -- the categories below c, in rising order
-unfoldable pub membersBelow : List ℕ → ℕ → List ℕ
-membersBelow ws zero = []
-membersBelow ws (suc c) = listedIf (has ws c) c (membersBelow ws c)
+unfoldable pub members_below : List ℕ → ℕ → List ℕ
+members_below ws zero = []
+members_below ws (suc c) = listed_if (has ws c) c (members_below ws c)
 
 -- the categories of a set, in rising order
 unfoldable pub members_of : List ℕ → List ℕ
-members_of ws = membersBelow ws (length ws * 64)
+members_of ws = members_below ws (length ws * 64)
 
 -- the least category at or above c, if there is one
-unfoldable pub nextCategoryFrom : List ℕ → ℕ → Option ℕ
-nextCategoryFrom ws c = firstFrom (has ws) c (length ws * 64 - c)
+unfoldable pub next_category_from : List ℕ → ℕ → Option ℕ
+next_category_from ws c = first_from (has ws) c (length ws * 64 - c)
 
 -- what the enum Found says
-abbrev pub foundCategoryOf : FoundCategory → Option ℕ
-foundCategoryOf (At c) = some c
-foundCategoryOf Nothing = none
+abbrev pub found_category_of : FoundCategory → Option ℕ
+found_category_of (At c) = some c
+found_category_of Nothing = none

@@ -1,13 +1,13 @@
 // Total functions over a label's components, its hierarchy number and its category words: for labels that the caller has tested.
 ghost use Rattle.std.specs.Prelude.{◌≡◌, max, min};
-ghost use Rattle.label.specs.Label.{dominatesOf, equal_of, label_of, lowerBoundOf, upperBoundOf, zeroLabel};
+ghost use Rattle.label.specs.Label.{dominates_of, equal_of, label_of, lower_bound_of, upper_bound_of, zero_label};
 
 use crate::words::WORDS;
 use crate::{Label, words};
 
 // Whether the first label dominates the second.
 pub fn dominates(ah: u64, ac: [u64; WORDS], bh: u64, bc: [u64; WORDS]) -> bool
-    ensures { result ≡ dominatesOf (label_of ah ac) (label_of bh bc) }
+    ensures { result ≡ dominates_of (label_of ah ac) (label_of bh bc) }
 {
     (bh <= ah) & words::includes(ac, bc)
 }
@@ -21,7 +21,7 @@ pub fn equal(ah: u64, ac: [u64; WORDS], bh: u64, bc: [u64; WORDS]) -> bool
 
 // Whether the label is the label of zeros, as is held where there is none.
 pub fn is_zero(h: u64, c: [u64; WORDS]) -> bool
-    ensures { result ≡ equal_of (label_of h c) zeroLabel }
+    ensures { result ≡ equal_of (label_of h c) zero_label }
 {
     let none = [0u64; WORDS];
     equal(h, c, 0, none)
@@ -43,7 +43,7 @@ pub fn lower(x: u64, y: u64) -> u64
 
 // The upper bound of two labels: the larger hierarchy, and the union.
 pub fn upper_bound(ah: u64, ac: [u64; WORDS], bh: u64, bc: [u64; WORDS]) -> Label
-    ensures { result ≡ upperBoundOf (label_of ah ac) (label_of bh bc) }
+    ensures { result ≡ upper_bound_of (label_of ah ac) (label_of bh bc) }
 {
     Label {
         hierarchy: higher(ah, bh),
@@ -53,7 +53,7 @@ pub fn upper_bound(ah: u64, ac: [u64; WORDS], bh: u64, bc: [u64; WORDS]) -> Labe
 
 // The lower bound of two labels: the smaller hierarchy, and the intersection.
 pub fn lower_bound(ah: u64, ac: [u64; WORDS], bh: u64, bc: [u64; WORDS]) -> Label
-    ensures { result ≡ lowerBoundOf (label_of ah ac) (label_of bh bc) }
+    ensures { result ≡ lower_bound_of (label_of ah ac) (label_of bh bc) }
 {
     Label {
         hierarchy: lower(ah, bh),

@@ -9,10 +9,10 @@ mod tested;
 pub mod words;
 
 ghost use Rattle.std.specs.Prelude.{◌≡◌, ◌&&◌, ltb, length};
-ghost use Rattle.common.specs.Answer.{Answered, granted, require, test_of, numberAnswerOf};
-ghost use Rattle.label.specs.Label.{dominatesOf, equal_of, lowerBoundOf, nextAnswerOf, upperBoundOf, valid_of, withCategoryOf, zeroLabel, Typed};
-ghost use Rattle.label.specs.Region.{regionOf};
-ghost use Rattle.label.specs.Words.{categories, has, members_of, nextCategoryFrom};
+ghost use Rattle.common.specs.Answer.{Answered, granted, require, test_of, number_answer_of};
+ghost use Rattle.label.specs.Label.{dominates_of, equal_of, lower_bound_of, next_answer_of, upper_bound_of, valid_of, with_category_of, zero_label, Typed};
+ghost use Rattle.label.specs.Region.{region_of};
+ghost use Rattle.label.specs.Words.{categories, has, members_of, next_category_from};
 
 use crate::words::{FoundCategory, WORDS};
 use common::answer::{Number, Outcome, Test};
@@ -45,7 +45,7 @@ pub enum Next {
 
 // The label of zeros: hierarchy 0, no categories.
 pub fn zero() -> Label
-    ensures { result ≡ zeroLabel }
+    ensures { result ≡ zero_label }
 {
     let none = [0u64; WORDS];
     Label {
@@ -69,7 +69,7 @@ fn both_valid(a: Label, b: Label) -> bool
 
 // Whether a dominates b.
 pub fn dominates(a: Label, b: Label) -> Test
-    ensures { test_of result ≡ require (valid_of a && valid_of b) 22 (granted (dominatesOf a b)) }
+    ensures { test_of result ≡ require (valid_of a && valid_of b) 22 (granted (dominates_of a b)) }
 {
     if both_valid(a, b) {
         return Test::Holds(tested::dominates(a, b));
@@ -89,7 +89,7 @@ pub fn equal(a: Label, b: Label) -> Test
 
 // The least label that dominates a and b.
 pub fn upper_bound(a: Label, b: Label) -> LabelAnswer
-    ensures { Answered result.outcome result.label zeroLabel (require (valid_of a && valid_of b) 22 (granted (upperBoundOf a b))) }
+    ensures { Answered result.outcome result.label zero_label (require (valid_of a && valid_of b) 22 (granted (upper_bound_of a b))) }
 {
     if both_valid(a, b) {
         return tested::upper_bound(a, b);
@@ -102,7 +102,7 @@ pub fn upper_bound(a: Label, b: Label) -> LabelAnswer
 
 // The greatest label that a and b dominate.
 pub fn lower_bound(a: Label, b: Label) -> LabelAnswer
-    ensures { Answered result.outcome result.label zeroLabel (require (valid_of a && valid_of b) 22 (granted (lowerBoundOf a b))) }
+    ensures { Answered result.outcome result.label zero_label (require (valid_of a && valid_of b) 22 (granted (lower_bound_of a b))) }
 {
     if both_valid(a, b) {
         return tested::lower_bound(a, b);
@@ -115,7 +115,7 @@ pub fn lower_bound(a: Label, b: Label) -> LabelAnswer
 
 // How many categories a has.
 pub fn category_count(a: Label) -> Number
-    ensures { numberAnswerOf result ≡ require (valid_of a) 22 (granted (length (members_of a.categories))) }
+    ensures { number_answer_of result ≡ require (valid_of a) 22 (granted (length (members_of a.categories))) }
 {
     if valid(a) {
         let x = a.categories;
@@ -144,7 +144,7 @@ pub fn has_category(a: Label, c: u64) -> Test
 
 // a with the category c, which it may have already.
 pub fn with_category(a: Label, c: u64) -> LabelAnswer
-    ensures { Answered result.outcome result.label zeroLabel (require (valid_of a && ltb c categories) 22 (granted (withCategoryOf a c))) }
+    ensures { Answered result.outcome result.label zero_label (require (valid_of a && ltb c categories) 22 (granted (with_category_of a c))) }
 {
     if valid_with(a, c) {
         let x = a.categories;
@@ -164,7 +164,7 @@ pub fn with_category(a: Label, c: u64) -> LabelAnswer
 
 // The least category of a at or above from.
 pub fn next_category(a: Label, from: u64) -> Next
-    ensures { nextAnswerOf result ≡ require (valid_of a) 22 (granted (nextCategoryFrom a.categories from)) }
+    ensures { next_answer_of result ≡ require (valid_of a) 22 (granted (next_category_from a.categories from)) }
 {
     if valid(a) {
         let x = a.categories;
@@ -178,7 +178,7 @@ pub fn next_category(a: Label, from: u64) -> Next
 
 // The region of a, by its number.
 pub fn region_of(a: Label) -> Number
-    ensures { numberAnswerOf result ≡ require (valid_of a) 22 (granted (regionOf a.hierarchy)) }
+    ensures { number_answer_of result ≡ require (valid_of a) 22 (granted (region_of a.hierarchy)) }
 {
     if valid(a) {
         return Number::Value(region::of_hierarchy(a.hierarchy) as u64);

@@ -1,6 +1,6 @@
 // Regions: each is a run of hierarchy numbers, and is known by its number in document 01's order.
 ghost use Rattle.std.specs.Prelude.{◌≡◌, get_or};
-ghost use Rattle.label.specs.Region.{firstHierarchy, lastHierarchy, regionOf};
+ghost use Rattle.label.specs.Region.{first_hierarchy, last_hierarchy, region_of};
 
 pub const REGIONS: usize = 3;
 
@@ -23,21 +23,21 @@ fn entry(table: [u64; REGIONS], region: usize) -> u64
 
 // The least hierarchy number of a region; 0 where there is no such region.
 pub fn first(region: usize) -> u64
-    ensures { result ≡ firstHierarchy region }
+    ensures { result ≡ first_hierarchy region }
 {
     entry(FIRST, region)
 }
 
 // The greatest hierarchy number of a region; 0 where there is no such region.
 pub fn last(region: usize) -> u64
-    ensures { result ≡ lastHierarchy region }
+    ensures { result ≡ last_hierarchy region }
 {
     entry(LAST, region)
 }
 
 // The region of a valid hierarchy number. Others count as administrative here: whoever asks has tested the label.
 pub fn of_hierarchy(hierarchy: u64) -> usize
-    ensures { result ≡ regionOf hierarchy }
+    ensures { result ≡ region_of hierarchy }
 {
     if hierarchy <= LAST[VIRUS_PREVENTION] {
         return VIRUS_PREVENTION;

@@ -1,13 +1,13 @@
 // Labels that were tested, taken apart: the one place of this crate that does it.
 ghost use Rattle.std.specs.Prelude.{◌≡◌};
 ghost use Rattle.common.specs.Answer.{Answered, granted};
-ghost use Rattle.label.specs.Label.{dominatesOf, equal_of, lowerBoundOf, upperBoundOf, zeroLabel};
+ghost use Rattle.label.specs.Label.{dominates_of, equal_of, lower_bound_of, upper_bound_of, zero_label};
 
 use crate::{Label, LabelAnswer, components};
 use common::answer::Outcome;
 
 pub(crate) fn dominates(a: Label, b: Label) -> bool
-    ensures { result ≡ dominatesOf a b }
+    ensures { result ≡ dominates_of a b }
 {
     let x = a.categories;
     let y = b.categories;
@@ -24,7 +24,7 @@ pub(crate) fn equal(a: Label, b: Label) -> bool
 
 // The upper bound as it is answered: a label that was handed on by itself would be copied once more.
 pub(crate) fn upper_bound(a: Label, b: Label) -> LabelAnswer
-    ensures { Answered result.outcome result.label zeroLabel (granted (upperBoundOf a b)) }
+    ensures { Answered result.outcome result.label zero_label (granted (upper_bound_of a b)) }
 {
     let x = a.categories;
     let y = b.categories;
@@ -36,7 +36,7 @@ pub(crate) fn upper_bound(a: Label, b: Label) -> LabelAnswer
 
 // The lower bound as it is answered: a label that was handed on by itself would be copied once more.
 pub(crate) fn lower_bound(a: Label, b: Label) -> LabelAnswer
-    ensures { Answered result.outcome result.label zeroLabel (granted (lowerBoundOf a b)) }
+    ensures { Answered result.outcome result.label zero_label (granted (lower_bound_of a b)) }
 {
     let x = a.categories;
     let y = b.categories;

@@ -1,6 +1,6 @@
 // A set of categories as an array of words, by value. These functions are total: any words are a set.
 ghost use Rattle.std.specs.Prelude.{◌≡◌, length};
-ghost use Rattle.label.specs.Words.{foundCategoryOf, includesOf, intersectionOf, members_of, nextCategoryFrom, sameOf, singleOf, unionOf};
+ghost use Rattle.label.specs.Words.{found_category_of, includes_of, intersection_of, members_of, next_category_from, same_of, single_of, union_of};
 
 // How many words a set has. Category c is bit c % 64 of word c / 64.
 pub const WORDS: usize = 4;
@@ -14,7 +14,7 @@ pub enum FoundCategory {
 
 // The set that has category c alone, or none where there is no such category.
 pub fn single(c: u64) -> [u64; WORDS]
-    ensures { result ≡ singleOf c }
+    ensures { result ≡ single_of c }
 {
     let mut r = [0u64; WORDS];
     let i = (c / 64) as usize;
@@ -26,7 +26,7 @@ pub fn single(c: u64) -> [u64; WORDS]
 
 // The categories that are in a or in b.
 pub fn union(a: [u64; WORDS], b: [u64; WORDS]) -> [u64; WORDS]
-    ensures { result ≡ unionOf a b }
+    ensures { result ≡ union_of a b }
 {
     let mut r = [0u64; WORDS];
     let mut i = 0;
@@ -39,7 +39,7 @@ pub fn union(a: [u64; WORDS], b: [u64; WORDS]) -> [u64; WORDS]
 
 // The categories that are in a and in b.
 pub fn intersection(a: [u64; WORDS], b: [u64; WORDS]) -> [u64; WORDS]
-    ensures { result ≡ intersectionOf a b }
+    ensures { result ≡ intersection_of a b }
 {
     let mut r = [0u64; WORDS];
     let mut i = 0;
@@ -52,7 +52,7 @@ pub fn intersection(a: [u64; WORDS], b: [u64; WORDS]) -> [u64; WORDS]
 
 // Whether every category of b is in a.
 pub fn includes(a: [u64; WORDS], b: [u64; WORDS]) -> bool
-    ensures { result ≡ includesOf a b }
+    ensures { result ≡ includes_of a b }
 {
     let mut i = 0;
     while i < WORDS {
@@ -66,7 +66,7 @@ pub fn includes(a: [u64; WORDS], b: [u64; WORDS]) -> bool
 
 // Whether a and b have the same categories.
 pub fn same(a: [u64; WORDS], b: [u64; WORDS]) -> bool
-    ensures { result ≡ sameOf a b }
+    ensures { result ≡ same_of a b }
 {
     includes(a, b) & includes(b, a)
 }
@@ -86,7 +86,7 @@ pub fn count(a: [u64; WORDS]) -> u64
 
 // The least category of a at or above from. It goes from word to word, and in a word to its lowest set bit.
 pub fn next(a: [u64; WORDS], from: u64) -> FoundCategory
-    ensures { foundCategoryOf result ≡ nextCategoryFrom a from }
+    ensures { found_category_of result ≡ next_category_from a from }
 {
     let mut c = from as usize;
     while c < WORDS * 64 {

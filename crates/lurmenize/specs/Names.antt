@@ -1,20 +1,20 @@
 -- What a text is asked with, as C has it.
 use Rattle.std.specs.Prelude.{Bool, ◌&&◌, ℕ}
 use Rattle.alias.specs.declared.LineStarts.{LineStarts}
-use Rattle.abi.specs.Caller.{callerFormed}
+use Rattle.abi.specs.Caller.{caller_formed}
 use Rattle.abi.specs.Flag
-use Rattle.abi.specs.Style.{formedOf}
+use Rattle.abi.specs.Style.{formed_of}
 use Rattle.abi.specs.declared.caller.CCaller.{CCaller}
 use Rattle.abi.specs.declared.style.CStyle.{CStyle}
 
 -- what a table's check answers: how many lines it has
-abbrev pub lineCount : LineStarts → ℕ
-lineCount lines = lines.count
+abbrev pub line_count : LineStarts → ℕ
+line_count lines = lines.count
 
 -- the flags that every text is asked with are flags
-abbrev pub askFormed : ℕ → CCaller → Bool
-askFormed more c = Flag.formedOf more && callerFormed c
+abbrev pub ask_formed : ℕ → CCaller → Bool
+ask_formed more c = Flag.formed_of more && caller_formed c
 
 -- and the style is one
-abbrev pub writeFormed : ℕ → CCaller → CStyle → Bool
-writeFormed more c x = askFormed more c && formedOf x
+abbrev pub write_formed : ℕ → CCaller → CStyle → Bool
+write_formed more c x = ask_formed more c && formed_of x

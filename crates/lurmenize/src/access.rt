@@ -1,10 +1,10 @@
 // The monitor.
 ghost use Rattle.std.specs.Prelude.{◌≡◌, ◌&&◌};
 ghost use Rattle.common.specs.Answer.{require};
-ghost use Rattle.monitor.specs.Monitor.{decisionFor};
-ghost use Rattle.abi.specs.Answer.{numberAnswer};
-ghost use Rattle.abi.specs.Caller.{callerFormed};
-ghost use Rattle.abi.specs.Request.{credentialsFormed, objectFormed, monitorRequest};
+ghost use Rattle.monitor.specs.Monitor.{decision_for};
+ghost use Rattle.abi.specs.Answer.{number_answer};
+ghost use Rattle.abi.specs.Caller.{caller_formed};
+ghost use Rattle.abi.specs.Request.{credentials_formed, object_formed, monitor_request};
 
 use abi::answer::CAnswer;
 use abi::caller::CCaller;
@@ -21,7 +21,7 @@ pub extern "C" fn lurm_check(
     intents: u64,
     attribute: u64,
 ) -> CAnswer
-    ensures { result ≡ numberAnswer (require (callerFormed caller && credentialsFormed credentials && objectFormed object) 22 (decisionFor (monitorRequest caller credentials object intents attribute))) }
+    ensures { result ≡ number_answer (require (caller_formed caller && credentials_formed credentials && object_formed object) 22 (decision_for (monitor_request caller credentials object intents attribute))) }
 {
     if caller::formed(caller)
         & request::credentials_formed(credentials)

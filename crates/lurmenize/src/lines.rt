@@ -1,8 +1,8 @@
 // Hex lines.
 ghost use Rattle.std.specs.Prelude.{◌≡◌};
 ghost use Rattle.common.specs.Answer.{require};
-ghost use Rattle.hexline.specs.Line.{entryLineOf, lineKindOf, labelLineOf, rangeLineOf, readEntryLine, readLabelLine, readRangeLine, readTupleLine, tupleLineOf};
-ghost use Rattle.abi.specs.Answer.{CWrittenTo, entryAnswer, labelAnswer, numberAnswer, rangeAnswer, tupleAnswer};
+ghost use Rattle.hexline.specs.Line.{entry_line_of, line_kind_of, label_line_of, range_line_of, read_entry_line, read_label_line, read_range_line, read_tuple_line, tuple_line_of};
+ghost use Rattle.abi.specs.Answer.{CWrittenTo, entry_answer, label_answer, number_answer, range_answer, tuple_answer};
 ghost use Rattle.abi.specs.Entry as entries;
 
 use abi::answer::{CAnswer, CEntryAnswer, CLabelAnswer, CRangeAnswer, CTupleAnswer};
@@ -15,35 +15,35 @@ use range::tuple::Tuple;
 
 #[unsafe(no_mangle)]
 pub extern "C" fn lurm_line_kind(line: &[u8]) -> CAnswer
-    ensures { result ≡ numberAnswer (lineKindOf line.now) }
+    ensures { result ≡ number_answer (line_kind_of line.now) }
 {
     answer::of_kind(hexline::kind_of(line))
 }
 
 #[unsafe(no_mangle)]
 pub extern "C" fn lurm_write_label(l: Label, out: &mut [u8]) -> CAnswer
-    ensures { CWrittenTo result (labelLineOf l) out.old out.new }
+    ensures { CWrittenTo result (label_line_of l) out.old out.new }
 {
     answer::of_written(hexline::write_label(l, out))
 }
 
 #[unsafe(no_mangle)]
 pub extern "C" fn lurm_write_range(x: Range, out: &mut [u8]) -> CAnswer
-    ensures { CWrittenTo result (rangeLineOf x) out.old out.new }
+    ensures { CWrittenTo result (range_line_of x) out.old out.new }
 {
     answer::of_written(hexline::write_range(x, out))
 }
 
 #[unsafe(no_mangle)]
 pub extern "C" fn lurm_write_tuple(t: Tuple, out: &mut [u8]) -> CAnswer
-    ensures { CWrittenTo result (tupleLineOf t) out.old out.new }
+    ensures { CWrittenTo result (tuple_line_of t) out.old out.new }
 {
     answer::of_written(hexline::write_tuple(t, out))
 }
 
 #[unsafe(no_mangle)]
 pub extern "C" fn lurm_write_entry(e: CEntry, out: &mut [u8]) -> CAnswer
-    ensures { CWrittenTo result (require (entries.formedOf e) 22 (entryLineOf (entries.decodedOf e))) out.old out.new }
+    ensures { CWrittenTo result (require (entries.formed_of e) 22 (entry_line_of (entries.decoded_of e))) out.old out.new }
 {
     if entry::formed(e) {
         return answer::of_written(hexline::write_entry(entry::decode(e), out));
@@ -53,7 +53,7 @@ pub extern "C" fn lurm_write_entry(e: CEntry, out: &mut [u8]) -> CAnswer
 
 #[unsafe(no_mangle)]
 pub extern "C" fn lurm_read_label(line: &[u8]) -> CLabelAnswer
-    ensures { result ≡ labelAnswer (readLabelLine line.now) }
+    ensures { result ≡ label_answer (read_label_line line.now) }
 {
     let x = hexline::read_label(line);
     let outcome = x.outcome;
@@ -62,7 +62,7 @@ pub extern "C" fn lurm_read_label(line: &[u8]) -> CLabelAnswer
 
 #[unsafe(no_mangle)]
 pub extern "C" fn lurm_read_range(line: &[u8]) -> CRangeAnswer
-    ensures { result ≡ rangeAnswer (readRangeLine line.now) }
+    ensures { result ≡ range_answer (read_range_line line.now) }
 {
     let x = hexline::read_range(line);
     let outcome = x.outcome;
@@ -71,7 +71,7 @@ pub extern "C" fn lurm_read_range(line: &[u8]) -> CRangeAnswer
 
 #[unsafe(no_mangle)]
 pub extern "C" fn lurm_read_tuple(line: &[u8]) -> CTupleAnswer
-    ensures { result ≡ tupleAnswer (readTupleLine line.now) }
+    ensures { result ≡ tuple_answer (read_tuple_line line.now) }
 {
     let x = hexline::read_tuple(line);
     let outcome = x.outcome;
@@ -80,7 +80,7 @@ pub extern "C" fn lurm_read_tuple(line: &[u8]) -> CTupleAnswer
 
 #[unsafe(no_mangle)]
 pub extern "C" fn lurm_read_entry(line: &[u8]) -> CEntryAnswer
-    ensures { result ≡ entryAnswer (readEntryLine line.now) }
+    ensures { result ≡ entry_answer (read_entry_line line.now) }
 {
     let x = hexline::read_entry(line);
     let outcome = x.outcome;

@@ -4,7 +4,7 @@ ghost use Rattle.common.specs.Answer.{granted, require};
 ghost use Rattle.label.specs.Label as labels;
 ghost use Rattle.range.specs.Range as ranges;
 ghost use Rattle.range.specs.Tuple as tuples;
-ghost use Rattle.abi.specs.Answer.{rangeAnswer, testAnswer, tupleAnswer};
+ghost use Rattle.abi.specs.Answer.{range_answer, test_answer, tuple_answer};
 
 use abi::answer;
 use abi::answer::{CAnswer, CRangeAnswer, CTupleAnswer};
@@ -14,14 +14,14 @@ use range::{Range, tuple};
 
 #[unsafe(no_mangle)]
 pub extern "C" fn lurm_range_contains(x: Range, l: Label) -> CAnswer
-    ensures { result ≡ testAnswer (require (ranges.valid_of x && labels.valid_of l) 22 (granted (ranges.containsOf x l))) }
+    ensures { result ≡ test_answer (require (ranges.valid_of x && labels.valid_of l) 22 (granted (ranges.contains_of x l))) }
 {
     answer::of_test(range::contains(x, l))
 }
 
 #[unsafe(no_mangle)]
 pub extern "C" fn lurm_range_meet(x: Range, y: Range) -> CRangeAnswer
-    ensures { result ≡ rangeAnswer (ranges.meetAnswerOf x y) }
+    ensures { result ≡ range_answer (ranges.meet_answer_of x y) }
 {
     let m = range::meet(x, y);
     let outcome = m.outcome;
@@ -30,7 +30,7 @@ pub extern "C" fn lurm_range_meet(x: Range, y: Range) -> CRangeAnswer
 
 #[unsafe(no_mangle)]
 pub extern "C" fn lurm_range_split(x: Range) -> CTupleAnswer
-    ensures { result ≡ tupleAnswer (require (ranges.valid_of x) 22 (granted (tuples.splitOf x))) }
+    ensures { result ≡ tuple_answer (require (ranges.valid_of x) 22 (granted (tuples.split_of x))) }
 {
     let t = tuple::split(x);
     let outcome = t.outcome;
@@ -39,28 +39,28 @@ pub extern "C" fn lurm_range_split(x: Range) -> CTupleAnswer
 
 #[unsafe(no_mangle)]
 pub extern "C" fn lurm_tuple_is_empty(t: Tuple) -> CAnswer
-    ensures { result ≡ testAnswer (require (tuples.valid_of t) 22 (granted (tuples.emptyOf t))) }
+    ensures { result ≡ test_answer (require (tuples.valid_of t) 22 (granted (tuples.empty_of t))) }
 {
     answer::of_test(tuple::is_empty(t))
 }
 
 #[unsafe(no_mangle)]
 pub extern "C" fn lurm_tuple_contains(t: Tuple, l: Label) -> CAnswer
-    ensures { result ≡ testAnswer (require (tuples.valid_of t && labels.valid_of l) 22 (granted (tuples.containsOf t l))) }
+    ensures { result ≡ test_answer (require (tuples.valid_of t && labels.valid_of l) 22 (granted (tuples.contains_of t l))) }
 {
     answer::of_test(tuple::contains(t, l))
 }
 
 #[unsafe(no_mangle)]
 pub extern "C" fn lurm_tuple_within(t: Tuple, u: Tuple) -> CAnswer
-    ensures { result ≡ testAnswer (require (tuples.valid_of t && tuples.valid_of u) 22 (granted (tuples.withinOf t u))) }
+    ensures { result ≡ test_answer (require (tuples.valid_of t && tuples.valid_of u) 22 (granted (tuples.within_of t u))) }
 {
     answer::of_test(tuple::within(t, u))
 }
 
 #[unsafe(no_mangle)]
 pub extern "C" fn lurm_tuple_meet(t: Tuple, u: Tuple) -> CTupleAnswer
-    ensures { result ≡ tupleAnswer (require (tuples.valid_of t && tuples.valid_of u) 22 (granted (tuples.meet_of t u))) }
+    ensures { result ≡ tuple_answer (require (tuples.valid_of t && tuples.valid_of u) 22 (granted (tuples.meet_of t u))) }
 {
     let m = tuple::meet(t, u);
     let outcome = m.outcome;

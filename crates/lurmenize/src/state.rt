@@ -1,12 +1,12 @@
 // Calls on a state that is passed and handed back.
 ghost use Rattle.std.specs.Prelude.{◌≡◌};
 ghost use Rattle.common.specs.Answer.{granted, require};
-ghost use Rattle.segments.specs.Calls.{Decides, call_of, closeCall, lookCall, openCall, postCall, sizeCall, step_of};
-ghost use Rattle.segment_table.specs.Operator.{admitOf, makeOf, setCeilingOf};
-ghost use Rattle.segment_table.specs.Slots.{pagesOf};
+ghost use Rattle.segments.specs.Calls.{Decides, call_of, close_call, look_call, open_call, post_call, size_call, step_of};
+ghost use Rattle.segment_table.specs.Operator.{admit_of, make_of, set_ceiling_of};
+ghost use Rattle.segment_table.specs.Slots.{pages_of};
 ghost use Rattle.segment_table.specs.Sound.{admitted, sound};
-ghost use Rattle.abi.specs.Answer.{numberAnswer, testAnswer};
-ghost use Rattle.abi.specs.Outcome.{stepOutcome};
+ghost use Rattle.abi.specs.Answer.{number_answer, test_answer};
+ghost use Rattle.abi.specs.Outcome.{step_outcome};
 
 use abi::answer::CAnswer;
 use abi::outcome::COutcome;
@@ -18,7 +18,7 @@ use segments::{Action, Call, Change, CloseCall, LookCall, OpenCall, PostCall, Si
 
 #[unsafe(no_mangle)]
 pub extern "C" fn lurm_make(pool: u64) -> COutcome
-    ensures { result ≡ stepOutcome (makeOf pool) }
+    ensures { result ≡ step_outcome (make_of pool) }
 {
     outcome::hand_back(operator::make(pool))
 }
@@ -30,14 +30,14 @@ pub extern "C" fn lurm_admit(
     ceiling: u64,
     clearance: Tuple,
 ) -> COutcome
-    ensures { result ≡ stepOutcome (admitOf state tenant ceiling clearance) }
+    ensures { result ≡ step_outcome (admit_of state tenant ceiling clearance) }
 {
     outcome::hand_back(operator::admit(state, tenant, ceiling, clearance))
 }
 
 #[unsafe(no_mangle)]
 pub extern "C" fn lurm_set_ceiling(state: SegmentTable, tenant: TenantId, ceiling: u64) -> COutcome
-    ensures { result ≡ stepOutcome (setCeilingOf state tenant ceiling) }
+    ensures { result ≡ step_outcome (set_ceiling_of state tenant ceiling) }
 {
     outcome::hand_back(operator::set_ceiling(state, tenant, ceiling))
 }
@@ -61,7 +61,7 @@ pub extern "C" fn lurm_open(
     label: Label,
     pages: u64,
 ) -> COutcome
-    ensures { result ≡ stepOutcome (step_of state (openCall tenant label pages)) }
+    ensures { result ≡ step_outcome (step_of state (open_call tenant label pages)) }
 {
     let action = Action::Open(OpenCall { pages });
     outcome::apply(state, decided(state, tenant, label, action))
@@ -75,7 +75,7 @@ pub extern "C" fn lurm_size(
     slot: Slot,
     pages: u64,
 ) -> COutcome
-    ensures { result ≡ stepOutcome (step_of state (sizeCall tenant label slot pages)) }
+    ensures { result ≡ step_outcome (step_of state (size_call tenant label slot pages)) }
 {
     let action = Action::Size(SizeCall { slot, pages });
     outcome::apply(state, decided(state, tenant, label, action))
@@ -89,7 +89,7 @@ pub extern "C" fn lurm_post(
     slot: Slot,
     version: u64,
 ) -> COutcome
-    ensures { result ≡ stepOutcome (step_of state (postCall tenant label slot version)) }
+    ensures { result ≡ step_outcome (step_of state (post_call tenant label slot version)) }
 {
     let action = Action::Post(PostCall { slot, version });
     outcome::apply(state, decided(state, tenant, label, action))
@@ -102,7 +102,7 @@ pub extern "C" fn lurm_close(
     label: Label,
     slot: Slot,
 ) -> COutcome
-    ensures { result ≡ stepOutcome (step_of state (closeCall tenant label slot)) }
+    ensures { result ≡ step_outcome (step_of state (close_call tenant label slot)) }
 {
     let action = Action::Close(CloseCall { slot });
     outcome::apply(state, decided(state, tenant, label, action))
@@ -115,7 +115,7 @@ pub extern "C" fn lurm_look(
     label: Label,
     slot: Slot,
 ) -> COutcome
-    ensures { result ≡ stepOutcome (step_of state (lookCall tenant label slot)) }
+    ensures { result ≡ step_outcome (step_of state (look_call tenant label slot)) }
 {
     let action = Action::Look(LookCall { slot });
     outcome::apply(state, decided(state, tenant, label, action))
@@ -124,7 +124,7 @@ pub extern "C" fn lurm_look(
 // Whether a state is sound.
 #[unsafe(no_mangle)]
 pub extern "C" fn lurm_sound(state: SegmentTable) -> CAnswer
-    ensures { result ≡ testAnswer (granted (sound state)) }
+    ensures { result ≡ test_answer (granted (sound state)) }
 {
     if segment_table::state::sound(state) {
         return answer::granted(1);
@@ -134,7 +134,7 @@ pub extern "C" fn lurm_sound(state: SegmentTable) -> CAnswer
 
 #[unsafe(no_mangle)]
 pub extern "C" fn lurm_pages_in_use(state: SegmentTable, tenant: TenantId) -> CAnswer
-    ensures { result ≡ numberAnswer (require (sound state) 22 (require (admitted state tenant) 22 (granted (pagesOf state tenant)))) }
+    ensures { result ≡ number_answer (require (sound state) 22 (require (admitted state tenant) 22 (granted (pages_of state tenant)))) }
 {
     answer::of_number(segment_table::state::pages_in_use(state, tenant))
 }

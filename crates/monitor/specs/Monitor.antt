@@ -1,7 +1,7 @@
 -- Document 01, "The monitor", with document 02's requests 2026-01, who may ask it, and 2026-03, receiving a message.
 use Rattle.std.specs.Prelude.{Bool, true, false, cond, not, ◌&&◌, ◌||◌, List, [], ◌∷◌, ℕ, eqb, leb, ltb}
-use Rattle.common.specs.Answer.{Answer, granted, refusedBy, require}
-use Rattle.label.specs.Caller.{callerValid, seesOf}
+use Rattle.common.specs.Answer.{Answer, granted, refused_by, require}
+use Rattle.label.specs.Caller.{caller_valid, sees_of}
 use Rattle.label.specs.Label
 use Rattle.label.specs.Words.{bit}
 use Rattle.label.specs.declared.Label.{Label}
@@ -23,23 +23,23 @@ use Rattle.monitor.specs.declared.Request.{Request}
 -- ---- the intents
 
 -- the intents, by their bits
-abbrev pub intentWrite : ℕ
-intentWrite = 0
+abbrev pub intent_write : ℕ
+intent_write = 0
 
-abbrev pub intentRead : ℕ
-intentRead = 1
+abbrev pub intent_read : ℕ
+intent_read = 1
 
-abbrev pub intentExecute : ℕ
-intentExecute = 2
+abbrev pub intent_execute : ℕ
+intent_execute = 2
 
-abbrev pub intentSearch : ℕ
-intentSearch = 3
+abbrev pub intent_search : ℕ
+intent_search = 3
 
-abbrev pub intentGet : ℕ
-intentGet = 4
+abbrev pub intent_get : ℕ
+intent_get = 4
 
-abbrev pub intentSet : ℕ
-intentSet = 5
+abbrev pub intent_set : ℕ
+intent_set = 5
 
 -- whether an intent is among those that are asked for
 abbrev pub asks : ℕ → ℕ → Bool
@@ -51,86 +51,86 @@ implies p q = not p || q
 -- ---- the first step: what is refused with 22
 
 -- 1 to 63, and not execute with search
-unfoldable pub intentsValid : ℕ → Bool
-intentsValid intents = ltb 0 intents && leb intents 63 && not (asks intents intentExecute && asks intents intentSearch)
+unfoldable pub intents_valid : ℕ → Bool
+intents_valid intents = ltb 0 intents && leb intents 63 && not (asks intents intent_execute && asks intents intent_search)
 
 -- a label inside a valid range
-unfoldable pub credentialsValid : Credentials → Bool
-credentialsValid c = Range.valid_of c.range && Range.containsOf c.range c.label
+unfoldable pub credentials_valid : Credentials → Bool
+credentials_valid c = Range.valid_of c.range && Range.contains_of c.range c.label
 
 -- a label, a tuple or both
-abbrev pub labelOrTuple : Object → Bool
-labelOrTuple o = o.present.label || o.present.tuple
+abbrev pub label_or_tuple : Object → Bool
+label_or_tuple o = o.present.label || o.present.tuple
 
 -- each that is there is valid
-abbrev pub labelValid : Object → Bool
-labelValid o = implies o.present.label (Label.valid_of o.label)
+abbrev pub label_valid : Object → Bool
+label_valid o = implies o.present.label (Label.valid_of o.label)
 
-abbrev pub tupleValid : Object → Bool
-tupleValid o = implies o.present.tuple (Tuple.valid_of o.tuple)
+abbrev pub tuple_valid : Object → Bool
+tuple_valid o = implies o.present.tuple (Tuple.valid_of o.tuple)
 
-unfoldable pub objectValid : Object → Bool
-objectValid o = labelOrTuple o && labelValid o && tupleValid o
+unfoldable pub object_valid : Object → Bool
+object_valid o = label_or_tuple o && label_valid o && tuple_valid o
 
-abbrev pub isFile : ObjectClass → Bool
-isFile File = true
-isFile Fifo = false
-isFile Process = false
-isFile MessageQueue = false
-isFile SharedMemory = false
-isFile Semaphore = false
+abbrev pub is_file : ObjectClass → Bool
+is_file File = true
+is_file Fifo = false
+is_file Process = false
+is_file MessageQueue = false
+is_file SharedMemory = false
+is_file Semaphore = false
 
-abbrev pub isRegular : FileKind → Bool
-isRegular Regular = true
-isRegular Directory = false
-isRegular Other = false
+abbrev pub is_regular : FileKind → Bool
+is_regular Regular = true
+is_regular Directory = false
+is_regular Other = false
 
-abbrev pub isDirectory : FileKind → Bool
-isDirectory Regular = false
-isDirectory Directory = true
-isDirectory Other = false
+abbrev pub is_directory : FileKind → Bool
+is_directory Regular = false
+is_directory Directory = true
+is_directory Other = false
 
 -- execute is for a regular file, search for a directory
-unfoldable pub kindValid : ℕ → ObjectClass → FileKind → Bool
-kindValid intents c k =
-    implies (asks intents intentExecute) (isFile c && isRegular k) && implies (asks intents intentSearch) (isFile c && isDirectory k)
+unfoldable pub kind_valid : ℕ → ObjectClass → FileKind → Bool
+kind_valid intents c k =
+    implies (asks intents intent_execute) (is_file c && is_regular k) && implies (asks intents intent_search) (is_file c && is_directory k)
 
 -- with an attribute intent, the type is 1, a label, or 2, a tuple
-unfoldable pub attributeValid : ℕ → ℕ → Bool
-attributeValid intents type = implies (asks intents intentGet || asks intents intentSet) (eqb type 1 || eqb type 2)
+unfoldable pub attribute_valid : ℕ → ℕ → Bool
+attribute_valid intents type = implies (asks intents intent_get || asks intents intent_set) (eqb type 1 || eqb type 2)
 
 unfoldable pub valid_of : Request → Bool
 valid_of r =
-    intentsValid r.intents
-    && credentialsValid r.credentials
-    && objectValid r.object
-    && kindValid r.intents r.object.class r.object.kind
-    && attributeValid r.intents r.attribute
-    && callerValid r.caller
+    intents_valid r.intents
+    && credentials_valid r.credentials
+    && object_valid r.object
+    && kind_valid r.intents r.object.class r.object.kind
+    && attribute_valid r.intents r.attribute
+    && caller_valid r.caller
 
 -- ---- between the first and the second step: who asks
 
 -- whether the caller may see the credentials' label, and the object's where there is one
-unfoldable pub callerSees : Request → Bool
-callerSees r =
-    seesOf r.caller r.credentials.label
-    && implies r.object.present.label (seesOf r.caller r.object.label)
+unfoldable pub caller_sees : Request → Bool
+caller_sees r =
+    sees_of r.caller r.credentials.label
+    && implies r.object.present.label (sees_of r.caller r.object.label)
 
 -- ---- the second step: the table of intents
 
 -- an intent observes the object or modifies it: what that needs under a label
-abbrev pub underLabel : Access → Label → Label → Bool
-underLabel Observe subject object = Label.dominatesOf subject object
-underLabel Modify subject object = Label.equal_of subject object
+abbrev pub under_label : Access → Label → Label → Bool
+under_label Observe subject object = Label.dominates_of subject object
+under_label Modify subject object = Label.equal_of subject object
 
 -- what either needs under a tuple: that it is there and contains the subject's label
-abbrev pub underTuple : Label → Object → Bool
-underTuple subject o = o.present.tuple && Tuple.containsOf o.tuple subject
+abbrev pub under_tuple : Label → Object → Bool
+under_tuple subject o = o.present.tuple && Tuple.contains_of o.tuple subject
 
 -- the override by which it passes where its test is not met
-abbrev pub overrideOf : Access → Privileges → Bool
-overrideOf Observe p = p.read
-overrideOf Modify p = p.write
+abbrev pub override_of : Access → Privileges → Bool
+override_of Observe p = p.read
+override_of Modify p = p.write
 
 -- an intent, what it does, and to objects of which class
 pub record Row : Type 0 where
@@ -141,27 +141,27 @@ pub record Row : Type 0 where
 abbrev pub row : ℕ → Access → (ObjectClass → Bool) → Row
 row intent access on = record { intent = intent; access = access; on = on }
 
-abbrev pub anyClass : ObjectClass → Bool
-anyClass c = true
+abbrev pub any_class : ObjectClass → Bool
+any_class c = true
 
 -- where a read takes away what it reads: it is a read and a write together. The fifo is document 01's, the message queue request 2026-03's
-abbrev pub destructiveRead : ObjectClass → Bool
-destructiveRead File = false
-destructiveRead Fifo = true
-destructiveRead Process = false
-destructiveRead MessageQueue = true
-destructiveRead SharedMemory = false
-destructiveRead Semaphore = false
+abbrev pub destructive_read : ObjectClass → Bool
+destructive_read File = false
+destructive_read Fifo = true
+destructive_read Process = false
+destructive_read MessageQueue = true
+destructive_read SharedMemory = false
+destructive_read Semaphore = false
 
 unfoldable pub table : List Row
 table =
-    row intentWrite Modify anyClass
-    ∷ row intentRead Observe anyClass
-    ∷ row intentRead Modify destructiveRead
-    ∷ row intentExecute Observe anyClass
-    ∷ row intentSearch Observe anyClass
-    ∷ row intentGet Observe anyClass
-    ∷ row intentSet Modify anyClass
+    row intent_write Modify any_class
+    ∷ row intent_read Observe any_class
+    ∷ row intent_read Modify destructive_read
+    ∷ row intent_execute Observe any_class
+    ∷ row intent_search Observe any_class
+    ∷ row intent_get Observe any_class
+    ∷ row intent_set Modify any_class
     ∷ []
 
 -- whether a row of the table is asked for
@@ -169,44 +169,44 @@ abbrev pub applies : Request → Row → Bool
 applies r x = asks r.intents x.intent && x.on r.object.class
 
 -- whether the test of an access is met. A label governs where both are there
-unfoldable pub metOf : Label → Object → Access → Bool
-metOf subject o a = cond o.present.label (underLabel a subject o.label) (underTuple subject o)
+unfoldable pub met_of : Label → Object → Access → Bool
+met_of subject o a = cond o.present.label (under_label a subject o.label) (under_tuple subject o)
 
 -- whether a row is asked for and its test is not met
 abbrev pub unmet : Request → Row → Bool
-unmet r x = applies r x && not (metOf r.credentials.label r.object x.access)
+unmet r x = applies r x && not (met_of r.credentials.label r.object x.access)
 
 -- whether a row is asked for and neither is its test met nor is there the override
 abbrev pub denied : Request → Row → Bool
 denied r x =
     applies r x
-    && not (metOf r.credentials.label r.object x.access || overrideOf x.access r.credentials.privileges)
+    && not (met_of r.credentials.label r.object x.access || override_of x.access r.credentials.privileges)
 
-unfoldable pub someRow : (Row → Bool) → List Row → Bool
-someRow f [] = false
-someRow f (x ∷ xs) = f x || someRow f xs
+unfoldable pub some_row : (Row → Bool) → List Row → Bool
+some_row f [] = false
+some_row f (x ∷ xs) = f x || some_row f xs
 
 -- ---- the steps, and the answer
 
 -- what a grant answers: 1 if any privilege was needed, and set attribute always needs one, else 0
-unfoldable pub grantBy : List Row → Request → ℕ
-grantBy rows r = cond (someRow (unmet r) rows || asks r.intents intentSet) 1 0
+unfoldable pub grant_by : List Row → Request → ℕ
+grant_by rows r = cond (some_row (unmet r) rows || asks r.intents intent_set) 1 0
 
 -- what is answered once the caller may ask, whoever that is
-unfoldable pub intentsBy : List Row → Request → Answer ℕ
-intentsBy rows r =
-    require (not (someRow (denied r) rows)) 13
-    (require (not (asks r.intents intentSet && not r.credentials.privileges.relabel)) 1 (granted (grantBy rows r)))
+unfoldable pub intents_by : List Row → Request → Answer ℕ
+intents_by rows r =
+    require (not (some_row (denied r) rows)) 13
+    (require (not (asks r.intents intent_set && not r.credentials.privileges.relabel)) 1 (granted (grant_by rows r)))
 
-unfoldable pub decideBy : List Row → Request → Answer ℕ
-decideBy rows r = require (valid_of r) 22 (require (callerSees r) 13 (intentsBy rows r))
+unfoldable pub decide_by : List Row → Request → Answer ℕ
+decide_by rows r = require (valid_of r) 22 (require (caller_sees r) 13 (intents_by rows r))
 
 -- the monitor's decision
-abbrev pub decisionFor : Request → Answer ℕ
-decisionFor r = decideBy table r
+abbrev pub decision_for : Request → Answer ℕ
+decision_for r = decide_by table r
 
 -- what the enum Decision says
-abbrev pub decisionOf : Decision → Answer ℕ
-decisionOf Granted = granted 0
-decisionOf Privileged = granted 1
-decisionOf (Refused e) = refusedBy e
+abbrev pub decision_of : Decision → Answer ℕ
+decision_of Granted = granted 0
+decision_of Privileged = granted 1
+decision_of (Refused e) = refused_by e

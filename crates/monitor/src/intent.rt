@@ -1,8 +1,8 @@
 // Intents: which are asked for, and what they do.
 ghost use Rattle.std.specs.Prelude.{◌≡◌, ◌<◌};
 ghost use Rattle.label.specs.Words.{bit};
-ghost use Rattle.monitor.specs.Monitor.{attributeValid, destructiveRead, intentsValid, isDirectory, isFile, isRegular, kindValid};
-ghost use Rattle.monitor.specs.Internal.Needs.{modifiesOf, observesOf};
+ghost use Rattle.monitor.specs.Monitor.{attribute_valid, destructive_read, intents_valid, is_directory, is_file, is_regular, kind_valid};
+ghost use Rattle.monitor.specs.Internal.Needs.{modifies_of, observes_of};
 
 use crate::{FileKind, ObjectClass};
 
@@ -28,7 +28,7 @@ pub(crate) fn asks(intents: u64, intent: u32) -> bool
 
 // Whether a read takes away what it reads, and so is a read and a write together.
 fn destructive_read(class: ObjectClass) -> bool
-    ensures { result ≡ destructiveRead class }
+    ensures { result ≡ destructive_read class }
 {
     match class {
         ObjectClass::File => false,
@@ -41,7 +41,7 @@ fn destructive_read(class: ObjectClass) -> bool
 }
 
 fn is_file(class: ObjectClass) -> bool
-    ensures { result ≡ isFile class }
+    ensures { result ≡ is_file class }
 {
     match class {
         ObjectClass::File => true,
@@ -54,7 +54,7 @@ fn is_file(class: ObjectClass) -> bool
 }
 
 fn is_regular(kind: FileKind) -> bool
-    ensures { result ≡ isRegular kind }
+    ensures { result ≡ is_regular kind }
 {
     match kind {
         FileKind::Regular => true,
@@ -64,7 +64,7 @@ fn is_regular(kind: FileKind) -> bool
 }
 
 fn is_directory(kind: FileKind) -> bool
-    ensures { result ≡ isDirectory kind }
+    ensures { result ≡ is_directory kind }
 {
     match kind {
         FileKind::Regular => false,
@@ -75,7 +75,7 @@ fn is_directory(kind: FileKind) -> bool
 
 // Whether an intent that is asked for observes the object.
 pub(crate) fn observes(intents: u64) -> bool
-    ensures { result ≡ observesOf intents }
+    ensures { result ≡ observes_of intents }
 {
     asks(intents, READ)
         | asks(intents, EXECUTE)
@@ -85,7 +85,7 @@ pub(crate) fn observes(intents: u64) -> bool
 
 // Whether an intent that is asked for modifies the object.
 pub(crate) fn modifies(intents: u64, class: ObjectClass) -> bool
-    ensures { result ≡ modifiesOf intents class }
+    ensures { result ≡ modifies_of intents class }
 {
     asks(intents, WRITE)
         | (asks(intents, READ) & destructive_read(class))
@@ -94,14 +94,14 @@ pub(crate) fn modifies(intents: u64, class: ObjectClass) -> bool
 
 // Whether the intents are any, and can be asked for together.
 pub(crate) fn valid(intents: u64) -> bool
-    ensures { result ≡ intentsValid intents }
+    ensures { result ≡ intents_valid intents }
 {
     (0 < intents) & (intents <= 63) & !(asks(intents, EXECUTE) & asks(intents, SEARCH))
 }
 
 // Whether the object is of the kind that the intents are for.
 pub(crate) fn kind_valid(intents: u64, class: ObjectClass, kind: FileKind) -> bool
-    ensures { result ≡ kindValid intents class kind }
+    ensures { result ≡ kind_valid intents class kind }
 {
     let file = is_file(class);
     (!asks(intents, EXECUTE) | (file & is_regular(kind)))
@@ -110,7 +110,7 @@ pub(crate) fn kind_valid(intents: u64, class: ObjectClass, kind: FileKind) -> bo
 
 // Whether the attribute type is one, if an attribute is asked for.
 pub(crate) fn attribute_valid(intents: u64, attribute: u64) -> bool
-    ensures { result ≡ attributeValid intents attribute }
+    ensures { result ≡ attribute_valid intents attribute }
 {
     !(asks(intents, GET_ATTRIBUTE) | asks(intents, SET_ATTRIBUTE))
         | ((attribute == 1) | (attribute == 2))

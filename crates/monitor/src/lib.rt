@@ -10,8 +10,8 @@ ghost use Rattle.std.specs.Prelude.{◌≡◌, true, ◌&&◌};
 ghost use Rattle.common.specs.Answer.{granted, require, test_of};
 ghost use Rattle.label.specs.Label as labels;
 ghost use Rattle.range.specs.Tuple as tuples;
-ghost use Rattle.monitor.specs.Monitor.{callerSees, credentialsValid, decisionFor, decisionOf, implies, metOf, objectValid, tupleValid, underLabel, underTuple, valid_of};
-ghost use Rattle.monitor.specs.Internal.Needs.{answerBy, neededOf};
+ghost use Rattle.monitor.specs.Monitor.{caller_sees, credentials_valid, decision_for, decision_of, implies, met_of, object_valid, tuple_valid, under_label, under_tuple, valid_of};
+ghost use Rattle.monitor.specs.Internal.Needs.{answer_by, needed_of};
 
 use common::answer::Test;
 use common::errno::Errno;
@@ -97,7 +97,7 @@ enum Access {
 
 // Whether the subject's label is inside its range, which is valid.
 fn credentials_valid(c: Credentials) -> bool
-    ensures { result ≡ credentialsValid c }
+    ensures { result ≡ credentials_valid c }
 {
     let t = range::contains(c.range, c.label);
     match t {
@@ -109,7 +109,7 @@ fn credentials_valid(c: Credentials) -> bool
 // What `tuple::contains` answers. The compiler inlines this one, and so reads the tuple where the caller has it; for a call of `tuple::contains` it
 // copies the tuple twice, and once even where an object has none.
 fn in_tuple(t: Tuple, l: Label) -> Test
-    ensures { test_of result ≡ require (tuples.valid_of t && labels.valid_of l) 22 (granted (tuples.containsOf t l)) }
+    ensures { test_of result ≡ require (tuples.valid_of t && labels.valid_of l) 22 (granted (tuples.contains_of t l)) }
 {
     if tuple::valid(t) & label::valid(l) {
         return Test::Holds(tested::contains(t, l));
@@ -119,7 +119,7 @@ fn in_tuple(t: Tuple, l: Label) -> Test
 
 // Whether the object's tuple is there and contains the subject's label. Where it is there and one of the two is invalid, that is refused.
 fn contained(subject: Label, o: Object) -> Test
-    ensures { test_of result ≡ require (implies o.present.tuple (tuples.valid_of o.tuple && labels.valid_of subject)) 22 (granted (underTuple subject o)) }
+    ensures { test_of result ≡ require (implies o.present.tuple (tuples.valid_of o.tuple && labels.valid_of subject)) 22 (granted (under_tuple subject o)) }
 {
     if o.present.tuple {
         return in_tuple(o.tuple, subject);
@@ -129,15 +129,15 @@ fn contained(subject: Label, o: Object) -> Test
 
 // Whether the object has a label or a tuple, and its label, where it is there, is valid.
 fn object_valid(o: Object) -> bool
-    requires { tupleValid o ≡ true }
-    ensures { result ≡ objectValid o }
+    requires { tuple_valid o ≡ true }
+    ensures { result ≡ object_valid o }
 {
     (o.present.label | o.present.tuple) & (!o.present.label | label::valid(o.label))
 }
 
 // Whether what is asked can be decided: document 01's first step.
 fn valid(r: Request) -> bool
-    requires { tupleValid r.object ≡ true }
+    requires { tuple_valid r.object ≡ true }
     ensures { result ≡ valid_of r }
 {
     let o = r.object;
@@ -153,7 +153,7 @@ fn valid(r: Request) -> bool
 
 // Whether the caller may ask: it sees the subject's label, and the object's where there is one.
 fn caller_sees(r: Request) -> bool
-    ensures { result ≡ callerSees r }
+    ensures { result ≡ caller_sees r }
 {
     let c = r.caller;
     let subject = r.credentials;
@@ -163,7 +163,7 @@ fn caller_sees(r: Request) -> bool
 
 // Whether the test of an access is met under a label.
 fn under_label(a: Access, subject: Label, object: Label) -> bool
-    ensures { result ≡ underLabel a subject object }
+    ensures { result ≡ under_label a subject object }
 {
     match a {
         Access::Observe => tested::dominates(subject, object),
@@ -173,8 +173,8 @@ fn under_label(a: Access, subject: Label, object: Label) -> bool
 
 // Whether the test of an access is met, given whether the object's tuple is there and contains the subject's label.
 fn met(subject: Label, o: Object, a: Access, inside: bool) -> bool
-    requires { inside ≡ underTuple subject o }
-    ensures { result ≡ metOf subject o a }
+    requires { inside ≡ under_tuple subject o }
+    ensures { result ≡ met_of subject o a }
 {
     if o.present.label {
         return under_label(a, subject, o.label);
@@ -184,8 +184,8 @@ fn met(subject: Label, o: Object, a: Access, inside: bool) -> bool
 
 // The privileges that a request needs: an override where a test is not met, and relabel to set an attribute.
 fn needed(r: Request, inside: bool) -> Privileges
-    requires { inside ≡ underTuple r.credentials.label r.object }
-    ensures { result ≡ neededOf r }
+    requires { inside ≡ under_tuple r.credentials.label r.object }
+    ensures { result ≡ needed_of r }
 {
     let subject = r.credentials.label;
     let o = r.object;
@@ -199,7 +199,7 @@ fn needed(r: Request, inside: bool) -> Privileges
 
 // What is answered where privileges are needed: document 01's second and third step, and the grants.
 fn answer(needed: Privileges, p: Privileges) -> Decision
-    ensures { decisionOf result ≡ answerBy needed p }
+    ensures { decision_of result ≡ answer_by needed p }
 {
     if (needed.read & !p.read) | (needed.write & !p.write) {
         return Decision::Refused(Errno::Access);
@@ -215,9 +215,9 @@ fn answer(needed: Privileges, p: Privileges) -> Decision
 
 // The decision where the object's tuple, if it is there, is valid.
 fn check_tested(r: Request, inside: bool) -> Decision
-    requires object_value { tupleValid r.object ≡ true }
-    requires inside_value { inside ≡ underTuple r.credentials.label r.object }
-    ensures { decisionOf result ≡ decisionFor r }
+    requires object_value { tuple_valid r.object ≡ true }
+    requires inside_value { inside ≡ under_tuple r.credentials.label r.object }
+    ensures { decision_of result ≡ decision_for r }
 {
     if !valid(r) {
         return Decision::Refused(Errno::Invalid);
@@ -230,7 +230,7 @@ fn check_tested(r: Request, inside: bool) -> Decision
 
 // May the subject do that to the object.
 pub fn check(r: Request) -> Decision
-    ensures { decisionOf result ≡ decisionFor r }
+    ensures { decision_of result ≡ decision_for r }
 {
     let t = contained(r.credentials.label, r.object);
     match t {

@@ -1,7 +1,7 @@
 // Classes, kinds and privileges by their numbers, as programs and C have them. A number that names nothing is refused: named is false, and what stands
 // beside it is of the number 0.
 ghost use Rattle.std.specs.Prelude.{◌≡◌};
-ghost use Rattle.monitor.specs.Numbers.{namedPrivileges, privilegesNamed, typeNamed};
+ghost use Rattle.monitor.specs.Numbers.{named_privileges, privileges_named, type_named};
 
 use crate::intent::asks;
 use crate::{FileKind, ObjectClass, Privileges};
@@ -22,7 +22,7 @@ pub struct NamedPrivileges {
 }
 
 fn privileges_with(named: bool, read: bool, write: bool, relabel: bool) -> NamedPrivileges
-    ensures { result ≡ namedPrivileges named read write relabel }
+    ensures { result ≡ named_privileges named read write relabel }
 {
     NamedPrivileges {
         named,
@@ -37,14 +37,14 @@ fn privileges_with(named: bool, read: bool, write: bool, relabel: bool) -> Named
 // Whether two numbers name a class and a kind. The three parts of a type have a function each, since the compiler makes such functions code
 // without branches; where each class had a branch that made all three, it made a jump table, which processors often predict wrongly.
 fn is_type(class: u64, kind: u64) -> bool
-    ensures { result ≡ (typeNamed class kind).named }
+    ensures { result ≡ (type_named class kind).named }
 {
     (class <= 5) & ((class != 0) | (kind <= 2))
 }
 
 // The class of a number, which does not depend on the kind. A number that names none has the class of 0.
 fn class_of(class: u64) -> ObjectClass
-    ensures { result ≡ (typeNamed class 0).class }
+    ensures { result ≡ (type_named class 0).class }
 {
     if class == 1 {
         return ObjectClass::Fifo;
@@ -66,7 +66,7 @@ fn class_of(class: u64) -> ObjectClass
 
 // The kind of a file by its number. What is no file has the kind `Other`, and what is not named the kind of the number 0.
 fn kind_of(class: u64, kind: u64) -> FileKind
-    ensures { result ≡ (typeNamed class kind).kind }
+    ensures { result ≡ (type_named class kind).kind }
 {
     let file = class == 0;
     if !is_type(class, kind) | (file & (kind == 0)) {
@@ -80,7 +80,7 @@ fn kind_of(class: u64, kind: u64) -> FileKind
 
 // The class of a number, 0 to 5, and for a file the kind of another, 0 to 2. For what is no file the second may be any number.
 pub fn type_of(class: u64, kind: u64) -> NamedType
-    ensures { result ≡ typeNamed class kind }
+    ensures { result ≡ type_named class kind }
 {
     NamedType {
         named: is_type(class, kind),
@@ -91,7 +91,7 @@ pub fn type_of(class: u64, kind: u64) -> NamedType
 
 // The privileges whose bits are set in a number up to 7: bit 0 read override, 1 write override, 2 relabel.
 pub fn privileges_of(n: u64) -> NamedPrivileges
-    ensures { result ≡ privilegesNamed n }
+    ensures { result ≡ privileges_named n }
 {
     if n <= 7 {
         return privileges_with(true, asks(n, 0), asks(n, 1), asks(n, 2));

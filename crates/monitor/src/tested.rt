@@ -1,8 +1,8 @@
 // Labels that were tested, taken apart: the one place of this crate that does it.
 ghost use Rattle.std.specs.Prelude.{◌≡◌};
-ghost use Rattle.label.specs.Caller.{seesOf};
-ghost use Rattle.label.specs.Label.{dominatesOf, equal_of};
-ghost use Rattle.range.specs.Tuple.{containsAt, containsOf};
+ghost use Rattle.label.specs.Caller.{sees_of};
+ghost use Rattle.label.specs.Label.{dominates_of, equal_of};
+ghost use Rattle.range.specs.Tuple.{contains_at, contains_of};
 
 use label::caller::Caller;
 use label::{Label, caller, components, region};
@@ -10,7 +10,7 @@ use range::components as regions;
 use range::tuple::{RegionRange, Tuple};
 
 pub(crate) fn dominates(a: Label, b: Label) -> bool
-    ensures { result ≡ dominatesOf a b }
+    ensures { result ≡ dominates_of a b }
 {
     let x = a.categories;
     let y = b.categories;
@@ -26,7 +26,7 @@ pub(crate) fn equal(a: Label, b: Label) -> bool
 }
 
 pub(crate) fn sees(c: Caller, l: Label) -> bool
-    ensures { result ≡ seesOf c l }
+    ensures { result ≡ sees_of c l }
 {
     let own = c.label;
     let x = own.categories;
@@ -36,7 +36,7 @@ pub(crate) fn sees(c: Caller, l: Label) -> bool
 
 // Whether a label is in what a tuple has for its region.
 fn contains_at(e: RegionRange, l: Label) -> bool
-    ensures { result ≡ containsAt e l }
+    ensures { result ≡ contains_at e l }
 {
     let low = e.range.low;
     let high = e.range.high;
@@ -56,7 +56,7 @@ fn contains_at(e: RegionRange, l: Label) -> bool
 
 // Whether a label is in a tuple. Each region has its own step: a tuple that is indexed by a variable is copied first.
 pub(crate) fn contains(t: Tuple, l: Label) -> bool
-    ensures { result ≡ containsOf t l }
+    ensures { result ≡ contains_of t l }
 {
     let r = region::of_hierarchy(l.hierarchy);
     if r == region::VIRUS_PREVENTION {

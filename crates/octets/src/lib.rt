@@ -3,7 +3,7 @@
 #![tactic(auto)]
 
 ghost use Rattle.std.specs.Prelude.{◌≡◌, ◌+◌, ◌≤◌, leb, drop, length, take};
-ghost use Rattle.octets.specs.Bytes.{Appended, FirstIndex, sameBytes};
+ghost use Rattle.octets.specs.Bytes.{Appended, FirstIndex, same_bytes};
 ghost use Rattle.octets.specs.Internal.Put.{Put};
 
 pub const LF: u8 = 10;
@@ -46,7 +46,7 @@ pub fn index_of(b: u8, xs: &[u8]) -> usize
 
 // Whether two slices have the same bytes.
 pub fn same(xs: &[u8], ys: &[u8]) -> bool
-    ensures { result ≡ sameBytes xs.now ys.now }
+    ensures { result ≡ same_bytes xs.now ys.now }
 {
     if xs.len() != ys.len() {
         return false;

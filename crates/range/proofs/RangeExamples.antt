@@ -3,51 +3,51 @@ use mathlib.Core.Bool.{true, false}
 use mathlib.Core.List.{[], ◌∷◌}
 use mathlib.Core.Path.{◌≡◌, refl}
 use Rattle.common.specs.Index.{every}
-use Rattle.label.specs.Label.{dominatesOf, equal_of}
+use Rattle.label.specs.Label.{dominates_of, equal_of}
 use Rattle.label.specs.Label as labels
-use Rattle.label.specs.Region.{regionOf}
-use Rattle.label.specs.Words.{includesOf, sameOf}
-use Rattle.label.specs.Example.{exampleOf}
-use Rattle.range.specs.Range.{range_of, valid_of, zeroRange}
-use Rattle.range.specs.Tuple.{absent, emptyOf, emptyTuple, present, tuple_of, validAt}
+use Rattle.label.specs.Region.{region_of}
+use Rattle.label.specs.Words.{includes_of, same_of}
+use Rattle.label.specs.Example.{example_of}
+use Rattle.range.specs.Range.{range_of, valid_of, zero_range}
+use Rattle.range.specs.Tuple.{absent, empty_of, empty_tuple, present, tuple_of, valid_at}
 use Rattle.range.specs.Tuple as tuples
 use Rattle.range.specs.declared.Range.{Range}
 use Rattle.range.specs.declared.tuple.Tuple.{Tuple}
 
 -- an empty tuple is valid
-empty-valid : tuples.valid_of emptyTuple ≡ true
-unfolding tuples.valid_of validAt equal_of sameOf includesOf every
-empty-valid = refl
+empty_valid : tuples.valid_of empty_tuple ≡ true
+unfolding tuples.valid_of valid_at equal_of same_of includes_of every
+empty_valid = refl
 
-empty-empty : emptyOf emptyTuple ≡ true
-unfolding emptyOf every
-empty-empty = refl
+empty_empty : empty_of empty_tuple ≡ true
+unfolding empty_of every
+empty_empty = refl
 
 -- where no range is there zeros are held, else the tuple is invalid
-abbrev heldTuple : Tuple
-heldTuple = tuple_of (record { present = 0; range = range_of (exampleOf 0 (5 ∷ [])) (exampleOf 0 []) } ∷ absent ∷ absent ∷ [])
+abbrev held_tuple : Tuple
+held_tuple = tuple_of (record { present = 0; range = range_of (example_of 0 (5 ∷ [])) (example_of 0 []) } ∷ absent ∷ absent ∷ [])
 
-held-invalid : tuples.valid_of heldTuple ≡ false
-unfolding tuples.valid_of validAt equal_of sameOf includesOf every
-held-invalid = refl
+held_invalid : tuples.valid_of held_tuple ≡ false
+unfolding tuples.valid_of valid_at equal_of same_of includes_of every
+held_invalid = refl
 
 -- a presence that is neither 0 nor 1 makes a tuple invalid, whether zeros are held there or a range
-abbrev oddTuple : Range → Tuple
-oddTuple x = tuple_of (record { present = 2; range = x } ∷ absent ∷ absent ∷ [])
+abbrev odd_tuple : Range → Tuple
+odd_tuple x = tuple_of (record { present = 2; range = x } ∷ absent ∷ absent ∷ [])
 
-odd-invalid : (tuples.valid_of (oddTuple zeroRange) ≡ false) × (tuples.valid_of (oddTuple (range_of (exampleOf 5 []) (exampleOf 9 []))) ≡ false)
-unfolding tuples.valid_of validAt equal_of sameOf includesOf every
-odd-invalid = (refl, refl)
+odd_invalid : (tuples.valid_of (odd_tuple zero_range) ≡ false) × (tuples.valid_of (odd_tuple (range_of (example_of 5 []) (example_of 9 []))) ≡ false)
+unfolding tuples.valid_of valid_at equal_of same_of includes_of every
+odd_invalid = (refl, refl)
 
 -- both ends in that region: a user range may not stand for virus prevention
-abbrev misplacedTuple : Tuple
-misplacedTuple = tuple_of (present (range_of (exampleOf 20 []) (exampleOf 30 [])) ∷ absent ∷ absent ∷ [])
+abbrev misplaced_tuple : Tuple
+misplaced_tuple = tuple_of (present (range_of (example_of 20 []) (example_of 30 [])) ∷ absent ∷ absent ∷ [])
 
-misplaced-invalid : tuples.valid_of misplacedTuple ≡ false
-unfolding tuples.valid_of validAt valid_of labels.valid_of dominatesOf includesOf equal_of sameOf every regionOf
-misplaced-invalid = refl
+misplaced_invalid : tuples.valid_of misplaced_tuple ≡ false
+unfolding tuples.valid_of valid_at valid_of labels.valid_of dominates_of includes_of equal_of same_of every region_of
+misplaced_invalid = refl
 
 -- a range whose high does not dominate its low is invalid
-reversed-invalid : valid_of (range_of (exampleOf 40 []) (exampleOf 20 [])) ≡ false
-unfolding valid_of labels.valid_of dominatesOf includesOf every
-reversed-invalid = refl
+reversed_invalid : valid_of (range_of (example_of 40 []) (example_of 20 [])) ≡ false
+unfolding valid_of labels.valid_of dominates_of includes_of every
+reversed_invalid = refl

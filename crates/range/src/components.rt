@@ -3,7 +3,7 @@
 ghost use Rattle.std.specs.Prelude.{◌≡◌};
 ghost use Rattle.label.specs.Label.{label_of};
 ghost use Rattle.range.specs.Range.{range_of};
-ghost use Rattle.range.specs.Tuple.{containsAt, regionRangeOf};
+ghost use Rattle.range.specs.Tuple.{contains_at, region_range_of};
 
 use label::components;
 use label::words::WORDS;
@@ -19,7 +19,7 @@ pub fn contains_at(
     h: u64,
     c: [u64; WORDS],
 ) -> bool
-    ensures { result ≡ containsAt (regionRangeOf present (range_of (label_of lh lc) (label_of hh hc))) (label_of h c) }
+    ensures { result ≡ contains_at (region_range_of present (range_of (label_of lh lc) (label_of hh hc))) (label_of h c) }
 {
     (present == 1) & (components::dominates(hh, hc, h, c) & components::dominates(h, c, lh, lc))
 }

@@ -9,7 +9,7 @@ pub mod tuple;
 ghost use Rattle.std.specs.Prelude.{◌≡◌, ◌&&◌};
 ghost use Rattle.common.specs.Answer.{Answered, granted, require, test_of};
 ghost use Rattle.label.specs.Label as labels;
-ghost use Rattle.range.specs.Range.{TypedRange, commonOf, containsOf, meetAnswerOf, meet_of, valid_of, zeroRange};
+ghost use Rattle.range.specs.Range.{TypedRange, common_of, contains_of, meet_answer_of, meet_of, valid_of, zero_range};
 
 use crate::tested::dominates;
 use common::answer::{Outcome, Test};
@@ -33,7 +33,7 @@ pub struct RangeAnswer {
 
 // The range of zeros.
 pub fn zero() -> Range
-    ensures { result ≡ zeroRange }
+    ensures { result ≡ zero_range }
 {
     Range {
         low: label::zero(),
@@ -49,14 +49,14 @@ pub fn valid(x: Range) -> bool
 
 // Whether a label is in a range, both tested.
 pub(crate) fn holds(x: Range, l: Label) -> bool
-    ensures { result ≡ containsOf x l }
+    ensures { result ≡ contains_of x l }
 {
     dominates(x.high, l) & dominates(l, x.low)
 }
 
 // Whether l is in x.
 pub fn contains(x: Range, l: Label) -> Test
-    ensures { test_of result ≡ require (valid_of x && labels.valid_of l) 22 (granted (containsOf x l)) }
+    ensures { test_of result ≡ require (valid_of x && labels.valid_of l) 22 (granted (contains_of x l)) }
 {
     if valid(x) & label::valid(l) {
         return Test::Holds(holds(x, l));
@@ -76,7 +76,7 @@ pub(crate) fn bounds(x: Range, y: Range) -> Range
 
 // Whether some label is in both ranges.
 pub(crate) fn common(x: Range, y: Range) -> bool
-    ensures { result ≡ commonOf x y }
+    ensures { result ≡ common_of x y }
 {
     let m = bounds(x, y);
     dominates(m.high, m.low)
@@ -84,7 +84,7 @@ pub(crate) fn common(x: Range, y: Range) -> bool
 
 // The range of the labels that are in x and in y; 33 if there is none.
 pub fn meet(x: Range, y: Range) -> RangeAnswer
-    ensures { Answered result.outcome result.range zeroRange (meetAnswerOf x y) }
+    ensures { Answered result.outcome result.range zero_range (meet_answer_of x y) }
 {
     if valid(x) & valid(y) {
         if common(x, y) {

@@ -1,11 +1,11 @@
 // Labels that were tested, taken apart: the one place of this crate that does it.
 ghost use Rattle.std.specs.Prelude.{◌≡◌};
-ghost use Rattle.label.specs.Label.{dominatesOf, equal_of, lowerBoundOf, upperBoundOf, zeroLabel};
+ghost use Rattle.label.specs.Label.{dominates_of, equal_of, lower_bound_of, upper_bound_of, zero_label};
 
 use label::{Label, components};
 
 pub(crate) fn dominates(a: Label, b: Label) -> bool
-    ensures { result ≡ dominatesOf a b }
+    ensures { result ≡ dominates_of a b }
 {
     let x = a.categories;
     let y = b.categories;
@@ -13,7 +13,7 @@ pub(crate) fn dominates(a: Label, b: Label) -> bool
 }
 
 pub(crate) fn upper_bound(a: Label, b: Label) -> Label
-    ensures { result ≡ upperBoundOf a b }
+    ensures { result ≡ upper_bound_of a b }
 {
     let x = a.categories;
     let y = b.categories;
@@ -21,7 +21,7 @@ pub(crate) fn upper_bound(a: Label, b: Label) -> Label
 }
 
 pub(crate) fn lower_bound(a: Label, b: Label) -> Label
-    ensures { result ≡ lowerBoundOf a b }
+    ensures { result ≡ lower_bound_of a b }
 {
     let x = a.categories;
     let y = b.categories;
@@ -30,7 +30,7 @@ pub(crate) fn lower_bound(a: Label, b: Label) -> Label
 
 // Whether a label is zeros, as is held where there is no range.
 pub(crate) fn is_zero(a: Label) -> bool
-    ensures { result ≡ equal_of a zeroLabel }
+    ensures { result ≡ equal_of a zero_label }
 {
     let x = a.categories;
     components::is_zero(a.hierarchy, x)

@@ -4,7 +4,7 @@ ghost use Rattle.common.specs.Answer.{Answered, granted, require, test_of};
 ghost use Rattle.label.specs.Label as labels;
 ghost use Rattle.label.specs.Region.{regions};
 ghost use Rattle.range.specs.Range as ranges;
-ghost use Rattle.range.specs.Tuple.{TypedTuple, absent, containsAt, containsOf, cut_of, emptyOf, emptyTuple, meet_at, meet_of, regionRangeAt, splitOf, validAt, valid_of, withinAt, withinOf};
+ghost use Rattle.range.specs.Tuple.{TypedTuple, absent, contains_at, contains_of, cut_of, empty_of, empty_tuple, meet_at, meet_of, region_range_at, split_of, valid_at, valid_of, within_at, within_of};
 
 use crate::Range;
 use crate::tested::{dominates, is_zero};
@@ -46,7 +46,7 @@ pub fn no_range() -> RegionRange
 
 // The tuple that has no range.
 pub fn empty() -> Tuple
-    ensures { result ≡ emptyTuple }
+    ensures { result ≡ empty_tuple }
 {
     let none = no_range();
     Tuple {
@@ -56,7 +56,7 @@ pub fn empty() -> Tuple
 
 // Whether a tuple may hold e for a region.
 fn valid_at(region: usize, e: RegionRange) -> bool
-    ensures { result ≡ validAt region e }
+    ensures { result ≡ valid_at region e }
 {
     if e.present == 1 {
         return crate::valid(e.range)
@@ -81,7 +81,7 @@ pub fn valid(t: Tuple) -> bool
 
 // Whether there is no range.
 fn none_present(t: Tuple) -> bool
-    ensures { result ≡ emptyOf t }
+    ensures { result ≡ empty_of t }
 {
     let mut r = 0;
     while r < REGIONS {
@@ -95,7 +95,7 @@ fn none_present(t: Tuple) -> bool
 
 // Whether t has no range.
 pub fn is_empty(t: Tuple) -> Test
-    ensures { test_of result ≡ require (valid_of t) 22 (granted (emptyOf t)) }
+    ensures { test_of result ≡ require (valid_of t) 22 (granted (empty_of t)) }
 {
     if valid(t) {
         return Test::Holds(none_present(t));
@@ -105,14 +105,14 @@ pub fn is_empty(t: Tuple) -> Test
 
 // Whether a label is in what a tuple has for its region: in the range, if that is present.
 pub(crate) fn contains_at(e: RegionRange, l: Label) -> bool
-    ensures { result ≡ containsAt e l }
+    ensures { result ≡ contains_at e l }
 {
     (e.present == 1) & crate::holds(e.range, l)
 }
 
 // Whether a label is in a tuple, both tested. Each region has its own step: a tuple that is indexed by a variable is copied first.
 pub(crate) fn holds(t: Tuple, l: Label) -> bool
-    ensures { result ≡ containsOf t l }
+    ensures { result ≡ contains_of t l }
 {
     let r = region::of_hierarchy(l.hierarchy);
     if r == region::VIRUS_PREVENTION {
@@ -126,7 +126,7 @@ pub(crate) fn holds(t: Tuple, l: Label) -> bool
 
 // Whether l is in t.
 pub fn contains(t: Tuple, l: Label) -> Test
-    ensures { test_of result ≡ require (valid_of t && labels.valid_of l) 22 (granted (containsOf t l)) }
+    ensures { test_of result ≡ require (valid_of t && labels.valid_of l) 22 (granted (contains_of t l)) }
 {
     if valid(t) & label::valid(l) {
         return Test::Holds(holds(t, l));
@@ -163,7 +163,7 @@ fn meet_regions(t: Tuple, u: Tuple) -> Tuple
 
 // The tuple of the labels that are in t and in u; it may be empty.
 pub fn meet(t: Tuple, u: Tuple) -> TupleAnswer
-    ensures { Answered result.outcome result.tuple emptyTuple (require (valid_of t && valid_of u) 22 (granted (meet_of t u))) }
+    ensures { Answered result.outcome result.tuple empty_tuple (require (valid_of t && valid_of u) 22 (granted (meet_of t u))) }
 {
     if valid(t) & valid(u) {
         return TupleAnswer {
@@ -179,7 +179,7 @@ pub fn meet(t: Tuple, u: Tuple) -> TupleAnswer
 
 // Whether each label of e is in f.
 fn within_at(e: RegionRange, f: RegionRange) -> bool
-    ensures { result ≡ withinAt e f }
+    ensures { result ≡ within_at e f }
 {
     (e.present != 1)
         | ((f.present == 1)
@@ -189,7 +189,7 @@ fn within_at(e: RegionRange, f: RegionRange) -> bool
 
 // Whether each label of t is in u, region by region.
 fn within_regions(t: Tuple, u: Tuple) -> bool
-    ensures { result ≡ withinOf t u }
+    ensures { result ≡ within_of t u }
 {
     let mut r = 0;
     while r < REGIONS {
@@ -203,7 +203,7 @@ fn within_regions(t: Tuple, u: Tuple) -> bool
 
 // Whether each label of t is in u.
 pub fn within(t: Tuple, u: Tuple) -> Test
-    ensures { test_of result ≡ require (valid_of t && valid_of u) 22 (granted (withinOf t u)) }
+    ensures { test_of result ≡ require (valid_of t && valid_of u) 22 (granted (within_of t u)) }
 {
     if valid(t) & valid(u) {
         return Test::Holds(within_regions(t, u));
@@ -241,7 +241,7 @@ fn cut(x: Range, region: usize) -> RegionRange
 
 // The parts of x in each region.
 fn cut_regions(x: Range) -> Tuple
-    ensures { result ≡ splitOf x }
+    ensures { result ≡ split_of x }
 {
     let none = no_range();
     let mut ranges = [none; REGIONS];
@@ -255,7 +255,7 @@ fn cut_regions(x: Range) -> Tuple
 
 // The tuple that has the same labels as the range x.
 pub fn split(x: Range) -> TupleAnswer
-    ensures { Answered result.outcome result.tuple emptyTuple (require (ranges.valid_of x) 22 (granted (splitOf x))) }
+    ensures { Answered result.outcome result.tuple empty_tuple (require (ranges.valid_of x) 22 (granted (split_of x))) }
 {
     if crate::valid(x) {
         return TupleAnswer {
@@ -272,7 +272,7 @@ pub fn split(x: Range) -> TupleAnswer
 // Every tuple has what its type says: the range of a region has it,
 fn typed_at(t: Tuple, r: usize)
     requires { r < regions }
-    ensures { ranges.TypedRange (regionRangeAt t r).range }
+    ensures { ranges.TypedRange (region_range_at t r).range }
 {
     let e = t.ranges[r];
     crate::typed(e.range);

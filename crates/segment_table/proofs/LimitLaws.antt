@@ -7,19 +7,19 @@ use native.Mathlib.Nat.{add-zero}
 use native.Mathlib.Omega.{arith}
 use borrow.Author.Tests.{le-leb, lt-leb, leb-true}
 use lib.Dec.{leb}
-use Rattle.common.specs.Index.{sumFrom}
+use Rattle.common.specs.Index.{sum_from}
 use Rattle.common.proofs.BoolLaws.{same_truth}
-use Rattle.common.proofs.SearchLaws.{sum-next, sum-none}
-use Rattle.segment_table.specs.Limits.{fitsIn, limitLeft}
-use Rattle.segment_table.specs.Internal.Remainders.{keptIn}
+use Rattle.common.proofs.SearchLaws.{sum_next, sum_none}
+use Rattle.segment_table.specs.Limits.{fits_in, limit_left}
+use Rattle.segment_table.specs.Internal.Remainders.{kept_in}
 
 -- ---- a limit from which the terms of a sum are taken one by one
 
-over-limit : (limit n : ℕ) → limit < n → limitLeft limit n ≡ none
-over-limit limit n h = rw (lt-leb n limit h)
+over_limit : (limit n : ℕ) → limit < n → limit_left limit n ≡ none
+over_limit limit n h = rw (lt-leb n limit h)
 
-under-limit : (limit n left : ℕ) → n + left ≡ limit → limitLeft limit n ≡ some left
-under-limit limit n left e =
+under_limit : (limit n left : ℕ) → n + left ≡ limit → limit_left limit n ≡ some left
+under_limit limit n left e =
     let h : n ≤ limit = omega arith in
     let d : limit - n ≡ left = omega arith in
     rw (le-leb n limit h, d)
@@ -29,7 +29,7 @@ module _ (f : ℕ → ℕ) (k n limit : ℕ) where
   pub record Taken (i left : ℕ) : Type 0 where
     pub upto : i ≤ n
     pub below : left ≤ limit
-    pub rest : sumFrom f k n + left ≡ limit + sumFrom f (k + i) (n - i)
+    pub rest : sum_from f k n + left ≡ limit + sum_from f (k + i) (n - i)
 
   pub take_none : Taken 0 limit
   take_none =
@@ -38,54 +38,54 @@ module _ (f : ℕ → ℕ) (k n limit : ℕ) where
 
   pub take_next : (i left : ℕ) → i < n → f (k + i) ≤ left → Taken i left → Taken (i + 1) (left - f (k + i))
   take_next i left h l t =
-      let e = sum-next f k n i h in
+      let e = sum_next f k n i h in
       let b = t.below in
       let r = t.rest in
       record { upto = omega arith; below = omega arith; rest = omega arith }
 
-  pub take-over : (i left : ℕ) → i < n → left < f (k + i) → Taken i left → limitLeft limit (sumFrom f k n) ≡ none
-  take-over i left h l t =
-      let e = sum-next f k n i h in
+  pub take_over : (i left : ℕ) → i < n → left < f (k + i) → Taken i left → limit_left limit (sum_from f k n) ≡ none
+  take_over i left h l t =
+      let e = sum_next f k n i h in
       let r = t.rest in
-      over-limit limit (sumFrom f k n) (omega arith)
+      over_limit limit (sum_from f k n) (omega arith)
 
-  pub take_all : (i left : ℕ) → n ≤ i → Taken i left → limitLeft limit (sumFrom f k n) ≡ some left
+  pub take_all : (i left : ℕ) → n ≤ i → Taken i left → limit_left limit (sum_from f k n) ≡ some left
   take_all i left h t =
       let z : n - i ≡ 0 = omega arith in
-      let e : sumFrom f (k + i) (n - i) ≡ 0 = rw (z, sum-none) in
+      let e : sum_from f (k + i) (n - i) ≡ 0 = rw (z, sum_none) in
       let r = t.rest in
-      under-limit limit (sumFrom f k n) left (omega arith)
+      under_limit limit (sum_from f k n) left (omega arith)
 
 -- what is left tells what is used, where that is not over the limit
-pub left-told : (limit used n : ℕ) → used ≤ limit → some n ≡ limitLeft limit used → (n ≤ limit) × (limit - n ≡ used)
-left-told limit used n h e =
-    let k : limitLeft limit used ≡ some (limit - used) = rw (le-leb used limit h) in
+pub left_told : (limit used n : ℕ) → used ≤ limit → some n ≡ limit_left limit used → (n ≤ limit) × (limit - n ≡ used)
+left_told limit used n h e =
+    let k : limit_left limit used ≡ some (limit - used) = rw (le-leb used limit h) in
     let q : n ≡ limit - used = cc in
     (omega arith, omega arith)
 
-pub left-never : (limit used : ℕ) → used ≤ limit → none ≡ limitLeft limit used → ⊥
-left-never limit used h e =
-    let k : limitLeft limit used ≡ some (limit - used) = rw (le-leb used limit h) in
+pub left_never : (limit used : ℕ) → used ≤ limit → none ≡ limit_left limit used → ⊥
+left_never limit used h e =
+    let k : limit_left limit used ≡ some (limit - used) = rw (le-leb used limit h) in
     let z : ◌≡◌ {A = ℕ} 0 1 = cc in
     omega arith
 
 -- whether the limit is kept is told by what is left of it
-pub kept-exact : (limit n : ℕ) {x : Option ℕ} {r : Bool} → x ≡ limitLeft limit n → r ≡ keptIn x → r ≡ leb n limit
-kept-exact limit n e f = f ∙ ap keptIn e ∙ by (leb n limit)
+pub kept_exact : (limit n : ℕ) {x : Option ℕ} {r : Bool} → x ≡ limit_left limit n → r ≡ kept_in x → r ≡ leb n limit
+kept_exact limit n e f = f ∙ ap kept_in e ∙ by (leb n limit)
   where
-    by : (p : Bool) → keptIn (cond p (some (limit - n)) none) ≡ p
+    by : (p : Bool) → kept_in (cond p (some (limit - n)) none) ≡ p
     by true = refl
     by false = refl
 
 -- where a limit is kept, what fits is told by what is left of it
-pub fits-exact : (limit used replaced wanted : ℕ) → used ≤ limit → replaced ≤ used → fitsIn (limitLeft limit used) replaced wanted ≡ leb (used - replaced + wanted) limit
-fits-exact limit used replaced wanted h k =
+pub fits_exact : (limit used replaced wanted : ℕ) → used ≤ limit → replaced ≤ used → fits_in (limit_left limit used) replaced wanted ≡ leb (used - replaced + wanted) limit
+fits_exact limit used replaced wanted h k =
     rw (le-leb used limit h)
     (same_truth (leb wanted (limit - used + replaced)) (leb (used - replaced + wanted) limit)
     (λ e. let l = leb-true wanted (limit - used + replaced) e in le-leb (used - replaced + wanted) limit (omega arith))
     (λ e. let l = leb-true (used - replaced + wanted) limit e in le-leb wanted (limit - used + replaced) (omega arith)))
 
-pub fits_more : (limit used wanted : ℕ) → used ≤ limit → fitsIn (limitLeft limit used) 0 wanted ≡ leb (used + wanted) limit
+pub fits_more : (limit used wanted : ℕ) → used ≤ limit → fits_in (limit_left limit used) 0 wanted ≡ leb (used + wanted) limit
 fits_more limit used wanted h =
     let z : used - 0 ≡ used = omega arith in
-    fits-exact limit used 0 wanted h (omega arith) ∙ ap (λ (n : ℕ). leb (n + wanted) limit) z
+    fits_exact limit used 0 wanted h (omega arith) ∙ ap (λ (n : ℕ). leb (n + wanted) limit) z

@@ -7,24 +7,24 @@ use borrow.Author.Tests.{eq-eqb, eqb-true, le-leb, leb-true, ltb-true, ne_eqb}
 use lib.Dec.{eqb, leb, ltb}
 use lib.ListN.{length}
 use Rattle.common.specs.Answer.{granted, require, test_of}
-use Rattle.common.specs.Index.{someBelow}
+use Rattle.common.specs.Index.{some_below}
 use Rattle.label.specs.Label
 use Rattle.label.specs.declared.Label.{Label}
 use Rattle.common.specs.declared.answer.Test.{Test}
 use Rattle.common.proofs.AnswerLaws.{read_by, test_read}
-use Rattle.common.proofs.BoolLaws.{both, first-true, not_so, same_truth, second-true, three-true}
-use Rattle.common.proofs.IndexLaws.{every-all, every-at}
-use Rattle.label.proofs.LabelLaws.{equal-exact}
-use Rattle.common.proofs.SearchLaws.{any_of, any_same, any-then, none_of, sum-but, sum_same}
-use Rattle.label.specs.Region.{regionOf}
+use Rattle.common.proofs.BoolLaws.{both, first_true, not_so, same_truth, second_true, three_true}
+use Rattle.common.proofs.IndexLaws.{every_all, every_at}
+use Rattle.label.proofs.LabelLaws.{equal_exact}
+use Rattle.common.proofs.SearchLaws.{any_of, any_same, any_then, none_of, sum_but, sum_same}
+use Rattle.label.specs.Region.{region_of}
 use Rattle.range.specs.Tuple
 use Rattle.range.specs.declared.tuple.Tuple.{Tuple}
-use Rattle.range.proofs.TupleLaws.{contained-valid}
-use Rattle.segment_table.specs.Internal.Owners.{Owned, ownerOr}
-use Rattle.segment_table.specs.Internal.SoundParts.{ceilingsKept, segmentSound, slotsSound, tenantsSound}
-use Rattle.segment_table.specs.Segments.{ceilingAt, clearanceAt, pagesAt, pagesValid, segmentAt, slot, slotTotal, tenantAt, tenantId, tenantTotal, withSegment, zeroSegment}
-use Rattle.segment_table.specs.Slots.{ceilingsOf, filled, first_slot, owns, pagesOf, slotCount}
-use Rattle.segment_table.specs.Sound.{admitted, clearedBy, slotSound, sound, tenantSound, underCeiling, wellSized, isZeroSegment}
+use Rattle.range.proofs.TupleLaws.{contained_valid}
+use Rattle.segment_table.specs.Internal.Owners.{Owned, owner_or}
+use Rattle.segment_table.specs.Internal.SoundParts.{ceilings_kept, segment_sound, slots_sound, tenants_sound}
+use Rattle.segment_table.specs.Segments.{ceiling_at, clearance_at, pages_at, pages_valid, segment_at, slot, slot_total, tenant_at, tenant_id, tenant_total, with_segment, zero_segment}
+use Rattle.segment_table.specs.Slots.{ceilings_of, filled, first_slot, owns, pages_of, slot_count}
+use Rattle.segment_table.specs.Sound.{admitted, cleared_by, slot_sound, sound, tenant_sound, under_ceiling, well_sized, is_zero_segment}
 use Rattle.segment_table.specs.declared.Segment.{Segment}
 use Rattle.segment_table.specs.declared.SegmentTable.{SegmentTable}
 use Rattle.segment_table.specs.declared.Slot.{Slot}
@@ -32,222 +32,222 @@ use Rattle.segment_table.specs.declared.Tenant.{Tenant}
 use Rattle.segment_table.specs.declared.TenantId.{TenantId}
 use Rattle.segment_table.specs.declared.slots.Owner.{Owner}
 use Rattle.segment_table.specs.declared.slots.Owner.TheVariants.{Tenant as ByTenant, Nobody}
-use Rattle.segment_table.proofs.SegmentsLaws.{Lengths, lengths-kept, segment-kept, segment-written}
-use Rattle.segment_table.proofs.SlotsLaws.{by-slot, by-tenant, count_kept, first-kept, own_of, own-parts, own-slot, owner-unique, owns-kept, same-slot}
+use Rattle.segment_table.proofs.SegmentsLaws.{Lengths, lengths_kept, segment_kept, segment_written}
+use Rattle.segment_table.proofs.SlotsLaws.{by_slot, by_tenant, count_kept, first_kept, own_of, own_parts, own_slot, owner_unique, owns_kept, same_slot}
 
 -- ---- the parts
 
 pub record Sound (s : SegmentTable) : Type 0 where
   pub lengths : Lengths s
-  pub pool : pagesValid s.pool ≡ true
-  pub tenant : (t : TenantId) → t.0 < tenantTotal → tenantSound (tenantAt s t) ≡ true
-  pub segment : (p : Slot) → p.0 < slotTotal → slotSound s p ≡ true
-  pub ceilings : ceilingsOf s ≤ s.pool
-  pub pages : (t : TenantId) → t.0 < tenantTotal → pagesOf s t ≤ ceilingAt s t
+  pub pool : pages_valid s.pool ≡ true
+  pub tenant : (t : TenantId) → t.0 < tenant_total → tenant_sound (tenant_at s t) ≡ true
+  pub segment : (p : Slot) → p.0 < slot_total → slot_sound s p ≡ true
+  pub ceilings : ceilings_of s ≤ s.pool
+  pub pages : (t : TenantId) → t.0 < tenant_total → pages_of s t ≤ ceiling_at s t
 
-pub sound-parts : (s : SegmentTable) → sound s ≡ true → Sound s
-unfolding sound underCeiling
-sound-parts s e =
-    let w : Bool = wellSized s in
-    let a : Bool = pagesValid s.pool in
-    let b : Bool = tenantsSound s in
-    let c : Bool = slotsSound s in
-    let d : Bool = leb (ceilingsOf s) s.pool in
-    let f : Bool = ceilingsKept s in
-    let h = first-true ((((w && a) && b) && c) && d) f e in
-    let g = first-true (((w && a) && b) && c) d h in
-    let i = three-true (w && a) b c g in
-    let z = first-true w a i.0 in
+pub sound_parts : (s : SegmentTable) → sound s ≡ true → Sound s
+unfolding sound under_ceiling
+sound_parts s e =
+    let w : Bool = well_sized s in
+    let a : Bool = pages_valid s.pool in
+    let b : Bool = tenants_sound s in
+    let c : Bool = slots_sound s in
+    let d : Bool = leb (ceilings_of s) s.pool in
+    let f : Bool = ceilings_kept s in
+    let h = first_true ((((w && a) && b) && c) && d) f e in
+    let g = first_true (((w && a) && b) && c) d h in
+    let i = three_true (w && a) b c g in
+    let z = first_true w a i.0 in
     record {
       lengths = record {
-        tenants-are = eqb-true _ _ (first-true (eqb (length s.tenants) tenantTotal) (eqb (length s.segments) slotTotal) z);
-        segments-are = eqb-true _ _ (second-true (eqb (length s.tenants) tenantTotal) (eqb (length s.segments) slotTotal) z);
+        tenants_are = eqb-true _ _ (first_true (eqb (length s.tenants) tenant_total) (eqb (length s.segments) slot_total) z);
+        segments_are = eqb-true _ _ (second_true (eqb (length s.tenants) tenant_total) (eqb (length s.segments) slot_total) z);
       };
-      pool = second-true w a i.0;
-      tenant = λ t l. every-at (λ t. tenantSound (tenantAt s (tenantId t))) tenantTotal t.0 i.1 l;
-      segment = λ p l. every-at (λ p. slotSound s (slot p)) slotTotal p.0 i.2 l;
-      ceilings = leb-true _ _ (second-true (((w && a) && b) && c) d h);
-      pages = λ t l. leb-true _ _ (every-at (λ t. underCeiling s (tenantId t)) tenantTotal t.0 (second-true ((((w && a) && b) && c) && d) f e) l);
+      pool = second_true w a i.0;
+      tenant = λ t l. every_at (λ t. tenant_sound (tenant_at s (tenant_id t))) tenant_total t.0 i.1 l;
+      segment = λ p l. every_at (λ p. slot_sound s (slot p)) slot_total p.0 i.2 l;
+      ceilings = leb-true _ _ (second_true (((w && a) && b) && c) d h);
+      pages = λ t l. leb-true _ _ (every_at (λ t. under_ceiling s (tenant_id t)) tenant_total t.0 (second_true ((((w && a) && b) && c) && d) f e) l);
     }
 
-pub parts-sound : (s : SegmentTable) → Sound s → sound s ≡ true
-unfolding sound underCeiling
-parts-sound s h =
-    both (both (both (both (both (both (eq-eqb _ _ h.lengths.tenants-are) (eq-eqb _ _ h.lengths.segments-are)) h.pool)
-    (every-all (λ t. tenantSound (tenantAt s (tenantId t))) tenantTotal (λ t l. h.tenant (tenantId t) l)))
-    (every-all (λ p. slotSound s (slot p)) slotTotal (λ p l. h.segment (slot p) l)))
+pub parts_sound : (s : SegmentTable) → Sound s → sound s ≡ true
+unfolding sound under_ceiling
+parts_sound s h =
+    both (both (both (both (both (both (eq-eqb _ _ h.lengths.tenants_are) (eq-eqb _ _ h.lengths.segments_are)) h.pool)
+    (every_all (λ t. tenant_sound (tenant_at s (tenant_id t))) tenant_total (λ t l. h.tenant (tenant_id t) l)))
+    (every_all (λ p. slot_sound s (slot p)) slot_total (λ p l. h.segment (slot p) l)))
     (le-leb _ _ h.ceilings))
-    (every-all (λ t. underCeiling s (tenantId t)) tenantTotal (λ t l. le-leb _ _ (h.pages (tenantId t) l)))
+    (every_all (λ t. under_ceiling s (tenant_id t)) tenant_total (λ t l. le-leb _ _ (h.pages (tenant_id t) l)))
 
 -- ---- tenants
 
 -- an admitted tenant is one, and has a ceiling of at least 1
-pub admitted-parts : (s : SegmentTable) (t : TenantId) → admitted s t ≡ true → (t.0 < tenantTotal) × (1 ≤ ceilingAt s t)
+pub admitted_parts : (s : SegmentTable) (t : TenantId) → admitted s t ≡ true → (t.0 < tenant_total) × (1 ≤ ceiling_at s t)
 unfolding admitted
-admitted-parts s t e =
-    (ltb-true _ _ (first-true (ltb t.0 tenantTotal) (leb 1 (ceilingAt s t)) e), leb-true _ _ (second-true (ltb t.0 tenantTotal) (leb 1 (ceilingAt s t)) e))
+admitted_parts s t e =
+    (ltb-true _ _ (first_true (ltb t.0 tenant_total) (leb 1 (ceiling_at s t)) e), leb-true _ _ (second_true (ltb t.0 tenant_total) (leb 1 (ceiling_at s t)) e))
 
 -- a sound record's clearance is valid
-pub tenant-clearance : (x : Tenant) → tenantSound x ≡ true → Tuple.valid_of x.clearance ≡ true
-unfolding tenantSound
-tenant-clearance x e = first-true (Tuple.valid_of x.clearance) (cond (leb 1 x.ceiling) (not (Tuple.emptyOf x.clearance)) (Tuple.emptyOf x.clearance)) e
+pub tenant_clearance : (x : Tenant) → tenant_sound x ≡ true → Tuple.valid_of x.clearance ≡ true
+unfolding tenant_sound
+tenant_clearance x e = first_true (Tuple.valid_of x.clearance) (cond (leb 1 x.ceiling) (not (Tuple.empty_of x.clearance)) (Tuple.empty_of x.clearance)) e
 
 -- what `tuple::is_empty` answers, read as a yes or no
 
-pub empty-read : (f : Bool → Bool) (t : Tuple) {u v : Test} → u ≡ v → test_of u ≡ require (Tuple.valid_of t) 22 (granted (Tuple.emptyOf t))
-    → read_by f (test_of v) ≡ (Tuple.valid_of t && f (Tuple.emptyOf t))
-empty-read f t e h = test_read f (Tuple.valid_of t) (Tuple.emptyOf t) 22 e h
+pub empty_read : (f : Bool → Bool) (t : Tuple) {u v : Test} → u ≡ v → test_of u ≡ require (Tuple.valid_of t) 22 (granted (Tuple.empty_of t))
+    → read_by f (test_of v) ≡ (Tuple.valid_of t && f (Tuple.empty_of t))
+empty_read f t e h = test_read f (Tuple.valid_of t) (Tuple.empty_of t) 22 e h
 
 one_of : (p q : Bool) → (p && not q || not p && q) ≡ cond p (not q) q
 one_of true true = refl
 one_of true false = refl
 one_of false q = refl
 
-pub tenant-read : (x : Tenant) {u v : Test} → u ≡ v → test_of u ≡ require (Tuple.valid_of x.clearance) 22 (granted (Tuple.emptyOf x.clearance))
-    → read_by (λ b. leb 1 x.ceiling && not b || not (leb 1 x.ceiling) && b) (test_of v) ≡ tenantSound x
-unfolding tenantSound
-tenant-read x e h = empty-read _ x.clearance e h ∙ ap (λ (b : Bool). Tuple.valid_of x.clearance && b) (one_of (leb 1 x.ceiling) (Tuple.emptyOf x.clearance))
+pub tenant_read : (x : Tenant) {u v : Test} → u ≡ v → test_of u ≡ require (Tuple.valid_of x.clearance) 22 (granted (Tuple.empty_of x.clearance))
+    → read_by (λ b. leb 1 x.ceiling && not b || not (leb 1 x.ceiling) && b) (test_of v) ≡ tenant_sound x
+unfolding tenant_sound
+tenant_read x e h = empty_read _ x.clearance e h ∙ ap (λ (b : Bool). Tuple.valid_of x.clearance && b) (one_of (leb 1 x.ceiling) (Tuple.empty_of x.clearance))
 
 -- ---- what a slot may hold
 
 -- whether tenant t owns slot p and l is in its clearance
 abbrev pub clears : SegmentTable → Slot → Label → ℕ → Bool
-clears s p l t = owns s (tenantId t) p && Tuple.containsOf (clearanceAt s (tenantId t)) l
+clears s p l t = owns s (tenant_id t) p && Tuple.contains_of (clearance_at s (tenant_id t)) l
 
-pub clears-parts : (s : SegmentTable) (p : Slot) (l : Label) (t : ℕ) → clears s p l t ≡ true → (owns s (tenantId t) p ≡ true) × (Tuple.containsOf (clearanceAt s (tenantId t)) l ≡ true)
-clears-parts s p l t e =
-    let b : Bool = owns s (tenantId t) p in
-    let d : Bool = Tuple.containsOf (clearanceAt s (tenantId t)) l in
-    (first-true b d e, second-true b d e)
+pub clears_parts : (s : SegmentTable) (p : Slot) (l : Label) (t : ℕ) → clears s p l t ≡ true → (owns s (tenant_id t) p ≡ true) × (Tuple.contains_of (clearance_at s (tenant_id t)) l ≡ true)
+clears_parts s p l t e =
+    let b : Bool = owns s (tenant_id t) p in
+    let d : Bool = Tuple.contains_of (clearance_at s (tenant_id t)) l in
+    (first_true b d e, second_true b d e)
 
 -- whether slot p may hold x
 abbrev pub held : SegmentTable → Slot → Segment → Bool
-held s p x = cond (leb 1 x.pages) (someBelow (clears s p x.label) tenantTotal) (isZeroSegment x)
+held s p x = cond (leb 1 x.pages) (some_below (clears s p x.label) tenant_total) (is_zero_segment x)
 
-pub slot_held : (s : SegmentTable) (p : Slot) → slotSound s p ≡ held s p (segmentAt s p)
-unfolding slotSound filled clearedBy
+pub slot_held : (s : SegmentTable) (p : Slot) → slot_sound s p ≡ held s p (segment_at s p)
+unfolding slot_sound filled cleared_by
 slot_held s p = refl
 
 -- some tenant clears a label for a slot exactly where the owner does
-pub owner-clears : (s : SegmentTable) (p : Slot) (l : Label) (t : TenantId) → owns s t p ≡ true → someBelow (clears s p l) tenantTotal ≡ Tuple.containsOf (clearanceAt s t) l
-owner-clears s p l t o =
-    same_truth (someBelow (clears s p l) tenantTotal) (Tuple.containsOf (clearanceAt s t) l)
-    (λ e. any-then (clears s p l) tenantTotal e (λ i h f.
-    let c = clears-parts s p l i f in
-    ap (λ (u : TenantId). Tuple.containsOf (clearanceAt s u) l) (owner-unique s t (tenantId i) p o c.0) ∙ c.1))
-    (λ e. any_of (clears s p l) tenantTotal t.0 (own-parts s t p o).tenant (both o e))
+pub owner_clears : (s : SegmentTable) (p : Slot) (l : Label) (t : TenantId) → owns s t p ≡ true → some_below (clears s p l) tenant_total ≡ Tuple.contains_of (clearance_at s t) l
+owner_clears s p l t o =
+    same_truth (some_below (clears s p l) tenant_total) (Tuple.contains_of (clearance_at s t) l)
+    (λ e. any_then (clears s p l) tenant_total e (λ i h f.
+    let c = clears_parts s p l i f in
+    ap (λ (u : TenantId). Tuple.contains_of (clearance_at s u) l) (owner_unique s t (tenant_id i) p o c.0) ∙ c.1))
+    (λ e. any_of (clears s p l) tenant_total t.0 (own_parts s t p o).tenant (both o e))
 
 -- so the owner's clearance tells whether a slot is sound, by what it has for the region of the label there
-sound-by-owner : (s : SegmentTable) (p : Slot) (t : TenantId) → owns s t p ≡ true
-    → slotSound s p ≡ segmentSound (segmentAt s p) (ByTenant t) (Tuple.regionRangeAt (clearanceAt s t) (regionOf (segmentAt s p).label.hierarchy))
-unfolding segmentSound Tuple.containsOf
-sound-by-owner s p t o =
-    rw (and-true (leb 1 (pagesAt s p)))
-    (slot_held s p ∙ ap (λ (b : Bool). cond (leb 1 (pagesAt s p)) b (isZeroSegment (segmentAt s p))) (owner-clears s p (segmentAt s p).label t o))
+sound_by_owner : (s : SegmentTable) (p : Slot) (t : TenantId) → owns s t p ≡ true
+    → slot_sound s p ≡ segment_sound (segment_at s p) (ByTenant t) (Tuple.region_range_at (clearance_at s t) (region_of (segment_at s p).label.hierarchy))
+unfolding segment_sound Tuple.contains_of
+sound_by_owner s p t o =
+    rw (and-true (leb 1 (pages_at s p)))
+    (slot_held s p ∙ ap (λ (b : Bool). cond (leb 1 (pages_at s p)) b (is_zero_segment (segment_at s p))) (owner_clears s p (segment_at s p).label t o))
 
 -- a slot that nobody owns is sound where it holds zeros
-sound-unowned : (s : SegmentTable) (p : Slot) → someBelow (λ t. owns s (tenantId t) p) tenantTotal ≡ false → slotSound s p ≡ isZeroSegment (segmentAt s p)
-unfolding isZeroSegment
-sound-unowned s p n = slot_held s p ∙ go (segmentAt s p)
+sound_unowned : (s : SegmentTable) (p : Slot) → some_below (λ t. owns s (tenant_id t) p) tenant_total ≡ false → slot_sound s p ≡ is_zero_segment (segment_at s p)
+unfolding is_zero_segment
+sound_unowned s p n = slot_held s p ∙ go (segment_at s p)
   where
-    none : (l : Label) → someBelow (clears s p l) tenantTotal ≡ false
+    none : (l : Label) → some_below (clears s p l) tenant_total ≡ false
     none l =
-        not_so (someBelow (clears s p l) tenantTotal) (λ e. any-then (clears s p l) tenantTotal e (λ i h f.
-        true≢false (sym (clears-parts s p l i f).0 ∙ none_of (λ t. owns s (tenantId t) p) tenantTotal i n h)))
+        not_so (some_below (clears s p l) tenant_total) (λ e. any_then (clears s p l) tenant_total e (λ i h f.
+        true≢false (sym (clears_parts s p l i f).0 ∙ none_of (λ t. owns s (tenant_id t) p) tenant_total i n h)))
 
-    go : (x : Segment) → held s p x ≡ isZeroSegment x
+    go : (x : Segment) → held s p x ≡ is_zero_segment x
     go x = by_pages (leb 1 x.pages) refl
       where
-        by_pages : (b : Bool) → leb 1 x.pages ≡ b → held s p x ≡ isZeroSegment x
+        by_pages : (b : Bool) → leb 1 x.pages ≡ b → held s p x ≡ is_zero_segment x
         by_pages true e =
             let l = leb-true 1 x.pages e in
-            rw (e, none x.label, ne_eqb x.pages 0 (λ z. absurd (omega arith)), and-false (Label.equal_of x.label Label.zeroLabel))
+            rw (e, none x.label, ne_eqb x.pages 0 (λ z. absurd (omega arith)), and-false (Label.equal_of x.label Label.zero_label))
         by_pages false e = rw e
 
 -- what was found of a slot's owner, a tenant or nobody, tells whether the slot is sound
-pub sound-as-owned : (s : SegmentTable) (p : Slot) (o : Owner) (n : ℕ) → Owned s p o
-    → slotSound s p ≡ segmentSound (segmentAt s p) o (Tuple.regionRangeAt (clearanceAt s (tenantId (ownerOr o n))) (regionOf (segmentAt s p).label.hierarchy))
-unfolding segmentSound
-sound-as-owned s p (ByTenant t) n h = sound-by-owner s p t h.1
-sound-as-owned s p Nobody n h = rw (and-false (leb 1 (pagesAt s p))) (sound-unowned s p h)
+pub sound_as_owned : (s : SegmentTable) (p : Slot) (o : Owner) (n : ℕ) → Owned s p o
+    → slot_sound s p ≡ segment_sound (segment_at s p) o (Tuple.region_range_at (clearance_at s (tenant_id (owner_or o n))) (region_of (segment_at s p).label.hierarchy))
+unfolding segment_sound
+sound_as_owned s p (ByTenant t) n h = sound_by_owner s p t h.1
+sound_as_owned s p Nobody n h = rw (and-false (leb 1 (pages_at s p))) (sound_unowned s p h)
 
-pub owner-within : (s : SegmentTable) (p : Slot) (o : Owner) (n : ℕ) → Owned s p o → n < tenantTotal → ownerOr o n < tenantTotal
-owner-within s p (ByTenant t) n h l = h.0
-owner-within s p Nobody n h l = l
+pub owner_within : (s : SegmentTable) (p : Slot) (o : Owner) (n : ℕ) → Owned s p o → n < tenant_total → owner_or o n < tenant_total
+owner_within s p (ByTenant t) n h l = h.0
+owner_within s p Nobody n h l = l
 
-pub held-filled : (s : SegmentTable) (p : Slot) (x : Segment) (u : TenantId) → 1 ≤ x.pages → owns s u p ≡ true → Tuple.containsOf (clearanceAt s u) x.label ≡ true → held s p x ≡ true
-held-filled s p x u h o e = rw (le-leb 1 x.pages h) (owner-clears s p x.label u o ∙ e)
+pub held_filled : (s : SegmentTable) (p : Slot) (x : Segment) (u : TenantId) → 1 ≤ x.pages → owns s u p ≡ true → Tuple.contains_of (clearance_at s u) x.label ≡ true → held s p x ≡ true
+held_filled s p x u h o e = rw (le-leb 1 x.pages h) (owner_clears s p x.label u o ∙ e)
 
 -- where a filled slot may hold x, some tenant clears it
-held_by : (s : SegmentTable) (p : Slot) (x : Segment) → 1 ≤ x.pages → held s p x ≡ true → someBelow (clears s p x.label) tenantTotal ≡ true
-held_by s p x h e = sym (ap (λ (b : Bool). cond b (someBelow (clears s p x.label) tenantTotal) (isZeroSegment x)) (le-leb 1 x.pages h)) ∙ e
+held_by : (s : SegmentTable) (p : Slot) (x : Segment) → 1 ≤ x.pages → held s p x ≡ true → some_below (clears s p x.label) tenant_total ≡ true
+held_by s p x h e = sym (ap (λ (b : Bool). cond b (some_below (clears s p x.label) tenant_total) (is_zero_segment x)) (le-leb 1 x.pages h)) ∙ e
 
 -- which is its owner
-pub held-cleared : (s : SegmentTable) (p : Slot) (x : Segment) (t : TenantId) → 1 ≤ x.pages → owns s t p ≡ true → held s p x ≡ true → Tuple.containsOf (clearanceAt s t) x.label ≡ true
-held-cleared s p x t h o e = sym (owner-clears s p x.label t o) ∙ held_by s p x h e
+pub held_cleared : (s : SegmentTable) (p : Slot) (x : Segment) (t : TenantId) → 1 ≤ x.pages → owns s t p ≡ true → held s p x ≡ true → Tuple.contains_of (clearance_at s t) x.label ≡ true
+held_cleared s p x t h o e = sym (owner_clears s p x.label t o) ∙ held_by s p x h e
 
-pub zeros-held : (s : SegmentTable) (p : Slot) → held s p zeroSegment ≡ true
-unfolding isZeroSegment
-zeros-held s p = rw ((equal-exact Label.zeroLabel Label.zeroLabel refl).1 refl)
+pub zeros_held : (s : SegmentTable) (p : Slot) → held s p zero_segment ≡ true
+unfolding is_zero_segment
+zeros_held s p = rw ((equal_exact Label.zero_label Label.zero_label refl).1 refl)
 
-pub filled-pages : (s : SegmentTable) (p : Slot) → filled s p ≡ true → 1 ≤ pagesAt s p
+pub filled_pages : (s : SegmentTable) (p : Slot) → filled s p ≡ true → 1 ≤ pages_at s p
 unfolding filled
-filled-pages s p e = leb-true 1 (pagesAt s p) e
+filled_pages s p e = leb-true 1 (pages_at s p) e
 
 -- a filled slot of a sound state holds a valid label, so that what a look shows has a hex line
-pub filled-valid : (s : SegmentTable) (p : Slot) → Sound s → p.0 < slotTotal → filled s p ≡ true → Label.valid_of (segmentAt s p).label ≡ true
-filled-valid s p h l e =
-    any-then (clears s p (segmentAt s p).label) tenantTotal (held_by s p (segmentAt s p) (filled-pages s p e) (sym (slot_held s p) ∙ h.segment p l))
+pub filled_valid : (s : SegmentTable) (p : Slot) → Sound s → p.0 < slot_total → filled s p ≡ true → Label.valid_of (segment_at s p).label ≡ true
+filled_valid s p h l e =
+    any_then (clears s p (segment_at s p).label) tenant_total (held_by s p (segment_at s p) (filled_pages s p e) (sym (slot_held s p) ∙ h.segment p l))
     (λ t i f.
-    contained-valid (clearanceAt s (tenantId t)) (segmentAt s p).label (tenant-clearance (tenantAt s (tenantId t)) (h.tenant (tenantId t) i))
-    (clears-parts s p (segmentAt s p).label t f).1)
+    contained_valid (clearance_at s (tenant_id t)) (segment_at s p).label (tenant_clearance (tenant_at s (tenant_id t)) (h.tenant (tenant_id t) i))
+    (clears_parts s p (segment_at s p).label t f).1)
 
 -- ---- a segment put into a slot of its tenant's own
 
 module _ (s : SegmentTable) (t : TenantId) (q : Slot) (x : Segment) (h : Sound s) (own : owns s t q ≡ true) where
   abbrev next : SegmentTable
-  next = withSegment s q x
+  next = with_segment s q x
 
   held_same : (p : Slot) (y : Segment) → held next p y ≡ held s p y
   held_same p y =
-      ap (λ (b : Bool). cond (leb 1 y.pages) b (isZeroSegment y))
-      (any_same (clears next p y.label) (clears s p y.label) tenantTotal
-      (λ u l. ap (λ (b : Bool). b && Tuple.containsOf (clearanceAt s (tenantId u)) y.label) (owns-kept next s (tenantId u) p refl)))
+      ap (λ (b : Bool). cond (leb 1 y.pages) b (is_zero_segment y))
+      (any_same (clears next p y.label) (clears s p y.label) tenant_total
+      (λ u l. ap (λ (b : Bool). b && Tuple.contains_of (clearance_at s (tenant_id u)) y.label) (owns_kept next s (tenant_id u) p refl)))
 
-  here : segmentAt next q ≡ x
-  here = segment-written s q x h.lengths (own-slot s t q own)
+  here : segment_at next q ≡ x
+  here = segment_written s q x h.lengths (own_slot s t q own)
 
   -- its tenant has the new pages in place of the old ones
-  pages-written : pagesOf next t + pagesAt s q ≡ pagesOf s t + x.pages
-  unfolding pagesOf
-  pages-written =
-      let o = own-parts s t q own in
-      let r = sum-but (λ p. pagesAt s (slot p)) (λ p. pagesAt next (slot p)) q.0 (first_slot s t).0 (slotCount s t)
-      (λ j n. ap (λ (y : Segment). y.pages) (segment-kept s q (slot j) x n)) o.from o.to in
-      rw (first-kept next s t refl, count_kept next s t refl) (r ∙ ap (λ (y : Segment). pagesOf s t + y.pages) here)
+  pages_written : pages_of next t + pages_at s q ≡ pages_of s t + x.pages
+  unfolding pages_of
+  pages_written =
+      let o = own_parts s t q own in
+      let r = sum_but (λ p. pages_at s (slot p)) (λ p. pages_at next (slot p)) q.0 (first_slot s t).0 (slot_count s t)
+      (λ j n. ap (λ (y : Segment). y.pages) (segment_kept s q (slot j) x n)) o.from o.to in
+      rw (first_kept next s t refl, count_kept next s t refl) (r ∙ ap (λ (y : Segment). pages_of s t + y.pages) here)
 
   -- all others have what they had
-  pages-others : (u : TenantId) → u.0 < tenantTotal → (u.0 ≡ t.0 → ⊥) → pagesOf next u ≡ pagesOf s u
-  unfolding pagesOf
-  pages-others u l n =
-      rw (first-kept next s u refl, count_kept next s u refl)
-      (sum_same (λ p. pagesAt next (slot p)) (λ p. pagesAt s (slot p)) (first_slot s u).0 (slotCount s u)
-      (λ j a b. ap (λ (y : Segment). y.pages) (segment-kept s q (slot j) x
-      (λ i. n (ap (λ (v : TenantId). v.0) (owner-unique s u t q (ap (owns s u) (same-slot q (slot j) (sym i)) ∙ own_of s u (slot j) l a b) own))))))
+  pages_others : (u : TenantId) → u.0 < tenant_total → (u.0 ≡ t.0 → ⊥) → pages_of next u ≡ pages_of s u
+  unfolding pages_of
+  pages_others u l n =
+      rw (first_kept next s u refl, count_kept next s u refl)
+      (sum_same (λ p. pages_at next (slot p)) (λ p. pages_at s (slot p)) (first_slot s u).0 (slot_count s u)
+      (λ j a b. ap (λ (y : Segment). y.pages) (segment_kept s q (slot j) x
+      (λ i. n (ap (λ (v : TenantId). v.0) (owner_unique s u t q (ap (owns s u) (same_slot q (slot j) (sym i)) ∙ own_of s u (slot j) l a b) own))))))
 
-  pub written-sound : held s q x ≡ true → pagesOf s t + x.pages ≤ ceilingAt s t + pagesAt s q → Sound next
-  unfolding ceilingsOf
-  written-sound e f =
+  pub written_sound : held s q x ≡ true → pages_of s t + x.pages ≤ ceiling_at s t + pages_at s q → Sound next
+  unfolding ceilings_of
+  written_sound e f =
       record {
-        lengths = lengths-kept s q x h.lengths;
+        lengths = lengths_kept s q x h.lengths;
         pool = h.pool;
         tenant = h.tenant;
         segment = λ p l.
-            slot_held next p ∙ held_same p (segmentAt next p)
-            ∙ by-slot (λ (p : Slot). p.0 < slotTotal → held s p (segmentAt next p) ≡ true) q p (λ l. ap (held s q) here ∙ e)
-            (λ p i l. ap (held s p) (segment-kept s q p x i) ∙ sym (slot_held s p) ∙ h.segment p l) l;
+            slot_held next p ∙ held_same p (segment_at next p)
+            ∙ by_slot (λ (p : Slot). p.0 < slot_total → held s p (segment_at next p) ≡ true) q p (λ l. ap (held s q) here ∙ e)
+            (λ p i l. ap (held s p) (segment_kept s q p x i) ∙ sym (slot_held s p) ∙ h.segment p l) l;
         ceilings = h.ceilings;
         pages = λ u l.
-            by-tenant (λ (u : TenantId). u.0 < tenantTotal → pagesOf next u ≤ ceilingAt s u) t u (λ l. let k = pages-written in omega arith)
-            (λ u i l. rw (pages-others u l i) (h.pages u l)) l;
+            by_tenant (λ (u : TenantId). u.0 < tenant_total → pages_of next u ≤ ceiling_at s u) t u (λ l. let k = pages_written in omega arith)
+            (λ u i l. rw (pages_others u l i) (h.pages u l)) l;
       }

@@ -3,10 +3,10 @@ use Rattle.std.specs.Prelude.{Bool, false, cond, ℕ, ◌+◌, ◌-◌, leb}
 use Rattle.std.proofs.Math.Option.{Option, none, some}
 
 -- what is left of a limit of which n is used, if n is not over it
-abbrev pub limitLeft : ℕ → ℕ → Option ℕ
-limitLeft limit n = cond (leb n limit) (some (limit - n)) none
+abbrev pub limit_left : ℕ → ℕ → Option ℕ
+limit_left limit n = cond (leb n limit) (some (limit - n)) none
 
 -- whether what is wanted is in what is left and what it replaces
-abbrev pub fitsIn : Option ℕ → ℕ → ℕ → Bool
-fitsIn none replaced wanted = false
-fitsIn (some left) replaced wanted = leb wanted (left + replaced)
+abbrev pub fits_in : Option ℕ → ℕ → ℕ → Bool
+fits_in none replaced wanted = false
+fits_in (some left) replaced wanted = leb wanted (left + replaced)

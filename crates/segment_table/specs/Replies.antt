@@ -3,7 +3,7 @@ use Rattle.std.specs.Prelude.{Bool, true, false, ◌≡◌}
 use Rattle.common.specs.Answer as answers
 use Rattle.label.specs.Label
 use Rattle.label.specs.declared.Label.{Label}
-use Rattle.segment_table.specs.Segments.{segmentOf}
+use Rattle.segment_table.specs.Segments.{segment_of}
 use Rattle.segment_table.specs.declared.CallAnswer.{CallAnswer}
 use Rattle.segment_table.specs.declared.CallOutcome.{CallOutcome}
 use Rattle.segment_table.specs.declared.Reply.{Reply}
@@ -19,30 +19,30 @@ pub data Grant : Type 0 where
   shown : Segment → Grant
 
 -- what the enum Reply says, with the label beside it
-abbrev pub replyOf : Reply → Label → answers.Answer Grant
-replyOf Done l = answers.granted done
-replyOf (Opened p) l = answers.granted (opened p)
-replyOf (Shown x) l = answers.granted (shown (segmentOf l x.pages x.version))
-replyOf (Refused e) l = answers.refusedBy e
+abbrev pub reply_of : Reply → Label → answers.Answer Grant
+reply_of Done l = answers.granted done
+reply_of (Opened p) l = answers.granted (opened p)
+reply_of (Shown x) l = answers.granted (shown (segment_of l x.pages x.version))
+reply_of (Refused e) l = answers.refused_by e
 
-abbrev pub shownLabel : Grant → Label
-shownLabel done = Label.zeroLabel
-shownLabel (opened p) = Label.zeroLabel
-shownLabel (shown x) = x.label
+abbrev pub shown_label : Grant → Label
+shown_label done = Label.zero_label
+shown_label (opened p) = Label.zero_label
+shown_label (shown x) = x.label
 
 -- the label beside an answer: the one that is shown, else zeros
-abbrev pub labelBeside : answers.Answer Grant → Label
-labelBeside (answers.granted g) = shownLabel g
-labelBeside (answers.refused n detail) = Label.zeroLabel
+abbrev pub label_beside : answers.Answer Grant → Label
+label_beside (answers.granted g) = shown_label g
+label_beside (answers.refused n detail) = Label.zero_label
 
 -- the code's answer is x, with the label that stands beside it
 pub record Answers (a : CallAnswer) (x : answers.Answer Grant) : Type 0 where
-  pub reply : replyOf a.reply a.label ≡ x
-  pub label : a.label ≡ labelBeside x
+  pub reply : reply_of a.reply a.label ≡ x
+  pub label : a.label ≡ label_beside x
 
 -- an answer that shows no label
-abbrev pub unlabeledAnswer : Reply → CallAnswer
-unlabeledAnswer r = record { reply = r; label = Label.zeroLabel }
+abbrev pub unlabeled_answer : Reply → CallAnswer
+unlabeled_answer r = record { reply = r; label = Label.zero_label }
 
 -- a state and an answer
 pub record Step : Type 0 where
@@ -57,14 +57,14 @@ left s next (answers.refused n detail) = s
 abbrev pub leaving : SegmentTable → SegmentTable → answers.Answer Grant → Step
 leaving s next a = record { table = left s next a; answer = a }
 
-abbrev pub isRefusal : Reply → Bool
-isRefusal Done = false
-isRefusal (Opened p) = false
-isRefusal (Shown x) = false
-isRefusal (Refused e) = true
+abbrev pub is_refusal : Reply → Bool
+is_refusal Done = false
+is_refusal (Opened p) = false
+is_refusal (Shown x) = false
+is_refusal (Refused e) = true
 
 -- the code's outcome is x, whole
 pub record Results (o : CallOutcome) (x : Step) : Type 0 where
   pub table : o.table ≡ x.table
-  pub answer : replyOf o.answer.reply o.answer.label ≡ x.answer
-  pub label : o.answer.label ≡ labelBeside x.answer
+  pub answer : reply_of o.answer.reply o.answer.label ≡ x.answer
+  pub label : o.answer.label ≡ label_beside x.answer

@@ -12,72 +12,72 @@ use Rattle.segment_table.specs.declared.Tenant.{Tenant}
 use Rattle.segment_table.specs.declared.TenantId.{TenantId}
 
 -- tenants 0 to 7
-abbrev pub tenantTotal : ℕ
-tenantTotal = 8
+abbrev pub tenant_total : ℕ
+tenant_total = 8
 
 -- slots 0 to 63
-abbrev pub slotTotal : ℕ
-slotTotal = 64
+abbrev pub slot_total : ℕ
+slot_total = 64
 
 -- the greatest pool, and the most pages that a call may name
-abbrev pub maxPages : ℕ
-maxPages = 1048576
+abbrev pub max_pages : ℕ
+max_pages = 1048576
 
 -- 1 to 1,048,576 pages
-abbrev pub pagesValid : ℕ → Bool
-pagesValid n = leb 1 n && leb n maxPages
+abbrev pub pages_valid : ℕ → Bool
+pages_valid n = leb 1 n && leb n max_pages
 
-abbrev pub tenantId : ℕ → TenantId
-tenantId n = record { 0 = n }
+abbrev pub tenant_id : ℕ → TenantId
+tenant_id n = record { 0 = n }
 
 abbrev pub slot : ℕ → Slot
 slot n = record { 0 = n }
 
-abbrev pub tenantOf : ℕ → Tuple → Tenant
-tenantOf ceiling clearance = record { ceiling = ceiling; clearance = clearance }
+abbrev pub tenant_of : ℕ → Tuple → Tenant
+tenant_of ceiling clearance = record { ceiling = ceiling; clearance = clearance }
 
-abbrev pub segmentOf : Label → ℕ → ℕ → Segment
-segmentOf l pages version = record { label = l; pages = pages; version = version }
+abbrev pub segment_of : Label → ℕ → ℕ → Segment
+segment_of l pages version = record { label = l; pages = pages; version = version }
 
 abbrev pub table_of : ℕ → List Tenant → List Segment → SegmentTable
 table_of pool ts xs = record { pool = pool; tenants = ts; segments = xs }
 
 -- a tenant that is not admitted and a slot that is empty hold zeros
-abbrev pub zeroTenant : Tenant
-zeroTenant = tenantOf 0 Tuple.emptyTuple
+abbrev pub zero_tenant : Tenant
+zero_tenant = tenant_of 0 Tuple.empty_tuple
 
-abbrev pub zeroSegment : Segment
-zeroSegment = segmentOf Label.zeroLabel 0 0
+abbrev pub zero_segment : Segment
+zero_segment = segment_of Label.zero_label 0 0
 
 -- a state with no tenants
-abbrev pub emptyTable : ℕ → SegmentTable
-emptyTable pool = table_of pool (replicate tenantTotal zeroTenant) (replicate slotTotal zeroSegment)
+abbrev pub empty_table : ℕ → SegmentTable
+empty_table pool = table_of pool (replicate tenant_total zero_tenant) (replicate slot_total zero_segment)
 
 -- what stands past the end of an array of these: no tenant and no slot has it
-abbrev noTenant : Tenant
-noTenant = tenantOf 0 (Tuple.tuple_of [])
+abbrev no_tenant : Tenant
+no_tenant = tenant_of 0 (Tuple.tuple_of [])
 
-abbrev noSegment : Segment
-noSegment = segmentOf (Label.label_of 0 []) 0 0
+abbrev no_segment : Segment
+no_segment = segment_of (Label.label_of 0 []) 0 0
 
-abbrev pub tenantAt : SegmentTable → TenantId → Tenant
-tenantAt s t = get_or s.tenants t.0 noTenant
+abbrev pub tenant_at : SegmentTable → TenantId → Tenant
+tenant_at s t = get_or s.tenants t.0 no_tenant
 
-abbrev pub ceilingAt : SegmentTable → TenantId → ℕ
-ceilingAt s t = (tenantAt s t).ceiling
+abbrev pub ceiling_at : SegmentTable → TenantId → ℕ
+ceiling_at s t = (tenant_at s t).ceiling
 
-abbrev pub clearanceAt : SegmentTable → TenantId → Tuple
-clearanceAt s t = (tenantAt s t).clearance
+abbrev pub clearance_at : SegmentTable → TenantId → Tuple
+clearance_at s t = (tenant_at s t).clearance
 
-abbrev pub segmentAt : SegmentTable → Slot → Segment
-segmentAt s p = get_or s.segments p.0 noSegment
+abbrev pub segment_at : SegmentTable → Slot → Segment
+segment_at s p = get_or s.segments p.0 no_segment
 
-abbrev pub pagesAt : SegmentTable → Slot → ℕ
-pagesAt s p = (segmentAt s p).pages
+abbrev pub pages_at : SegmentTable → Slot → ℕ
+pages_at s p = (segment_at s p).pages
 
 -- the state with another record for a tenant, or another segment in a slot
-abbrev pub withTenant : SegmentTable → TenantId → Tenant → SegmentTable
-withTenant s t x = table_of s.pool (set s.tenants t.0 x) s.segments
+abbrev pub with_tenant : SegmentTable → TenantId → Tenant → SegmentTable
+with_tenant s t x = table_of s.pool (set s.tenants t.0 x) s.segments
 
-abbrev pub withSegment : SegmentTable → Slot → Segment → SegmentTable
-withSegment s p x = table_of s.pool s.tenants (set s.segments p.0 x)
+abbrev pub with_segment : SegmentTable → Slot → Segment → SegmentTable
+with_segment s p x = table_of s.pool s.tenants (set s.segments p.0 x)

@@ -8,7 +8,7 @@ mod tested;
 
 ghost use Rattle.std.specs.Prelude.{◌≡◌};
 ghost use Rattle.segment_table.specs.Internal.TableParts as parts;
-ghost use Rattle.segment_table.specs.Replies.{isRefusal, unlabeledAnswer};
+ghost use Rattle.segment_table.specs.Replies.{is_refusal, unlabeled_answer};
 
 use common::errno::Errno;
 use label::Label;
@@ -90,7 +90,7 @@ pub struct CallOutcome {
 
 // Whether a reply is a refusal.
 pub fn refuses(reply: Reply) -> bool
-    ensures { result ≡ isRefusal reply }
+    ensures { result ≡ is_refusal reply }
 {
     match reply {
         Reply::Done => false,
@@ -102,7 +102,7 @@ pub fn refuses(reply: Reply) -> bool
 
 // A reply that shows no label.
 pub fn no_label(reply: Reply) -> CallAnswer
-    ensures { result ≡ unlabeledAnswer reply }
+    ensures { result ≡ unlabeled_answer reply }
 {
     CallAnswer {
         reply,

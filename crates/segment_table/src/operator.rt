@@ -1,10 +1,10 @@
 // The operator's calls.
 ghost use Rattle.std.specs.Prelude.{◌≡◌, true, not, ◌&&◌, ◌<◌};
 ghost use Rattle.range.specs.Tuple as tuples;
-ghost use Rattle.segment_table.specs.Operator.{admitOf, makeOf, setCeilingOf};
-ghost use Rattle.segment_table.specs.Internal.TableParts.{poolAnswer};
+ghost use Rattle.segment_table.specs.Operator.{admit_of, make_of, set_ceiling_of};
+ghost use Rattle.segment_table.specs.Internal.TableParts.{pool_answer};
 ghost use Rattle.segment_table.specs.Replies.{Results, leaving};
-ghost use Rattle.segment_table.specs.Segments.{emptyTable, tenantAt, tenantTotal, withTenant};
+ghost use Rattle.segment_table.specs.Segments.{empty_table, tenant_at, tenant_total, with_tenant};
 ghost use Rattle.segment_table.specs.Sound.{sound};
 
 use crate::{
@@ -17,7 +17,7 @@ use range::tuple::Tuple;
 
 // The state with no tenants.
 fn empty_table(pool: u64) -> SegmentTable
-    ensures { result ≡ emptyTable pool }
+    ensures { result ≡ empty_table pool }
 {
     let tenant = Tenant {
         ceiling: 0,
@@ -33,7 +33,7 @@ fn empty_table(pool: u64) -> SegmentTable
 
 // A state with this pool and no tenants. A refused make hands back a state of zeros.
 pub fn make(pool: u64) -> CallOutcome
-    ensures { Results result (makeOf pool) }
+    ensures { Results result (make_of pool) }
 {
     if state::pages_valid(pool) {
         return unlabeled(empty_table(pool), Reply::Done);
@@ -43,7 +43,7 @@ pub fn make(pool: u64) -> CallOutcome
 
 // Whether a tuple can be a clearance.
 fn clearance_valid(t: Tuple) -> bool
-    ensures { result ≡ (tuples.valid_of t && not (tuples.emptyOf t)) }
+    ensures { result ≡ (tuples.valid_of t && not (tuples.empty_of t)) }
 {
     let test = tuple::is_empty(t);
     match test {
@@ -55,8 +55,8 @@ fn clearance_valid(t: Tuple) -> bool
 // Gives a tenant another record, if the pool has room for its ceiling in place of the old one.
 fn set_record(table: SegmentTable, tenant: TenantId, x: Tenant) -> CallOutcome
     requires table_value { sound table ≡ true }
-    requires tenant_lt_tenant_total { tenant.0 < tenantTotal }
-    ensures { Results result (leaving table (withTenant table tenant x) (poolAnswer table tenant x.ceiling)) }
+    requires tenant_lt_tenant_total { tenant.0 < tenant_total }
+    ensures { Results result (leaving table (with_tenant table tenant x) (pool_answer table tenant x.ceiling)) }
 {
     let old = table.tenants[tenant.0 as usize].ceiling;
     if !slots::fits(slots::pool_left(table), old, x.ceiling) {
@@ -68,7 +68,7 @@ fn set_record(table: SegmentTable, tenant: TenantId, x: Tenant) -> CallOutcome
 
 // Admits a tenant, with a ceiling on its pages and a clearance.
 pub fn admit(table: SegmentTable, tenant: TenantId, ceiling: u64, clearance: Tuple) -> CallOutcome
-    ensures { Results result (admitOf table tenant ceiling clearance) }
+    ensures { Results result (admit_of table tenant ceiling clearance) }
 {
     if !state::is_sound(table) {
         return unlabeled(table, Reply::Refused(Errno::Invalid));
@@ -85,15 +85,15 @@ pub fn admit(table: SegmentTable, tenant: TenantId, ceiling: u64, clearance: Tup
 
 // A tenant's record.
 fn record_of(table: SegmentTable, tenant: TenantId) -> Tenant
-    requires { tenant.0 < tenantTotal }
-    ensures { result ≡ tenantAt table tenant }
+    requires { tenant.0 < tenant_total }
+    ensures { result ≡ tenant_at table tenant }
 {
     table.tenants[tenant.0 as usize]
 }
 
 // Gives an admitted tenant another ceiling.
 pub fn set_ceiling(table: SegmentTable, tenant: TenantId, ceiling: u64) -> CallOutcome
-    ensures { Results result (setCeilingOf table tenant ceiling) }
+    ensures { Results result (set_ceiling_of table tenant ceiling) }
 {
     if !state::is_sound(table) {
         return unlabeled(table, Reply::Refused(Errno::Invalid));

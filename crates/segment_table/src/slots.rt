@@ -1,10 +1,10 @@
 // Whose a slot is (document 01: place), which slots are filled, and how many pages are taken.
 ghost use Rattle.std.specs.Prelude.{◌&&◌, ◌≡◌, ◌<◌, ltb};
-ghost use Rattle.segment_table.specs.Limits.{fitsIn, limitLeft};
-ghost use Rattle.segment_table.specs.Internal.Remainders.{keptIn, remainingOf};
-ghost use Rattle.segment_table.specs.Internal.Owners.{Owned, isOwned, ownerOr};
-ghost use Rattle.segment_table.specs.Slots.{slotOptionOf};
-ghost use Rattle.segment_table.specs.Segments.{tenantTotal};
+ghost use Rattle.segment_table.specs.Limits.{fits_in, limit_left};
+ghost use Rattle.segment_table.specs.Internal.Remainders.{kept_in, remaining_of};
+ghost use Rattle.segment_table.specs.Internal.Owners.{Owned, is_owned, owner_or};
+ghost use Rattle.segment_table.specs.Slots.{slot_option_of};
+ghost use Rattle.segment_table.specs.Segments.{tenant_total};
 ghost use Rattle.segment_table.specs.Slots as rules;
 
 use crate::{SegmentTable, Slot, TENANTS, TenantId};
@@ -32,7 +32,7 @@ pub(crate) enum Remaining {
 
 // The first slot of t's own. This function and the next alone know which slots a tenant owns: t owns 8t to 8t+7.
 pub(crate) fn first_slot(s: SegmentTable, t: TenantId) -> Slot
-    requires { t.0 < tenantTotal }
+    requires { t.0 < tenant_total }
     ensures { result ≡ rules.first_slot s t }
 {
     Slot(8 * t.0)
@@ -40,7 +40,7 @@ pub(crate) fn first_slot(s: SegmentTable, t: TenantId) -> Slot
 
 // How many slots t owns.
 pub(crate) fn slot_count(s: SegmentTable, t: TenantId) -> u64
-    ensures { result ≡ rules.slotCount s t }
+    ensures { result ≡ rules.slot_count s t }
 {
     8
 }
@@ -73,7 +73,7 @@ pub(crate) fn owner_of(s: SegmentTable, p: Slot) -> Owner
 
 // Whether a slot has an owner.
 pub(crate) fn owned(owner: Owner) -> bool
-    ensures { result ≡ isOwned owner }
+    ensures { result ≡ is_owned owner }
 {
     match owner {
         Owner::Tenant(_) => true,
@@ -83,7 +83,7 @@ pub(crate) fn owned(owner: Owner) -> bool
 
 // The owner's number, or another where nobody owns the slot.
 pub(crate) fn owner_or(owner: Owner, other: u64) -> u64
-    ensures { result ≡ ownerOr owner other }
+    ensures { result ≡ owner_or owner other }
 {
     match owner {
         Owner::Tenant(t) => t.0,
@@ -93,8 +93,8 @@ pub(crate) fn owner_or(owner: Owner, other: u64) -> u64
 
 // The lowest slot of a tenant's own without pages, if there is one.
 fn lowest_own(s: SegmentTable, t: TenantId) -> SlotOption
-    requires { t.0 < tenantTotal }
-    ensures { slotOptionOf result ≡ rules.lowestEmpty s t }
+    requires { t.0 < tenant_total }
+    ensures { slot_option_of result ≡ rules.lowest_empty s t }
 {
     let lowest = first_slot(s, t);
     let count = slot_count(s, t);
@@ -112,7 +112,7 @@ fn lowest_own(s: SegmentTable, t: TenantId) -> SlotOption
 
 // The same of any number: one that is no tenant's owns no slot.
 pub fn lowest_empty(s: SegmentTable, t: TenantId) -> SlotOption
-    ensures { slotOptionOf result ≡ rules.lowestEmpty s t }
+    ensures { slot_option_of result ≡ rules.lowest_empty s t }
 {
     if TENANTS as u64 <= t.0 {
         return SlotOption::Nothing;
@@ -122,8 +122,8 @@ pub fn lowest_empty(s: SegmentTable, t: TenantId) -> SlotOption
 
 // What is left of a limit when t's pages are taken from it. It counts down, so that no sum wraps, whatever the state holds.
 pub(crate) fn pages_left(s: SegmentTable, t: TenantId, limit: u64) -> Remaining
-    requires { t.0 < tenantTotal }
-    ensures { remainingOf result ≡ limitLeft limit (rules.pagesOf s t) }
+    requires { t.0 < tenant_total }
+    ensures { remaining_of result ≡ limit_left limit (rules.pages_of s t) }
 {
     let first = first_slot(s, t);
     let count = slot_count(s, t);
@@ -142,7 +142,7 @@ pub(crate) fn pages_left(s: SegmentTable, t: TenantId, limit: u64) -> Remaining
 
 // What is left of the pool when every tenant's ceiling is taken from it.
 pub(crate) fn pool_left(s: SegmentTable) -> Remaining
-    ensures { remainingOf result ≡ limitLeft s.pool (rules.ceilingsOf s) }
+    ensures { remaining_of result ≡ limit_left s.pool (rules.ceilings_of s) }
 {
     let mut left = s.pool;
     let mut i = 0;
@@ -159,7 +159,7 @@ pub(crate) fn pool_left(s: SegmentTable) -> Remaining
 
 // Whether a limit is kept.
 pub(crate) fn kept(left: Remaining) -> bool
-    ensures { result ≡ keptIn (remainingOf left) }
+    ensures { result ≡ kept_in (remaining_of left) }
 {
     match left {
         Remaining::Pages(_) => true,
@@ -169,7 +169,7 @@ pub(crate) fn kept(left: Remaining) -> bool
 
 // Whether what is wanted is in what is left of a limit and what it replaces.
 pub(crate) fn fits(left: Remaining, replaced: u64, wanted: u64) -> bool
-    ensures { result ≡ fitsIn (remainingOf left) replaced wanted }
+    ensures { result ≡ fits_in (remaining_of left) replaced wanted }
 {
     match left {
         Remaining::Pages(n) => if wanted <= n {
@@ -183,7 +183,7 @@ pub(crate) fn fits(left: Remaining, replaced: u64, wanted: u64) -> bool
 
 // Whether a limit on t's pages has room for more, which take the place of others. One that is no tenant has no room.
 pub fn has_room(s: SegmentTable, t: TenantId, limit: u64, replaced: u64, pages: u64) -> bool
-    ensures { result ≡ (ltb t.0 tenantTotal && fitsIn (limitLeft limit (rules.pagesOf s t)) replaced pages) }
+    ensures { result ≡ (ltb t.0 tenant_total && fits_in (limit_left limit (rules.pages_of s t)) replaced pages) }
 {
     if t.0 < TENANTS as u64 {
         return fits(pages_left(s, t, limit), replaced, pages);

@@ -1,9 +1,9 @@
 // The state as a whole (document 01: the board): when it is sound, who is admitted, and what a change leaves.
 ghost use Rattle.std.specs.Prelude.{◌≡◌, ◌<◌};
-ghost use Rattle.common.specs.Answer.{granted, numberAnswerOf, require};
-ghost use Rattle.segment_table.specs.Internal.SoundParts.{ceilingsKept, segmentSound, slotsSound, tenantsSound};
-ghost use Rattle.segment_table.specs.Segments.{pagesValid, tenantTotal, withSegment, withTenant, zeroSegment};
-ghost use Rattle.segment_table.specs.Slots.{pagesOf};
+ghost use Rattle.common.specs.Answer.{granted, number_answer_of, require};
+ghost use Rattle.segment_table.specs.Internal.SoundParts.{ceilings_kept, segment_sound, slots_sound, tenants_sound};
+ghost use Rattle.segment_table.specs.Segments.{pages_valid, tenant_total, with_segment, with_tenant, zero_segment};
+ghost use Rattle.segment_table.specs.Slots.{pages_of};
 ghost use Rattle.segment_table.specs.Sound as rules;
 
 use crate::slots::{Owner, Remaining};
@@ -18,7 +18,7 @@ use range::tuple::RegionRange;
 
 // Whether a number of pages is one that a pool or a call may have.
 pub fn pages_valid(pages: u64) -> bool
-    ensures { result ≡ pagesValid pages }
+    ensures { result ≡ pages_valid pages }
 {
     (1 <= pages) & (pages <= MAX_PAGES)
 }
@@ -35,7 +35,7 @@ pub(crate) fn admitted(s: SegmentTable, t: TenantId) -> bool
 
 // Whether a tenant's record is that of one admitted, with a valid clearance that is not empty, or holds zeros.
 fn tenant_sound(x: Tenant) -> bool
-    ensures { result ≡ rules.tenantSound x }
+    ensures { result ≡ rules.tenant_sound x }
 {
     let admitted = 1 <= x.ceiling;
     let test = tuple::is_empty(x.clearance);
@@ -46,7 +46,7 @@ fn tenant_sound(x: Tenant) -> bool
 }
 
 fn tenants_sound(s: SegmentTable) -> bool
-    ensures { result ≡ tenantsSound s }
+    ensures { result ≡ tenants_sound s }
 {
     let mut i = 0;
     while i < TENANTS {
@@ -60,7 +60,7 @@ fn tenants_sound(s: SegmentTable) -> bool
 
 // Whether a segment is zeros, as an empty slot holds.
 fn zeros(x: Segment) -> bool
-    ensures { result ≡ rules.isZeroSegment x }
+    ensures { result ≡ rules.is_zero_segment x }
 {
     tested::is_zero(x.label) & (x.pages == 0) & (x.version == 0)
 }
@@ -68,7 +68,7 @@ fn zeros(x: Segment) -> bool
 // Whether a slot may hold x: a filled one that somebody owns a label in e, which the owner's clearance has for the region of x; any other one
 // zeros.
 fn segment_sound(x: Segment, owner: Owner, e: RegionRange) -> bool
-    ensures { result ≡ segmentSound x owner e }
+    ensures { result ≡ segment_sound x owner e }
 {
     if (1 <= x.pages) & slots::owned(owner) {
         return tested::contains_at(e, x.label);
@@ -79,7 +79,7 @@ fn segment_sound(x: Segment, owner: Owner, e: RegionRange) -> bool
 // Whether each slot is sound: by its owner's clearance, or, where nobody owns it, by zeros. The loop takes segments and clearances out itself,
 // a clearance once for the slots of one owner that follow each other: a function that it handed the state would be handed a copy each time.
 fn slots_sound(s: SegmentTable) -> bool
-    ensures { result ≡ slotsSound s }
+    ensures { result ≡ slots_sound s }
 {
     let mut at: u64 = 0;
     let first = s.tenants[0];
@@ -105,14 +105,14 @@ fn slots_sound(s: SegmentTable) -> bool
 
 // Whether t's pages are at most its ceiling.
 fn under_ceiling(s: SegmentTable, t: TenantId) -> bool
-    requires { t.0 < tenantTotal }
-    ensures { result ≡ rules.underCeiling s t }
+    requires { t.0 < tenant_total }
+    ensures { result ≡ rules.under_ceiling s t }
 {
     slots::kept(slots::pages_left(s, t, s.tenants[t.0 as usize].ceiling))
 }
 
 fn ceilings_kept(s: SegmentTable) -> bool
-    ensures { result ≡ ceilingsKept s }
+    ensures { result ≡ ceilings_kept s }
 {
     let mut i: u64 = 0;
     while i < TENANTS as u64 {
@@ -147,7 +147,7 @@ pub(crate) fn is_sound(s: SegmentTable) -> bool
 
 // The pages that a tenant has in use, for an operator to see.
 pub fn pages_in_use(s: SegmentTable, t: TenantId) -> Number
-    ensures { numberAnswerOf result ≡ require (rules.sound s) 22 (require (rules.admitted s t) 22 (granted (pagesOf s t))) }
+    ensures { number_answer_of result ≡ require (rules.sound s) 22 (require (rules.admitted s t) 22 (granted (pages_of s t))) }
 {
     if !is_sound(s) {
         return Number::Refused(Errno::Invalid);
@@ -165,7 +165,7 @@ pub fn pages_in_use(s: SegmentTable, t: TenantId) -> Number
 
 // What an empty slot holds.
 pub fn zero_segment() -> Segment
-    ensures { result ≡ zeroSegment }
+    ensures { result ≡ zero_segment }
 {
     Segment {
         label: label::zero(),
@@ -176,8 +176,8 @@ pub fn zero_segment() -> Segment
 
 // The state with another record for t.
 pub(crate) fn with_tenant(s: SegmentTable, t: TenantId, x: Tenant) -> SegmentTable
-    requires { t.0 < tenantTotal }
-    ensures { result ≡ withTenant s t x }
+    requires { t.0 < tenant_total }
+    ensures { result ≡ with_tenant s t x }
 {
     let mut next = s;
     next.tenants[t.0 as usize] = x;
@@ -186,7 +186,7 @@ pub(crate) fn with_tenant(s: SegmentTable, t: TenantId, x: Tenant) -> SegmentTab
 
 // The state with another segment in p, if there is such a slot.
 pub fn with_segment(s: SegmentTable, p: Slot, x: Segment) -> SegmentTable
-    ensures { result ≡ withSegment s p x }
+    ensures { result ≡ with_segment s p x }
 {
     let mut next = s;
     if p.0 < SLOTS as u64 {

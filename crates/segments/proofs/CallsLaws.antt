@@ -7,18 +7,18 @@ use mathlib.Core.Path.{◌≡◌, refl, sym, ap, ap₂, ◌∙◌}
 use Prim.Native.Nat.{ℕ, ◌+◌, ◌-◌, ◌<◌}
 use borrow.Author.Tests.{ltb-true}
 use lib.Dec.{leb, ltb}
-use Rattle.common.specs.Answer.{Answer, granted, isGranted, refused, require}
-use Rattle.common.specs.Index.{firstFrom, sumFrom}
+use Rattle.common.specs.Answer.{Answer, granted, is_granted, refused, require}
+use Rattle.common.specs.Index.{first_from, sum_from}
 use Rattle.label.specs.Label
 use Rattle.label.specs.declared.Label.{Label}
-use Rattle.common.proofs.AnswerLaws.{grant-passed, require-same}
-use Rattle.common.proofs.BoolLaws.{first-true, three-true}
-use Rattle.common.proofs.SearchLaws.{first-same, sum_same}
+use Rattle.common.proofs.AnswerLaws.{grant_passed, require_same}
+use Rattle.common.proofs.BoolLaws.{first_true, three_true}
+use Rattle.common.proofs.SearchLaws.{first_same, sum_same}
 use Rattle.range.specs.Tuple
-use Rattle.segments.specs.Calls.{CallEffect, accessOf, answeredBy, call_of, callRow, callValid, cleared, decisionOn, effectOn, requireSlot, slotFor, slotValid, step_of, tableBy, visible, writable}
+use Rattle.segments.specs.Calls.{CallEffect, access_of, answered_by, call_of, call_row, call_valid, cleared, decision_on, effect_on, require_slot, slot_for, slot_valid, step_of, table_by, visible, writable}
 use Rattle.segment_table.specs.Replies.{shown}
-use Rattle.segment_table.specs.Segments.{ceilingAt, pagesAt, segmentAt, slot, slotTotal, tenantTotal, withSegment}
-use Rattle.segment_table.specs.Slots.{asSlot, empty_at, filled, first_slot, lowestEmpty, owns, pagesOf, slotCount}
+use Rattle.segment_table.specs.Segments.{ceiling_at, pages_at, segment_at, slot, slot_total, tenant_total, with_segment}
+use Rattle.segment_table.specs.Slots.{as_slot, empty_at, filled, first_slot, lowest_empty, owns, pages_of, slot_count}
 use Rattle.segment_table.specs.Sound.{admitted, sound}
 use Rattle.segments.specs.declared.Action.{Action}
 use Rattle.segments.specs.declared.Action.TheVariants.{Open, Size, Post, Look, Close}
@@ -28,58 +28,58 @@ use Rattle.segment_table.specs.declared.SegmentTable.{SegmentTable}
 use Rattle.segment_table.specs.declared.Slot.{Slot}
 use Rattle.segment_table.specs.declared.Tenant.{Tenant}
 use Rattle.segment_table.specs.declared.TenantId.{TenantId}
-use Rattle.segment_table.proofs.SegmentsLaws.{segment-kept, segment-same, segment-written, tenant-same}
-use Rattle.segment_table.proofs.SlotsLaws.{by-slot, lowest-own, count_kept, first-kept, own_of, own-slot, owns-kept, same-slot}
-use Rattle.segment_table.proofs.SoundLaws.{sound-parts}
+use Rattle.segment_table.proofs.SegmentsLaws.{segment_kept, segment_same, segment_written, tenant_same}
+use Rattle.segment_table.proofs.SlotsLaws.{by_slot, lowest_own, count_kept, first_kept, own_of, own_slot, owns_kept, same_slot}
+use Rattle.segment_table.proofs.SoundLaws.{sound_parts}
 
 -- ---- the slot that a call is about
 
-pub writable-own : (s : SegmentTable) (t : TenantId) (l : Label) (p : Slot) → writable s t l p ≡ true → (owns s t p ≡ true) × (filled s p ≡ true)
+pub writable_own : (s : SegmentTable) (t : TenantId) (l : Label) (p : Slot) → writable s t l p ≡ true → (owns s t p ≡ true) × (filled s p ≡ true)
 unfolding writable
-writable-own s t l p e =
-    let h = three-true (owns s t p) (filled s p) (Label.equal_of l (segmentAt s p).label) e in
+writable_own s t l p e =
+    let h = three_true (owns s t p) (filled s p) (Label.equal_of l (segment_at s p).label) e in
     (h.0, h.1)
 
 -- of the slot that a call names
-pub writable-at : (s : SegmentTable) (t : TenantId) (l : Label) (q p : Slot) → some q ≡ some p → writable s t l q ≡ true → writable s t l p ≡ true
-writable-at s t l q p f e = let i : q ≡ p = cc in rw (← i) e
+pub writable_at : (s : SegmentTable) (t : TenantId) (l : Label) (q p : Slot) → some q ≡ some p → writable s t l q ≡ true → writable s t l p ≡ true
+writable_at s t l q p f e = let i : q ≡ p = cc in rw (← i) e
 
 -- a call that looks, if at all, at a slot of its caller's own
 abbrev pub LooksAtOwn : SegmentTable → TenantId → Action → Type 0
-LooksAtOwn s t a = (p : Slot) → (callRow a).lookedAt ≡ some p → owns s t p ≡ true
+LooksAtOwn s t a = (p : Slot) → (call_row a).looked_at ≡ some p → owns s t p ≡ true
 
 -- such a call is about a slot of its caller's own
-pub target-own : (s : SegmentTable) (t : TenantId) (l : Label) (a : Action) (p : Slot) → t.0 < tenantTotal → LooksAtOwn s t a
-    → (callRow a).permitted s t l ≡ true → slotFor s t (callRow a).named ≡ some p → owns s t p ≡ true
-target-own s t l (Open x) p h m e f = lowest-own s t p h f
-target-own s t l (Size x) p h m e f = (writable-own s t l p (writable-at s t l x.slot p f e)).0
-target-own s t l (Post x) p h m e f = (writable-own s t l p (writable-at s t l x.slot p f e)).0
-target-own s t l (Look x) p h m e f = m p f
-target-own s t l (Close x) p h m e f = (writable-own s t l p (writable-at s t l x.slot p f e)).0
+pub target_own : (s : SegmentTable) (t : TenantId) (l : Label) (a : Action) (p : Slot) → t.0 < tenant_total → LooksAtOwn s t a
+    → (call_row a).permitted s t l ≡ true → slot_for s t (call_row a).named ≡ some p → owns s t p ≡ true
+target_own s t l (Open x) p h m e f = lowest_own s t p h f
+target_own s t l (Size x) p h m e f = (writable_own s t l p (writable_at s t l x.slot p f e)).0
+target_own s t l (Post x) p h m e f = (writable_own s t l p (writable_at s t l x.slot p f e)).0
+target_own s t l (Look x) p h m e f = m p f
+target_own s t l (Close x) p h m e f = (writable_own s t l p (writable_at s t l x.slot p f e)).0
 
 -- a valid call's tenant is one
-pub valid-tenant : (s : SegmentTable) (t : TenantId) (l : Label) (a : Action) → callValid s (call_of t l a) ≡ true → t.0 < tenantTotal
-unfolding callValid admitted
-valid-tenant s t l a e =
-    ltb-true t.0 tenantTotal (first-true _ (leb 1 (ceilingAt s t)) (three-true (ltb t.0 tenantTotal && leb 1 (ceilingAt s t)) (Label.valid_of l) (callRow a).numbersValid e).0)
+pub valid_tenant : (s : SegmentTable) (t : TenantId) (l : Label) (a : Action) → call_valid s (call_of t l a) ≡ true → t.0 < tenant_total
+unfolding call_valid admitted
+valid_tenant s t l a e =
+    ltb-true t.0 tenant_total (first_true _ (leb 1 (ceiling_at s t)) (three_true (ltb t.0 tenant_total && leb 1 (ceiling_at s t)) (Label.valid_of l) (call_row a).numbers_valid e).0)
 
-pub valid-numbers : (s : SegmentTable) (t : TenantId) (l : Label) (a : Action) → callValid s (call_of t l a) ≡ true → (callRow a).numbersValid ≡ true
-unfolding callValid
-valid-numbers s t l a e = (three-true (admitted s t) (Label.valid_of l) (callRow a).numbersValid e).2
+pub valid_numbers : (s : SegmentTable) (t : TenantId) (l : Label) (a : Action) → call_valid s (call_of t l a) ≡ true → (call_row a).numbers_valid ≡ true
+unfolding call_valid
+valid_numbers s t l a e = (three_true (admitted s t) (Label.valid_of l) (call_row a).numbers_valid e).2
 
-slot-in : (q p : Slot) → slotValid q ≡ true → some q ≡ some p → p.0 < slotTotal
-slot-in q p v e = let r : q ≡ p = cc in rw (← r) (ltb-true q.0 slotTotal v)
+slot_in : (q p : Slot) → slot_valid q ≡ true → some q ≡ some p → p.0 < slot_total
+slot_in q p v e = let r : q ≡ p = cc in rw (← r) (ltb-true q.0 slot_total v)
 
 -- the slot that a valid call is about is one
-pub valid-slot : (s : SegmentTable) (t : TenantId) (l : Label) (a : Action) (p : Slot) → callValid s (call_of t l a) ≡ true → slotFor s t (callRow a).named ≡ some p → p.0 < slotTotal
-valid-slot s t l a p e f = go a (valid-numbers s t l a e) f
+pub valid_slot : (s : SegmentTable) (t : TenantId) (l : Label) (a : Action) (p : Slot) → call_valid s (call_of t l a) ≡ true → slot_for s t (call_row a).named ≡ some p → p.0 < slot_total
+valid_slot s t l a p e f = go a (valid_numbers s t l a e) f
   where
-    go : (a : Action) → (callRow a).numbersValid ≡ true → slotFor s t (callRow a).named ≡ some p → p.0 < slotTotal
-    go (Open x) n f = own-slot s t p (lowest-own s t p (valid-tenant s t l a e) f)
-    go (Size x) n f = slot-in x.slot p (first-true (slotValid x.slot) _ n) f
-    go (Post x) n f = slot-in x.slot p n f
-    go (Look x) n f = slot-in x.slot p n f
-    go (Close x) n f = slot-in x.slot p n f
+    go : (a : Action) → (call_row a).numbers_valid ≡ true → slot_for s t (call_row a).named ≡ some p → p.0 < slot_total
+    go (Open x) n f = own_slot s t p (lowest_own s t p (valid_tenant s t l a e) f)
+    go (Size x) n f = slot_in x.slot p (first_true (slot_valid x.slot) _ n) f
+    go (Post x) n f = slot_in x.slot p n f
+    go (Look x) n f = slot_in x.slot p n f
+    go (Close x) n f = slot_in x.slot p n f
 
 -- ---- two states that are alike for a tenant
 
@@ -88,198 +88,198 @@ pub record Alike (t : TenantId) (s u : SegmentTable) : Type 0 where
   pub sounds : (sound s ≡ true) × (sound u ≡ true)
   pub pool : s.pool ≡ u.pool
   pub records : s.tenants ≡ u.tenants
-  pub own : (p : Slot) → owns s t p ≡ true → segmentAt s p ≡ segmentAt u p
+  pub own : (p : Slot) → owns s t p ≡ true → segment_at s p ≡ segment_at u p
 
-pub alike-itself : (t : TenantId) (s : SegmentTable) → sound s ≡ true → Alike t s s
-alike-itself t s h = record { sounds = (h, h); pool = refl; records = refl; own = λ p e. refl }
+pub alike_itself : (t : TenantId) (s : SegmentTable) → sound s ≡ true → Alike t s s
+alike_itself t s h = record { sounds = (h, h); pool = refl; records = refl; own = λ p e. refl }
 
-pub alike-swap : (t : TenantId) (s u : SegmentTable) → Alike t s u → Alike t u s
-alike-swap t s u a =
+pub alike_swap : (t : TenantId) (s u : SegmentTable) → Alike t s u → Alike t u s
+alike_swap t s u a =
     record {
       sounds = (a.sounds.1, a.sounds.0);
       pool = sym a.pool;
       records = sym a.records;
-      own = λ p e. sym (a.own p (owns-kept s u t p a.records ∙ e));
+      own = λ p e. sym (a.own p (owns_kept s u t p a.records ∙ e));
     }
 
-pub alike-join : (t : TenantId) (s u v : SegmentTable) → Alike t s u → Alike t u v → Alike t s v
-alike-join t s u v a b =
+pub alike_join : (t : TenantId) (s u v : SegmentTable) → Alike t s u → Alike t u v → Alike t s v
+alike_join t s u v a b =
     record {
       sounds = (a.sounds.0, b.sounds.1);
       pool = a.pool ∙ b.pool;
       records = a.records ∙ b.records;
-      own = λ p e. a.own p e ∙ b.own p (sym (owns-kept s u t p a.records) ∙ e);
+      own = λ p e. a.own p e ∙ b.own p (sym (owns_kept s u t p a.records) ∙ e);
     }
 
-pub visible-same : (s u : SegmentTable) (l : Label) (p : Slot) → segmentAt s p ≡ segmentAt u p → visible s l p ≡ visible u l p
+pub visible_same : (s u : SegmentTable) (l : Label) (p : Slot) → segment_at s p ≡ segment_at u p → visible s l p ≡ visible u l p
 unfolding visible filled
-visible-same s u l p e = ap (λ (x : Segment). leb 1 x.pages && Label.dominatesOf l x.label) e
+visible_same s u l p e = ap (λ (x : Segment). leb 1 x.pages && Label.dominates_of l x.label) e
 
 -- a slot is there or not alike, with what follows alike where it is there
-slot_same : {A : Type 0} (n : ℕ) (o q : Option Slot) (f g : Slot → Answer A) → o ≡ q → ((p : Slot) → o ≡ some p → f p ≡ g p) → requireSlot o n f ≡ requireSlot q n g
+slot_same : {A : Type 0} (n : ℕ) (o q : Option Slot) (f g : Slot → Answer A) → o ≡ q → ((p : Slot) → o ≡ some p → f p ≡ g p) → require_slot o n f ≡ require_slot q n g
 slot_same n none q f g e h = rw (← e) refl
 slot_same n (some p) q f g e h = rw (← e) (h p refl)
 
 module _ (t : TenantId) (s u : SegmentTable) (k : Alike t s u) where
-  ceiling-same : ceilingAt s t ≡ ceilingAt u t
-  ceiling-same = ap (λ (x : Tenant). x.ceiling) (tenant-same s u t k.records)
+  ceiling_same : ceiling_at s t ≡ ceiling_at u t
+  ceiling_same = ap (λ (x : Tenant). x.ceiling) (tenant_same s u t k.records)
 
-  pages-same : t.0 < tenantTotal → pagesOf s t ≡ pagesOf u t
-  unfolding pagesOf
-  pages-same h =
-      sum_same (λ p. pagesAt s (slot p)) (λ p. pagesAt u (slot p)) (first_slot s t).0 (slotCount s t)
+  pages_same : t.0 < tenant_total → pages_of s t ≡ pages_of u t
+  unfolding pages_of
+  pages_same h =
+      sum_same (λ p. pages_at s (slot p)) (λ p. pages_at u (slot p)) (first_slot s t).0 (slot_count s t)
       (λ j a b. ap (λ (x : Segment). x.pages) (k.own (slot j) (own_of s t (slot j) h a b)))
-      ∙ ap₂ (sumFrom (λ p. pagesAt u (slot p))) (ap (λ (p : Slot). p.0) (first-kept s u t k.records)) (count_kept s u t k.records)
+      ∙ ap₂ (sum_from (λ p. pages_at u (slot p))) (ap (λ (p : Slot). p.0) (first_kept s u t k.records)) (count_kept s u t k.records)
 
-  lowest-same : t.0 < tenantTotal → lowestEmpty s t ≡ lowestEmpty u t
-  unfolding lowestEmpty filled
-  lowest-same h =
-      ap (λ (o : Option ℕ). cond (ltb t.0 tenantTotal) (asSlot o) none)
-      (first-same (empty_at s) (empty_at u) (first_slot s t).0 (slotCount s t)
+  lowest_same : t.0 < tenant_total → lowest_empty s t ≡ lowest_empty u t
+  unfolding lowest_empty filled
+  lowest_same h =
+      ap (λ (o : Option ℕ). cond (ltb t.0 tenant_total) (as_slot o) none)
+      (first_same (empty_at s) (empty_at u) (first_slot s t).0 (slot_count s t)
       (λ j a b. ap (λ (x : Segment). not (leb 1 x.pages)) (k.own (slot j) (own_of s t (slot j) h a b)))
-      ∙ ap₂ (firstFrom (empty_at u)) (ap (λ (p : Slot). p.0) (first-kept s u t k.records)) (count_kept s u t k.records))
+      ∙ ap₂ (first_from (empty_at u)) (ap (λ (p : Slot). p.0) (first_kept s u t k.records)) (count_kept s u t k.records))
 
-  writable-same : (l : Label) (p : Slot) → writable s t l p ≡ writable u t l p
+  writable_same : (l : Label) (p : Slot) → writable s t l p ≡ writable u t l p
   unfolding writable filled
-  writable-same l p = go (owns s t p) refl
+  writable_same l p = go (owns s t p) refl
     where
       go : (b : Bool) → owns s t p ≡ b
-          → ((owns s t p && leb 1 (pagesAt s p)) && Label.equal_of l (segmentAt s p).label) ≡ ((owns u t p && leb 1 (pagesAt u p)) && Label.equal_of l (segmentAt u p).label)
+          → ((owns s t p && leb 1 (pages_at s p)) && Label.equal_of l (segment_at s p).label) ≡ ((owns u t p && leb 1 (pages_at u p)) && Label.equal_of l (segment_at u p).label)
       go true e =
-          ap₂ (λ (b : Bool) (x : Segment). (b && leb 1 x.pages) && Label.equal_of l x.label) (owns-kept s u t p k.records) (k.own p e)
-      go false e = rw (sym (owns-kept s u t p k.records) ∙ e, e)
+          ap₂ (λ (b : Bool) (x : Segment). (b && leb 1 x.pages) && Label.equal_of l x.label) (owns_kept s u t p k.records) (k.own p e)
+      go false e = rw (sym (owns_kept s u t p k.records) ∙ e, e)
 
-  permitted-same : (l : Label) (a : Action) → LooksAtOwn s t a → (callRow a).permitted s t l ≡ (callRow a).permitted u t l
-  permitted-same l (Open x) m = refl
-  permitted-same l (Size x) m = writable-same l x.slot
-  permitted-same l (Post x) m = writable-same l x.slot
-  permitted-same l (Look x) m = visible-same s u l x.slot (k.own x.slot (m x.slot refl))
-  permitted-same l (Close x) m = writable-same l x.slot
+  permitted_same : (l : Label) (a : Action) → LooksAtOwn s t a → (call_row a).permitted s t l ≡ (call_row a).permitted u t l
+  permitted_same l (Open x) m = refl
+  permitted_same l (Size x) m = writable_same l x.slot
+  permitted_same l (Post x) m = writable_same l x.slot
+  permitted_same l (Look x) m = visible_same s u l x.slot (k.own x.slot (m x.slot refl))
+  permitted_same l (Close x) m = writable_same l x.slot
 
-  slot-for-same : t.0 < tenantTotal → (o : Option Slot) → slotFor s t o ≡ slotFor u t o
-  slot-for-same h none = lowest-same h
-  slot-for-same h (some p) = refl
+  slot_for_same : t.0 < tenant_total → (o : Option Slot) → slot_for s t o ≡ slot_for u t o
+  slot_for_same h none = lowest_same h
+  slot_for_same h (some p) = refl
 
-  fit_same : t.0 < tenantTotal → (l : Label) (a : Action) → (callRow a).permitted s t l ≡ true → (callRow a).pagesFit s t ≡ (callRow a).pagesFit u t
-  fit_same h l (Open x) e = ap₂ (λ (used limit : ℕ). leb (used + x.pages) limit) (pages-same h) ceiling-same
+  fit_same : t.0 < tenant_total → (l : Label) (a : Action) → (call_row a).permitted s t l ≡ true → (call_row a).pages_fit s t ≡ (call_row a).pages_fit u t
+  fit_same h l (Open x) e = ap₂ (λ (used limit : ℕ). leb (used + x.pages) limit) (pages_same h) ceiling_same
   fit_same h l (Size x) e =
-      ap₂ (λ (used limit : ℕ). leb (used - pagesAt s x.slot + x.pages) limit) (pages-same h) ceiling-same
-      ∙ ap (λ (y : Segment). leb (pagesOf u t - y.pages + x.pages) (ceilingAt u t)) (k.own x.slot (writable-own s t l x.slot e).0)
+      ap₂ (λ (used limit : ℕ). leb (used - pages_at s x.slot + x.pages) limit) (pages_same h) ceiling_same
+      ∙ ap (λ (y : Segment). leb (pages_of u t - y.pages + x.pages) (ceiling_at u t)) (k.own x.slot (writable_own s t l x.slot e).0)
   fit_same h l (Post x) e = refl
   fit_same h l (Look x) e = refl
   fit_same h l (Close x) e = refl
 
-  access-same : t.0 < tenantTotal → (l : Label) (a : Action) → LooksAtOwn s t a → accessOf s (call_of t l a) ≡ accessOf u (call_of t l a)
-  unfolding accessOf
-  access-same h l a m =
-      require-same _ _ 13 _ _ (permitted-same l a m)
-      (λ e. slot_same 28 _ _ _ _ (slot-for-same h (callRow a).named)
-      (λ p i. require-same _ _ 12 _ _ (fit_same h l a e)
-      (λ g. ap (λ (x : Segment). granted (effectOn p x l a)) (k.own p (target-own s t l a p h m e i)))))
+  access_same : t.0 < tenant_total → (l : Label) (a : Action) → LooksAtOwn s t a → access_of s (call_of t l a) ≡ access_of u (call_of t l a)
+  unfolding access_of
+  access_same h l a m =
+      require_same _ _ 13 _ _ (permitted_same l a m)
+      (λ e. slot_same 28 _ _ _ _ (slot_for_same h (call_row a).named)
+      (λ p i. require_same _ _ 12 _ _ (fit_same h l a e)
+      (λ g. ap (λ (x : Segment). granted (effect_on p x l a)) (k.own p (target_own s t l a p h m e i)))))
 
-  valid_same : (l : Label) (a : Action) → callValid s (call_of t l a) ≡ callValid u (call_of t l a)
-  unfolding callValid admitted
+  valid_same : (l : Label) (a : Action) → call_valid s (call_of t l a) ≡ call_valid u (call_of t l a)
+  unfolding call_valid admitted
   valid_same l a =
-      ap (λ (x : Tenant). (ltb t.0 tenantTotal && leb 1 x.ceiling) && Label.valid_of l && (callRow a).numbersValid) (tenant-same s u t k.records)
+      ap (λ (x : Tenant). (ltb t.0 tenant_total && leb 1 x.ceiling) && Label.valid_of l && (call_row a).numbers_valid) (tenant_same s u t k.records)
 
-  cleared-same : (l : Label) (a : Action) → cleared s (call_of t l a) ≡ cleared u (call_of t l a)
+  cleared_same : (l : Label) (a : Action) → cleared s (call_of t l a) ≡ cleared u (call_of t l a)
   unfolding cleared
-  cleared-same l a = ap (λ (x : Tenant). Tuple.containsOf x.clearance l) (tenant-same s u t k.records)
+  cleared_same l a = ap (λ (x : Tenant). Tuple.contains_of x.clearance l) (tenant_same s u t k.records)
 
   -- what a call does and answers depends on its caller's own slots and on what never changes
-  pub decision-same : (l : Label) (a : Action) → LooksAtOwn s t a → decisionOn s (call_of t l a) ≡ decisionOn u (call_of t l a)
-  unfolding decisionOn
-  decision-same l a m =
-      require-same _ _ 22 _ _ (k.sounds.0 ∙ sym k.sounds.1)
-      (λ e. require-same _ _ 22 _ _ (valid_same l a)
-      (λ f. require-same _ _ 1 _ _ (cleared-same l a)
-      (λ g. access-same (valid-tenant s t l a f) l a m)))
+  pub decision_same : (l : Label) (a : Action) → LooksAtOwn s t a → decision_on s (call_of t l a) ≡ decision_on u (call_of t l a)
+  unfolding decision_on
+  decision_same l a m =
+      require_same _ _ 22 _ _ (k.sounds.0 ∙ sym k.sounds.1)
+      (λ e. require_same _ _ 22 _ _ (valid_same l a)
+      (λ f. require_same _ _ 1 _ _ (cleared_same l a)
+      (λ g. access_same (valid_tenant s t l a f) l a m)))
 
 -- ---- what a call changes
 
-pub step-answer : (s : SegmentTable) (c : Call) → (step_of s c).answer ≡ answeredBy (decisionOn s c)
+pub step_answer : (s : SegmentTable) (c : Call) → (step_of s c).answer ≡ answered_by (decision_on s c)
 unfolding step_of
-step-answer s c = refl
+step_answer s c = refl
 
-pub answer-same : (t : TenantId) (s u : SegmentTable) → Alike t s u → (l : Label) (a : Action) → LooksAtOwn s t a
+pub answer_same : (t : TenantId) (s u : SegmentTable) → Alike t s u → (l : Label) (a : Action) → LooksAtOwn s t a
     → (step_of s (call_of t l a)).answer ≡ (step_of u (call_of t l a)).answer
-answer-same t s u k l a m = step-answer s (call_of t l a) ∙ ap answeredBy (decision-same t s u k l a m) ∙ sym (step-answer u (call_of t l a))
+answer_same t s u k l a m = step_answer s (call_of t l a) ∙ ap answered_by (decision_same t s u k l a m) ∙ sym (step_answer u (call_of t l a))
 
-pub next-refused : (s : SegmentTable) (c : Call) (n : ℕ) (detail : Option ℕ) → decisionOn s c ≡ refused n detail → (step_of s c).table ≡ s
+pub next_refused : (s : SegmentTable) (c : Call) (n : ℕ) (detail : Option ℕ) → decision_on s c ≡ refused n detail → (step_of s c).table ≡ s
 unfolding step_of
-next-refused s c n detail e = rw e
+next_refused s c n detail e = rw e
 
-pub next-granted : (s : SegmentTable) (c : Call) (x : CallEffect) → decisionOn s c ≡ granted x → (step_of s c).table ≡ withSegment s x.slot x.segment
+pub next_granted : (s : SegmentTable) (c : Call) (x : CallEffect) → decision_on s c ≡ granted x → (step_of s c).table ≡ with_segment s x.slot x.segment
 unfolding step_of
-next-granted s c x e = rw e
+next_granted s c x e = rw e
 
 -- by what it answers: a refused call leaves the state as it was
-pub refused-next : (s : SegmentTable) (c : Call) (n : ℕ) (detail : Option ℕ) → (step_of s c).answer ≡ refused n detail → (step_of s c).table ≡ s
+pub refused_next : (s : SegmentTable) (c : Call) (n : ℕ) (detail : Option ℕ) → (step_of s c).answer ≡ refused n detail → (step_of s c).table ≡ s
 unfolding step_of
-refused-next s c n detail e = go (decisionOn s c) e
+refused_next s c n detail e = go (decision_on s c) e
   where
-    go : (x : Answer CallEffect) → answeredBy x ≡ refused n detail → tableBy s x ≡ s
-    go (granted x) e = absurd (true≢false (ap isGranted e))
+    go : (x : Answer CallEffect) → answered_by x ≡ refused n detail → table_by s x ≡ s
+    go (granted x) e = absurd (true≢false (ap is_granted e))
     go (refused m detail) e = refl
 
 -- what a granted call has passed, and what it does
 pub record Passed (s : SegmentTable) (t : TenantId) (l : Label) (a : Action) (x : CallEffect) : Type 0 where
-  pub is-sound : sound s ≡ true
-  pub is-valid : callValid s (call_of t l a) ≡ true
-  pub is-cleared : cleared s (call_of t l a) ≡ true
-  pub is-permitted : (callRow a).permitted s t l ≡ true
-  pub slot_is : slotFor s t (callRow a).named ≡ some x.slot
-  pub fits : (callRow a).pagesFit s t ≡ true
-  pub effect_is : x ≡ effectOn x.slot (segmentAt s x.slot) l a
+  pub is_sound : sound s ≡ true
+  pub is_valid : call_valid s (call_of t l a) ≡ true
+  pub is_cleared : cleared s (call_of t l a) ≡ true
+  pub is_permitted : (call_row a).permitted s t l ≡ true
+  pub slot_is : slot_for s t (call_row a).named ≡ some x.slot
+  pub fits : (call_row a).pages_fit s t ≡ true
+  pub effect_is : x ≡ effect_on x.slot (segment_at s x.slot) l a
 
-pub granted-passed : (s : SegmentTable) (t : TenantId) (l : Label) (a : Action) (x : CallEffect) → decisionOn s (call_of t l a) ≡ granted x → Passed s t l a x
-unfolding decisionOn accessOf
-granted-passed s t l a x e =
-    let e1 = grant-passed (sound s) 22 x _ (sym e) in
-    let e2 = grant-passed (callValid s (call_of t l a)) 22 x _ e1.1 in
-    let e3 = grant-passed (cleared s (call_of t l a)) 1 x _ e2.1 in
-    let e4 = grant-passed ((callRow a).permitted s t l) 13 x _ e3.1 in
-    at (slotFor s t (callRow a).named) refl e1.0 e2.0 e3.0 e4.0 e4.1
+pub granted_passed : (s : SegmentTable) (t : TenantId) (l : Label) (a : Action) (x : CallEffect) → decision_on s (call_of t l a) ≡ granted x → Passed s t l a x
+unfolding decision_on access_of
+granted_passed s t l a x e =
+    let e1 = grant_passed (sound s) 22 x _ (sym e) in
+    let e2 = grant_passed (call_valid s (call_of t l a)) 22 x _ e1.1 in
+    let e3 = grant_passed (cleared s (call_of t l a)) 1 x _ e2.1 in
+    let e4 = grant_passed ((call_row a).permitted s t l) 13 x _ e3.1 in
+    at (slot_for s t (call_row a).named) refl e1.0 e2.0 e3.0 e4.0 e4.1
   where
-    at : (o : Option Slot) → slotFor s t (callRow a).named ≡ o → sound s ≡ true → callValid s (call_of t l a) ≡ true → cleared s (call_of t l a) ≡ true → (callRow a).permitted s t l ≡ true
-        → granted x ≡ requireSlot o 28 (λ p. require ((callRow a).pagesFit s t) 12 (granted (effectOn p (segmentAt s p) l a))) → Passed s t l a x
-    at none i h v c w e = absurd (true≢false (ap isGranted e))
+    at : (o : Option Slot) → slot_for s t (call_row a).named ≡ o → sound s ≡ true → call_valid s (call_of t l a) ≡ true → cleared s (call_of t l a) ≡ true → (call_row a).permitted s t l ≡ true
+        → granted x ≡ require_slot o 28 (λ p. require ((call_row a).pages_fit s t) 12 (granted (effect_on p (segment_at s p) l a))) → Passed s t l a x
+    at none i h v c w e = absurd (true≢false (ap is_granted e))
     at (some p) i h v c w e =
-        let f = grant-passed ((callRow a).pagesFit s t) 12 x _ e in
-        let g : x ≡ effectOn p (segmentAt s p) l a = cc in
+        let f = grant_passed ((call_row a).pages_fit s t) 12 x _ e in
+        let g : x ≡ effect_on p (segment_at s p) l a = cc in
         let q : p ≡ x.slot = ap (λ (x : CallEffect). x.slot) (sym g) in
         record {
-          is-sound = h;
-          is-valid = v;
-          is-cleared = c;
-          is-permitted = w;
+          is_sound = h;
+          is_valid = v;
+          is_cleared = c;
+          is_permitted = w;
           slot_is = i ∙ ap some q;
           fits = f.0;
-          effect_is = g ∙ ap (λ (p : Slot). effectOn p (segmentAt s p) l a) q;
+          effect_is = g ∙ ap (λ (p : Slot). effect_on p (segment_at s p) l a) q;
         }
 
 -- what a state has, and has with whatever segment in a slot, the state that a call leaves has
-step-has : (P : SegmentTable → Type 0) (s : SegmentTable) (c : Call) → P s → ((p : Slot) (x : Segment) → P (withSegment s p x)) → P (step_of s c).table
+step_has : (P : SegmentTable → Type 0) (s : SegmentTable) (c : Call) → P s → ((p : Slot) (x : Segment) → P (with_segment s p x)) → P (step_of s c).table
 unfolding step_of
-step-has P s c h f = go (decisionOn s c)
+step_has P s c h f = go (decision_on s c)
   where
-    go : (x : Answer CallEffect) → P (tableBy s x)
+    go : (x : Answer CallEffect) → P (table_by s x)
     go (granted x) = f x.slot x.segment
     go (refused n detail) = h
 
 -- pool, clearances and ceilings stay
-pub pool-kept : (s : SegmentTable) (c : Call) → (step_of s c).table.pool ≡ s.pool
-pool-kept s c = step-has (λ u. u.pool ≡ s.pool) s c refl (λ p x. refl)
+pub pool_kept : (s : SegmentTable) (c : Call) → (step_of s c).table.pool ≡ s.pool
+pool_kept s c = step_has (λ u. u.pool ≡ s.pool) s c refl (λ p x. refl)
 
-pub records-kept : (s : SegmentTable) (c : Call) → (step_of s c).table.tenants ≡ s.tenants
-records-kept s c = step-has (λ u. u.tenants ≡ s.tenants) s c refl (λ p x. refl)
+pub records_kept : (s : SegmentTable) (c : Call) → (step_of s c).table.tenants ≡ s.tenants
+records_kept s c = step_has (λ u. u.tenants ≡ s.tenants) s c refl (λ p x. refl)
 
 -- ---- looks, and calls that don't look
 
 abbrev look_of : Slot → Action
 look_of p = Look (record { slot = p })
 
-looks : (a : Action) (p : Slot) → (callRow a).lookedAt ≡ some p → a ≡ look_of p
+looks : (a : Action) (p : Slot) → (call_row a).looked_at ≡ some p → a ≡ look_of p
 looks (Open x) p e = absurd (none-ne-some p e)
 looks (Size x) p e = absurd (none-ne-some p e)
 looks (Post x) p e = absurd (none-ne-some p e)
@@ -287,99 +287,99 @@ looks (Look x) p e = let q : x.slot ≡ p = cc in ap look_of q
 looks (Close x) p e = absurd (none-ne-some p e)
 
 -- a look changes nothing
-pub look-next : (s : SegmentTable) (t : TenantId) (l : Label) (a : Action) (p : Slot) → (callRow a).lookedAt ≡ some p → (step_of s (call_of t l a)).table ≡ s
-look-next s t l a p e = ap (λ (a : Action). (step_of s (call_of t l a)).table) (looks a p e) ∙ go (decisionOn s (call_of t l (look_of p))) refl
+pub look_next : (s : SegmentTable) (t : TenantId) (l : Label) (a : Action) (p : Slot) → (call_row a).looked_at ≡ some p → (step_of s (call_of t l a)).table ≡ s
+look_next s t l a p e = ap (λ (a : Action). (step_of s (call_of t l a)).table) (looks a p e) ∙ go (decision_on s (call_of t l (look_of p))) refl
   where
-    go : (y : Answer CallEffect) → decisionOn s (call_of t l (look_of p)) ≡ y → (step_of s (call_of t l (look_of p))).table ≡ s
+    go : (y : Answer CallEffect) → decision_on s (call_of t l (look_of p)) ≡ y → (step_of s (call_of t l (look_of p))).table ≡ s
     go (granted x) f =
-        next-granted s (call_of t l (look_of p)) x f
-        ∙ ap (λ (x : CallEffect). withSegment s x.slot x.segment) (granted-passed s t l (look_of p) x f).effect_is
-        ∙ segment-same s x.slot
-    go (refused n detail) f = next-refused s (call_of t l (look_of p)) n detail f
+        next_granted s (call_of t l (look_of p)) x f
+        ∙ ap (λ (x : CallEffect). with_segment s x.slot x.segment) (granted_passed s t l (look_of p) x f).effect_is
+        ∙ segment_same s x.slot
+    go (refused n detail) f = next_refused s (call_of t l (look_of p)) n detail f
 
 -- what a look answers once it has passed the checks before: the slot, if it is visible
-pub look-access : (s : SegmentTable) (t : TenantId) (l : Label) (a : Action) (p : Slot) → (callRow a).lookedAt ≡ some p
-    → answeredBy (accessOf s (call_of t l a)) ≡ require (visible s l p) 13 (granted (shown (segmentAt s p)))
-unfolding accessOf
-look-access s t l a p e = ap (λ (a : Action). answeredBy (accessOf s (call_of t l a))) (looks a p e) ∙ go (visible s l p)
+pub look_access : (s : SegmentTable) (t : TenantId) (l : Label) (a : Action) (p : Slot) → (call_row a).looked_at ≡ some p
+    → answered_by (access_of s (call_of t l a)) ≡ require (visible s l p) 13 (granted (shown (segment_at s p)))
+unfolding access_of
+look_access s t l a p e = ap (λ (a : Action). answered_by (access_of s (call_of t l a))) (looks a p e) ∙ go (visible s l p)
   where
-    go : (b : Bool) → answeredBy (require b 13 (granted (effectOn p (segmentAt s p) l (look_of p)))) ≡ require b 13 (granted (shown (segmentAt s p)))
+    go : (b : Bool) → answered_by (require b 13 (granted (effect_on p (segment_at s p) l (look_of p)))) ≡ require b 13 (granted (shown (segment_at s p)))
     go true = refl
     go false = refl
 
 -- a call that doesn't look
-pub looks-at-own : (s : SegmentTable) (t : TenantId) (a : Action) → (callRow a).lookedAt ≡ none → LooksAtOwn s t a
-looks-at-own s t a e p f = absurd (none-ne-some p (sym e ∙ f))
+pub looks_at_own : (s : SegmentTable) (t : TenantId) (a : Action) → (call_row a).looked_at ≡ none → LooksAtOwn s t a
+looks_at_own s t a e p f = absurd (none-ne-some p (sym e ∙ f))
 
 -- what a call does: it looks, is refused, or puts what it writes into a slot of its caller's own
 pub data Effect (s : SegmentTable) (t : TenantId) (l : Label) (a : Action) : Type 0 where
-  looking : (p : Slot) → (callRow a).lookedAt ≡ some p → Effect s t l a
-  refusing : (n : ℕ) (detail : Option ℕ) → (callRow a).lookedAt ≡ none → decisionOn s (call_of t l a) ≡ refused n detail → Effect s t l a
-  writing : (x : CallEffect) → (callRow a).lookedAt ≡ none → decisionOn s (call_of t l a) ≡ granted x → Passed s t l a x → owns s t x.slot ≡ true → Effect s t l a
+  looking : (p : Slot) → (call_row a).looked_at ≡ some p → Effect s t l a
+  refusing : (n : ℕ) (detail : Option ℕ) → (call_row a).looked_at ≡ none → decision_on s (call_of t l a) ≡ refused n detail → Effect s t l a
+  writing : (x : CallEffect) → (call_row a).looked_at ≡ none → decision_on s (call_of t l a) ≡ granted x → Passed s t l a x → owns s t x.slot ≡ true → Effect s t l a
 
 pub effect : (s : SegmentTable) (t : TenantId) (l : Label) (a : Action) → Effect s t l a
-effect s t l a = go (callRow a).lookedAt refl (decisionOn s (call_of t l a)) refl
+effect s t l a = go (call_row a).looked_at refl (decision_on s (call_of t l a)) refl
   where
-    go : (o : Option Slot) → (callRow a).lookedAt ≡ o → (x : Answer CallEffect) → decisionOn s (call_of t l a) ≡ x → Effect s t l a
+    go : (o : Option Slot) → (call_row a).looked_at ≡ o → (x : Answer CallEffect) → decision_on s (call_of t l a) ≡ x → Effect s t l a
     go (some p) m x e = looking p m
     go none m (refused n detail) e = refusing n detail m e
     go none m (granted x) e =
-        let r = granted-passed s t l a x e in
-        writing x m e r (target-own s t l a x.slot (valid-tenant s t l a r.is-valid) (looks-at-own s t a m) r.is-permitted r.slot_is)
+        let r = granted_passed s t l a x e in
+        writing x m e r (target_own s t l a x.slot (valid_tenant s t l a r.is_valid) (looks_at_own s t a m) r.is_permitted r.slot_is)
 
 -- a call leaves the slots of all others as they were
-pub untouched : (s : SegmentTable) (t : TenantId) (l : Label) (a : Action) (p : Slot) → owns s t p ≡ false → segmentAt (step_of s (call_of t l a)).table p ≡ segmentAt s p
+pub untouched : (s : SegmentTable) (t : TenantId) (l : Label) (a : Action) (p : Slot) → owns s t p ≡ false → segment_at (step_of s (call_of t l a)).table p ≡ segment_at s p
 untouched s t l a p h = by (effect s t l a)
   where
-    by : Effect s t l a → segmentAt (step_of s (call_of t l a)).table p ≡ segmentAt s p
-    by (looking q e) = ap (λ (u : SegmentTable). segmentAt u p) (look-next s t l a q e)
-    by (refusing n detail m e) = ap (λ (u : SegmentTable). segmentAt u p) (next-refused s (call_of t l a) n detail e)
+    by : Effect s t l a → segment_at (step_of s (call_of t l a)).table p ≡ segment_at s p
+    by (looking q e) = ap (λ (u : SegmentTable). segment_at u p) (look_next s t l a q e)
+    by (refusing n detail m e) = ap (λ (u : SegmentTable). segment_at u p) (next_refused s (call_of t l a) n detail e)
     by (writing x m e r o) =
-        ap (λ (u : SegmentTable). segmentAt u p) (next-granted s (call_of t l a) x e)
-        ∙ segment-kept s x.slot p _ (λ i. true≢false (sym (ap (owns s t) (same-slot p x.slot i) ∙ o) ∙ h))
+        ap (λ (u : SegmentTable). segment_at u p) (next_granted s (call_of t l a) x e)
+        ∙ segment_kept s x.slot p _ (λ i. true≢false (sym (ap (owns s t) (same_slot p x.slot i) ∙ o) ∙ h))
 
 -- what a call makes of its caller's own slots depends on these and on what never changes
 module _ (t : TenantId) (s u : SegmentTable) (k : Alike t s u) where
   -- the same segment put into the same slot
-  written_same : (q : Slot) (x : Segment) (p : Slot) → q.0 < slotTotal → segmentAt s p ≡ segmentAt u p → segmentAt (withSegment s q x) p ≡ segmentAt (withSegment u q x) p
+  written_same : (q : Slot) (x : Segment) (p : Slot) → q.0 < slot_total → segment_at s p ≡ segment_at u p → segment_at (with_segment s q x) p ≡ segment_at (with_segment u q x) p
   written_same q x p h e =
-      by-slot (λ (p : Slot). segmentAt s p ≡ segmentAt u p → segmentAt (withSegment s q x) p ≡ segmentAt (withSegment u q x) p) q p
-      (λ e. segment-written s q x (sound-parts s k.sounds.0).lengths h ∙ sym (segment-written u q x (sound-parts u k.sounds.1).lengths h))
-      (λ p i e. segment-kept s q p x i ∙ e ∙ sym (segment-kept u q p x i)) e
+      by_slot (λ (p : Slot). segment_at s p ≡ segment_at u p → segment_at (with_segment s q x) p ≡ segment_at (with_segment u q x) p) q p
+      (λ e. segment_written s q x (sound_parts s k.sounds.0).lengths h ∙ sym (segment_written u q x (sound_parts u k.sounds.1).lengths h))
+      (λ p i e. segment_kept s q p x i ∙ e ∙ sym (segment_kept u q p x i)) e
 
-  pub own-next : (l : Label) (a : Action) (p : Slot) → owns s t p ≡ true → segmentAt (step_of s (call_of t l a)).table p ≡ segmentAt (step_of u (call_of t l a)).table p
-  own-next l a p h = by (effect s t l a)
+  pub own_next : (l : Label) (a : Action) (p : Slot) → owns s t p ≡ true → segment_at (step_of s (call_of t l a)).table p ≡ segment_at (step_of u (call_of t l a)).table p
+  own_next l a p h = by (effect s t l a)
     where
-      by : Effect s t l a → segmentAt (step_of s (call_of t l a)).table p ≡ segmentAt (step_of u (call_of t l a)).table p
-      by (looking q e) = rw (look-next s t l a q e, look-next u t l a q e) (k.own p h)
+      by : Effect s t l a → segment_at (step_of s (call_of t l a)).table p ≡ segment_at (step_of u (call_of t l a)).table p
+      by (looking q e) = rw (look_next s t l a q e, look_next u t l a q e) (k.own p h)
       by (refusing n detail m e) =
-          rw (next-refused s (call_of t l a) n detail e, next-refused u (call_of t l a) n detail (sym (decision-same t s u k l a (looks-at-own s t a m)) ∙ e)) (k.own p h)
+          rw (next_refused s (call_of t l a) n detail e, next_refused u (call_of t l a) n detail (sym (decision_same t s u k l a (looks_at_own s t a m)) ∙ e)) (k.own p h)
       by (writing x m e r o) =
-          rw (next-granted s (call_of t l a) x e, next-granted u (call_of t l a) x (sym (decision-same t s u k l a (looks-at-own s t a m)) ∙ e))
-          (written_same x.slot x.segment p (own-slot s t x.slot o) (k.own p h))
+          rw (next_granted s (call_of t l a) x e, next_granted u (call_of t l a) x (sym (decision_same t s u k l a (looks_at_own s t a m)) ∙ e))
+          (written_same x.slot x.segment p (own_slot s t x.slot o) (k.own p h))
 
 -- ---- what two states that are alike answer before a slot is looked into
 
 -- the checks before the slots are looked into end alike: refused with 22, refused with 1, or passed
 pub data Checked (s u : SegmentTable) (c : Call) : Type 0 where
-  both-refused : (n : ℕ) → (n ≡ 22) ⊎ (n ≡ 1) → (step_of s c).answer ≡ refused n none → (step_of u c).answer ≡ refused n none → Checked s u c
-  both-passed : (step_of s c).answer ≡ answeredBy (accessOf s c) → (step_of u c).answer ≡ answeredBy (accessOf u c) → Checked s u c
+  both_refused : (n : ℕ) → (n ≡ 22) ⊎ (n ≡ 1) → (step_of s c).answer ≡ refused n none → (step_of u c).answer ≡ refused n none → Checked s u c
+  both_passed : (step_of s c).answer ≡ answered_by (access_of s c) → (step_of u c).answer ≡ answered_by (access_of u c) → Checked s u c
 
 pub checked : (t : TenantId) (s u : SegmentTable) → Alike t s u → (l : Label) (a : Action) → Checked s u (call_of t l a)
-unfolding decisionOn step_of
+unfolding decision_on step_of
 checked t s u k l a =
-    go (callValid u (call_of t l a)) (cleared u (call_of t l a)) refl refl
+    go (call_valid u (call_of t l a)) (cleared u (call_of t l a)) refl refl
   where
-    go : (q r : Bool) → callValid u (call_of t l a) ≡ q → cleared u (call_of t l a) ≡ r → Checked s u (call_of t l a)
+    go : (q r : Bool) → call_valid u (call_of t l a) ≡ q → cleared u (call_of t l a) ≡ r → Checked s u (call_of t l a)
     go false r e f =
-        both-refused 22 (inl refl)
+        both_refused 22 (inl refl)
         (rw (k.sounds.0, valid_same t s u k l a, e) refl)
         (rw (k.sounds.1, e) refl)
     go true false e f =
-        both-refused 1 (inr refl)
-        (rw (k.sounds.0, valid_same t s u k l a, e, cleared-same t s u k l a, f) refl)
+        both_refused 1 (inr refl)
+        (rw (k.sounds.0, valid_same t s u k l a, e, cleared_same t s u k l a, f) refl)
         (rw (k.sounds.1, e, f) refl)
     go true true e f =
-        both-passed
-        (rw (k.sounds.0, valid_same t s u k l a, e, cleared-same t s u k l a, f) refl)
+        both_passed
+        (rw (k.sounds.0, valid_same t s u k l a, e, cleared_same t s u k l a, f) refl)
         (rw (k.sounds.1, e, f) refl)

@@ -5,9 +5,9 @@ use Rattle.common.specs.Answer.{Answer, granted, refused, require}
 use Rattle.label.specs.Label
 use Rattle.label.specs.declared.Label.{Label}
 use Rattle.range.specs.Tuple
-use Rattle.segment_table.specs.Replies.{Answers, Grant, Step, done, isRefusal, opened, shown}
-use Rattle.segment_table.specs.Segments.{ceilingAt, clearanceAt, pagesAt, pagesValid, segmentAt, segmentOf, slot, slotTotal, withSegment, zeroSegment}
-use Rattle.segment_table.specs.Slots.{filled, lowestEmpty, owns, pagesOf}
+use Rattle.segment_table.specs.Replies.{Answers, Grant, Step, done, is_refusal, opened, shown}
+use Rattle.segment_table.specs.Segments.{ceiling_at, clearance_at, pages_at, pages_valid, segment_at, segment_of, slot, slot_total, with_segment, zero_segment}
+use Rattle.segment_table.specs.Slots.{filled, lowest_empty, owns, pages_of}
 use Rattle.segment_table.specs.Sound.{admitted, sound}
 use Rattle.segments.specs.declared.Action.{Action}
 use Rattle.segments.specs.declared.Action.TheVariants.{Open, Size, Post, Look, Close}
@@ -23,120 +23,120 @@ abbrev pub call_of : TenantId → Label → Action → Call
 call_of t l a = record { tenant = t; label = l; action = a }
 
 -- each of the five by its numbers
-abbrev pub openCall : TenantId → Label → ℕ → Call
-openCall t l pages = call_of t l (Open (record { pages = pages }))
+abbrev pub open_call : TenantId → Label → ℕ → Call
+open_call t l pages = call_of t l (Open (record { pages = pages }))
 
-abbrev pub sizeCall : TenantId → Label → Slot → ℕ → Call
-sizeCall t l p pages = call_of t l (Size (record { slot = p; pages = pages }))
+abbrev pub size_call : TenantId → Label → Slot → ℕ → Call
+size_call t l p pages = call_of t l (Size (record { slot = p; pages = pages }))
 
-abbrev pub postCall : TenantId → Label → Slot → ℕ → Call
-postCall t l p version = call_of t l (Post (record { slot = p; version = version }))
+abbrev pub post_call : TenantId → Label → Slot → ℕ → Call
+post_call t l p version = call_of t l (Post (record { slot = p; version = version }))
 
-abbrev pub lookCall : TenantId → Label → Slot → Call
-lookCall t l p = call_of t l (Look (record { slot = p }))
+abbrev pub look_call : TenantId → Label → Slot → Call
+look_call t l p = call_of t l (Look (record { slot = p }))
 
-abbrev pub closeCall : TenantId → Label → Slot → Call
-closeCall t l p = call_of t l (Close (record { slot = p }))
+abbrev pub close_call : TenantId → Label → Slot → Call
+close_call t l p = call_of t l (Close (record { slot = p }))
 
 -- ---- the checks that look at a slot
 
 -- 22: slot above 63
-abbrev pub slotValid : Slot → Bool
-slotValid p = ltb p.0 slotTotal
+abbrev pub slot_valid : Slot → Bool
+slot_valid p = ltb p.0 slot_total
 
 -- 13: slot not its own, empty, or label not equal
 unfoldable pub writable : SegmentTable → TenantId → Label → Slot → Bool
-writable s t l p = owns s t p && filled s p && Label.equal_of l (segmentAt s p).label
+writable s t l p = owns s t p && filled s p && Label.equal_of l (segment_at s p).label
 
 -- 13: empty or not dominated
 unfoldable pub visible : SegmentTable → Label → Slot → Bool
-visible s l p = filled s p && Label.dominatesOf l (segmentAt s p).label
+visible s l p = filled s p && Label.dominates_of l (segment_at s p).label
 
 -- ---- the table
 
 -- what one call is: a row of document 01's table, with what the checks ask of it
 pub record CallRow : Type 0 where
   -- 22: whether pages are 1 to 1,048,576, the slot at most 63
-  pub numbersValid : Bool
+  pub numbers_valid : Bool
   -- the slot that the call names; an open names none
   pub named : Option Slot
   -- 13: what the subject needs of that slot
   pub permitted : SegmentTable → TenantId → Label → Bool
   -- 12: whether its pages would then be at most the ceiling
-  pub pagesFit : SegmentTable → TenantId → Bool
+  pub pages_fit : SegmentTable → TenantId → Bool
   -- what the slot holds after the call, of what it held and the subject's label
   pub written : Segment → Label → Segment
   -- what a grant answers, of the slot and what it held
   pub answered : Slot → Segment → Grant
   -- the slot that is looked at
-  pub lookedAt : Option Slot
+  pub looked_at : Option Slot
 
-abbrev pub callRow : Action → CallRow
-callRow (Open x) =
+abbrev pub call_row : Action → CallRow
+call_row (Open x) =
     record {
-      numbersValid = pagesValid x.pages;
+      numbers_valid = pages_valid x.pages;
       named = none;
       permitted = λ s t l. true;
-      pagesFit = λ s t. leb (pagesOf s t + x.pages) (ceilingAt s t);
-      written = λ held l. segmentOf l x.pages 0;
+      pages_fit = λ s t. leb (pages_of s t + x.pages) (ceiling_at s t);
+      written = λ held l. segment_of l x.pages 0;
       answered = λ p held. opened p;
-      lookedAt = none;
+      looked_at = none;
     }
-callRow (Size x) =
+call_row (Size x) =
     record {
-      numbersValid = slotValid x.slot && pagesValid x.pages;
+      numbers_valid = slot_valid x.slot && pages_valid x.pages;
       named = some x.slot;
       permitted = λ s t l. writable s t l x.slot;
-      pagesFit = λ s t. leb (pagesOf s t - pagesAt s x.slot + x.pages) (ceilingAt s t);
-      written = λ held l. segmentOf held.label x.pages held.version;
+      pages_fit = λ s t. leb (pages_of s t - pages_at s x.slot + x.pages) (ceiling_at s t);
+      written = λ held l. segment_of held.label x.pages held.version;
       answered = λ p held. done;
-      lookedAt = none;
+      looked_at = none;
     }
-callRow (Post x) =
+call_row (Post x) =
     record {
-      numbersValid = slotValid x.slot;
+      numbers_valid = slot_valid x.slot;
       named = some x.slot;
       permitted = λ s t l. writable s t l x.slot;
-      pagesFit = λ s t. true;
-      written = λ held l. segmentOf held.label held.pages x.version;
+      pages_fit = λ s t. true;
+      written = λ held l. segment_of held.label held.pages x.version;
       answered = λ p held. done;
-      lookedAt = none;
+      looked_at = none;
     }
-callRow (Look x) =
+call_row (Look x) =
     record {
-      numbersValid = slotValid x.slot;
+      numbers_valid = slot_valid x.slot;
       named = some x.slot;
       permitted = λ s t l. visible s l x.slot;
-      pagesFit = λ s t. true;
+      pages_fit = λ s t. true;
       written = λ held l. held;
       answered = λ p held. shown held;
-      lookedAt = some x.slot;
+      looked_at = some x.slot;
     }
-callRow (Close x) =
+call_row (Close x) =
     record {
-      numbersValid = slotValid x.slot;
+      numbers_valid = slot_valid x.slot;
       named = some x.slot;
       permitted = λ s t l. writable s t l x.slot;
-      pagesFit = λ s t. true;
-      written = λ held l. zeroSegment;
+      pages_fit = λ s t. true;
+      written = λ held l. zero_segment;
       answered = λ p held. done;
-      lookedAt = none;
+      looked_at = none;
     }
 
 -- ---- the calls
 
 -- 22: tenant not admitted, invalid label, numbers out of bounds
-unfoldable pub callValid : SegmentTable → Call → Bool
-callValid s c = admitted s c.tenant && Label.valid_of c.label && (callRow c.action).numbersValid
+unfoldable pub call_valid : SegmentTable → Call → Bool
+call_valid s c = admitted s c.tenant && Label.valid_of c.label && (call_row c.action).numbers_valid
 
 -- 1: label outside the tenant's clearance
 unfoldable pub cleared : SegmentTable → Call → Bool
-cleared s c = Tuple.containsOf (clearanceAt s c.tenant) c.label
+cleared s c = Tuple.contains_of (clearance_at s c.tenant) c.label
 
 -- the slot that a call is about: the one that it names, else the lowest empty one of its tenant's own
-abbrev pub slotFor : SegmentTable → TenantId → Option Slot → Option Slot
-slotFor s t none = lowestEmpty s t
-slotFor s t (some p) = some p
+abbrev pub slot_for : SegmentTable → TenantId → Option Slot → Option Slot
+slot_for s t none = lowest_empty s t
+slot_for s t (some p) = some p
 
 -- what a grant does: the slot that it is about gets the segment; and what it answers
 pub record CallEffect : Type 0 where
@@ -144,53 +144,53 @@ pub record CallEffect : Type 0 where
   pub segment : Segment
   pub grant : Grant
 
-abbrev pub effectOn : Slot → Segment → Label → Action → CallEffect
-effectOn p held l a = record { slot = p; segment = (callRow a).written held l; grant = (callRow a).answered p held }
+abbrev pub effect_on : Slot → Segment → Label → Action → CallEffect
+effect_on p held l a = record { slot = p; segment = (call_row a).written held l; grant = (call_row a).answered p held }
 
 -- a check that there is a slot: what follows of the slot, else the refusal n
-abbrev pub requireSlot : {A : Type 0} → Option Slot → ℕ → (Slot → Answer A) → Answer A
-requireSlot none n rest = refused n none
-requireSlot (some p) n rest = rest p
+abbrev pub require_slot : {A : Type 0} → Option Slot → ℕ → (Slot → Answer A) → Answer A
+require_slot none n rest = refused n none
+require_slot (some p) n rest = rest p
 
 -- the checks that look into slots, and the grant
-unfoldable pub accessOf : SegmentTable → Call → Answer CallEffect
-accessOf s c =
-    require ((callRow c.action).permitted s c.tenant c.label) 13
-    (requireSlot (slotFor s c.tenant (callRow c.action).named) 28
-    (λ p. require ((callRow c.action).pagesFit s c.tenant) 12
-    (granted (effectOn p (segmentAt s p) c.label c.action))))
+unfoldable pub access_of : SegmentTable → Call → Answer CallEffect
+access_of s c =
+    require ((call_row c.action).permitted s c.tenant c.label) 13
+    (require_slot (slot_for s c.tenant (call_row c.action).named) 28
+    (λ p. require ((call_row c.action).pages_fit s c.tenant) 12
+    (granted (effect_on p (segment_at s p) c.label c.action))))
 
 -- the checks, in document 01's order
-unfoldable pub decisionOn : SegmentTable → Call → Answer CallEffect
-decisionOn s c = require (sound s) 22 (require (callValid s c) 22 (require (cleared s c) 1 (accessOf s c)))
+unfoldable pub decision_on : SegmentTable → Call → Answer CallEffect
+decision_on s c = require (sound s) 22 (require (call_valid s c) 22 (require (cleared s c) 1 (access_of s c)))
 
-abbrev pub answeredBy : Answer CallEffect → Answer Grant
-answeredBy (granted e) = granted e.grant
-answeredBy (refused n detail) = refused n detail
+abbrev pub answered_by : Answer CallEffect → Answer Grant
+answered_by (granted e) = granted e.grant
+answered_by (refused n detail) = refused n detail
 
 -- a granted call changes the slot that it is about and nothing else; a refused one changes nothing
-abbrev pub tableBy : SegmentTable → Answer CallEffect → SegmentTable
-tableBy s (granted e) = withSegment s e.slot e.segment
-tableBy s (refused n detail) = s
+abbrev pub table_by : SegmentTable → Answer CallEffect → SegmentTable
+table_by s (granted e) = with_segment s e.slot e.segment
+table_by s (refused n detail) = s
 
 unfoldable pub step_of : SegmentTable → Call → Step
-step_of s c = record { table = tableBy s (decisionOn s c); answer = answeredBy (decisionOn s c) }
+step_of s c = record { table = table_by s (decision_on s c); answer = answered_by (decision_on s c) }
 
 -- what a change has beside an answer: the slot that a grant writes and what it gets; zeros beside a refusal
-abbrev pub changedSlot : Answer CallEffect → Slot
-changedSlot (granted e) = e.slot
-changedSlot (refused n detail) = slot 0
+abbrev pub changed_slot : Answer CallEffect → Slot
+changed_slot (granted e) = e.slot
+changed_slot (refused n detail) = slot 0
 
-abbrev pub changedSegment : Answer CallEffect → Segment
-changedSegment (granted e) = e.segment
-changedSegment (refused n detail) = zeroSegment
+abbrev pub changed_segment : Answer CallEffect → Segment
+changed_segment (granted e) = e.segment
+changed_segment (refused n detail) = zero_segment
 
 -- the code's change is what the call does, whole
 pub record Decides (s : SegmentTable) (c : Call) (x : Change) : Type 0 where
-  pub slot : x.slot ≡ changedSlot (decisionOn s c)
-  pub segment : x.segment ≡ changedSegment (decisionOn s c)
-  pub answer : Answers x.answer (answeredBy (decisionOn s c))
+  pub slot : x.slot ≡ changed_slot (decision_on s c)
+  pub segment : x.segment ≡ changed_segment (decision_on s c)
+  pub answer : Answers x.answer (answered_by (decision_on s c))
 
 -- the outcome of a change: the slot gets the segment, and a refusal leaves the state as it was
 abbrev pub applied : SegmentTable → Change → CallOutcome
-applied s c = record { table = cond (isRefusal c.answer.reply) s (withSegment s c.slot c.segment); answer = c.answer }
+applied s c = record { table = cond (is_refusal c.answer.reply) s (with_segment s c.slot c.segment); answer = c.answer }

@@ -1,14 +1,14 @@
 // The tenant calls. `step` makes document 01's checks in its order; a refusal hands the state back as it was.
 ghost use Rattle.std.specs.Prelude.{◌≡◌, true, ◌<◌};
 ghost use Rattle.common.specs.Answer as answers;
-ghost use Rattle.common.specs.Answer.{outcomeOf};
+ghost use Rattle.common.specs.Answer.{outcome_of};
 ghost use Rattle.label.specs.Label as labels;
 ghost use Rattle.segments.specs.Calls as rules;
-ghost use Rattle.segments.specs.Calls.{Decides, applied, call_of, callRow, closeCall, lookCall, openCall, postCall, sizeCall, slotFor, slotValid, step_of};
-ghost use Rattle.segments.specs.Internal.CallParts.{Started, Viewed, firstChecksOf, namedSegment, namedValid, refusedWith};
-ghost use Rattle.segment_table.specs.Slots.{slotOptionOf};
+ghost use Rattle.segments.specs.Calls.{Decides, applied, call_of, call_row, close_call, look_call, open_call, post_call, size_call, slot_for, slot_valid, step_of};
+ghost use Rattle.segments.specs.Internal.CallParts.{Started, Viewed, first_checks_of, named_segment, named_valid, refused_with};
+ghost use Rattle.segment_table.specs.Slots.{slot_option_of};
 ghost use Rattle.segment_table.specs.Replies.{Answers, Results, done};
-ghost use Rattle.segment_table.specs.Segments.{segmentAt, tenantAt, tenantTotal};
+ghost use Rattle.segment_table.specs.Segments.{segment_at, tenant_at, tenant_total};
 ghost use Rattle.segment_table.specs.Sound.{sound};
 
 use crate::tested::{contains, dominates, equal};
@@ -33,14 +33,14 @@ pub(crate) struct View {
 
 // Whether a slot is one of the state's.
 fn slot_valid(slot: Slot) -> bool
-    ensures { result ≡ slotValid slot }
+    ensures { result ≡ slot_valid slot }
 {
     slot.0 < SLOTS as u64
 }
 
 // Whether the numbers that an action carries are in bounds.
 fn numbers_valid(action: Action) -> bool
-    ensures { result ≡ (callRow action).numbersValid }
+    ensures { result ≡ (call_row action).numbers_valid }
 {
     match action {
         Action::Open(x) => state::pages_valid(x.pages),
@@ -53,7 +53,7 @@ fn numbers_valid(action: Action) -> bool
 
 // The slot that an action names. An open names none.
 fn named(action: Action) -> SlotOption
-    ensures { slotOptionOf result ≡ (callRow action).named }
+    ensures { slot_option_of result ≡ (call_row action).named }
 {
     match action {
         Action::Open(_) => SlotOption::Nothing,
@@ -66,7 +66,7 @@ fn named(action: Action) -> SlotOption
 
 // Whether a slot that is named is one of the state's.
 fn named_valid(slot: SlotOption) -> bool
-    ensures { result ≡ namedValid (slotOptionOf slot) }
+    ensures { result ≡ named_valid (slot_option_of slot) }
 {
     match slot {
         SlotOption::At(p) => slot_valid(p),
@@ -77,8 +77,8 @@ fn named_valid(slot: SlotOption) -> bool
 // What the state has for a call: its tenant's record, and what is in the slot that it names. They are taken out together and once, since each
 // function that takes something out of the state is handed a copy of it.
 fn view_of(table: SegmentTable, tenant: TenantId, slot: SlotOption) -> View
-    requires { (tenant.0 < tenantTotal) × (namedValid (slotOptionOf slot) ≡ true) }
-    ensures { (result.tenant ≡ tenantAt table tenant) × (result.segment ≡ namedSegment table (slotOptionOf slot)) }
+    requires { (tenant.0 < tenant_total) × (named_valid (slot_option_of slot) ≡ true) }
+    ensures { (result.tenant ≡ tenant_at table tenant) × (result.segment ≡ named_segment table (slot_option_of slot)) }
 {
     let record = table.tenants[tenant.0 as usize];
     match slot {
@@ -99,7 +99,7 @@ fn view_of(table: SegmentTable, tenant: TenantId, slot: SlotOption) -> View
 // Whether the tenant is admitted, the label valid, and the numbers are in bounds.
 fn valid(table: SegmentTable, call: Call, v: View) -> bool
     requires { Viewed table call v }
-    ensures { result ≡ rules.callValid table call }
+    ensures { result ≡ rules.call_valid table call }
 {
     let action = call.action;
     (1 <= v.tenant.ceiling) & label::valid(call.label) & numbers_valid(action)
@@ -117,7 +117,7 @@ fn cleared(table: SegmentTable, call: Call, v: View) -> bool
 fn start(table: SegmentTable, call: Call, v: View) -> answer::Outcome
     requires table_value { sound table ≡ true }
     requires viewed { Viewed table call v }
-    ensures { outcomeOf result done ≡ firstChecksOf table call }
+    ensures { outcome_of result done ≡ first_checks_of table call }
 {
     if !valid(table, call, v) {
         return answer::Outcome::Refused(Errno::Invalid);
@@ -132,7 +132,7 @@ fn start(table: SegmentTable, call: Call, v: View) -> answer::Outcome
 
 // Whether the slot is the tenant's own, filled, and its label the subject's.
 fn writable(table: SegmentTable, tenant: TenantId, label: Label, slot: Slot, x: Segment) -> bool
-    requires { x ≡ segmentAt table slot }
+    requires { x ≡ segment_at table slot }
     ensures { result ≡ rules.writable table tenant label slot }
 {
     slots::owns(table, tenant, slot) & (1 <= x.pages) & equal(label, x.label)
@@ -140,7 +140,7 @@ fn writable(table: SegmentTable, tenant: TenantId, label: Label, slot: Slot, x: 
 
 // Whether the slot is filled and the subject's label dominates the label there.
 fn visible(table: SegmentTable, label: Label, slot: Slot, x: Segment) -> bool
-    requires { x ≡ segmentAt table slot }
+    requires { x ≡ segment_at table slot }
     ensures { result ≡ rules.visible table label slot }
 {
     (1 <= x.pages) & dominates(label, x.label)
@@ -151,7 +151,7 @@ fn visible(table: SegmentTable, label: Label, slot: Slot, x: Segment) -> bool
 // Whether the subject may do that to the slot that it names. An open names none.
 fn permitted(table: SegmentTable, call: Call, v: View) -> bool
     requires { Viewed table call v }
-    ensures { result ≡ (callRow call.action).permitted table call.tenant call.label }
+    ensures { result ≡ (call_row call.action).permitted table call.tenant call.label }
 {
     let tenant = call.tenant;
     let label = call.label;
@@ -168,8 +168,8 @@ fn permitted(table: SegmentTable, call: Call, v: View) -> bool
 
 // The slot that a call is about, if there is one: the one that it names, else the tenant's lowest empty one.
 fn slot_for(table: SegmentTable, tenant: TenantId, slot: SlotOption) -> SlotOption
-    requires { tenant.0 < tenantTotal }
-    ensures { slotOptionOf result ≡ slotFor table tenant (slotOptionOf slot) }
+    requires { tenant.0 < tenant_total }
+    ensures { slot_option_of result ≡ slot_for table tenant (slot_option_of slot) }
 {
     match slot {
         SlotOption::At(p) => SlotOption::At(p),
@@ -181,8 +181,8 @@ fn slot_for(table: SegmentTable, tenant: TenantId, slot: SlotOption) -> SlotOpti
 fn pages_fit(table: SegmentTable, call: Call, v: View) -> bool
     requires started { Started table call }
     requires viewed { Viewed table call v }
-    requires label_value { (callRow call.action).permitted table call.tenant call.label ≡ true }
-    ensures { result ≡ (callRow call.action).pagesFit table call.tenant }
+    requires label_value { (call_row call.action).permitted table call.tenant call.label ≡ true }
+    ensures { result ≡ (call_row call.action).pages_fit table call.tenant }
 {
     let tenant = call.tenant;
     let action = call.action;
@@ -198,7 +198,7 @@ fn pages_fit(table: SegmentTable, call: Call, v: View) -> bool
 
 // What the slot holds after the call.
 fn written(segment: Segment, label: Label, action: Action) -> Segment
-    ensures { result ≡ (callRow action).written segment label }
+    ensures { result ≡ (call_row action).written segment label }
 {
     let kept = segment.label;
     match action {
@@ -224,7 +224,7 @@ fn written(segment: Segment, label: Label, action: Action) -> Segment
 
 // What a granted call answers: the slot of an open, what a look found, or that it is done.
 fn granted(slot: Slot, segment: Segment, action: Action) -> CallAnswer
-    ensures { Answers result (answers.granted ((callRow action).answered slot segment)) }
+    ensures { Answers result (answers.granted ((call_row action).answered slot segment)) }
 {
     let shown = segment.label;
     match action {
@@ -244,7 +244,7 @@ fn granted(slot: Slot, segment: Segment, action: Action) -> CallAnswer
 
 // A refused call changes nothing.
 fn refused(e: Errno) -> Change
-    ensures { result ≡ refusedWith e }
+    ensures { result ≡ refused_with e }
 {
     Change {
         slot: Slot(0),
@@ -358,7 +358,7 @@ fn act(table: SegmentTable, tenant: TenantId, label: Label, action: Action) -> C
 
 // The tenant's lowest empty slot gets the label and the pages; the slot is answered.
 pub fn open(table: SegmentTable, tenant: TenantId, label: Label, pages: u64) -> CallOutcome
-    ensures { Results result (step_of table (openCall tenant label pages)) }
+    ensures { Results result (step_of table (open_call tenant label pages)) }
 {
     let action = Action::Open(OpenCall { pages });
     act(table, tenant, label, action)
@@ -372,7 +372,7 @@ pub fn size(
     slot: Slot,
     pages: u64,
 ) -> CallOutcome
-    ensures { Results result (step_of table (sizeCall tenant label slot pages)) }
+    ensures { Results result (step_of table (size_call tenant label slot pages)) }
 {
     let action = Action::Size(SizeCall { slot, pages });
     act(table, tenant, label, action)
@@ -386,7 +386,7 @@ pub fn post(
     slot: Slot,
     version: u64,
 ) -> CallOutcome
-    ensures { Results result (step_of table (postCall tenant label slot version)) }
+    ensures { Results result (step_of table (post_call tenant label slot version)) }
 {
     let action = Action::Post(PostCall { slot, version });
     act(table, tenant, label, action)
@@ -394,7 +394,7 @@ pub fn post(
 
 // What the slot holds is shown: its label, pages and version.
 pub fn look(table: SegmentTable, tenant: TenantId, label: Label, slot: Slot) -> CallOutcome
-    ensures { Results result (step_of table (lookCall tenant label slot)) }
+    ensures { Results result (step_of table (look_call tenant label slot)) }
 {
     let action = Action::Look(LookCall { slot });
     act(table, tenant, label, action)
@@ -402,7 +402,7 @@ pub fn look(table: SegmentTable, tenant: TenantId, label: Label, slot: Slot) -> 
 
 // The slot is zeros, and its pages are free.
 pub fn close(table: SegmentTable, tenant: TenantId, label: Label, slot: Slot) -> CallOutcome
-    ensures { Results result (step_of table (closeCall tenant label slot)) }
+    ensures { Results result (step_of table (close_call tenant label slot)) }
 {
     let action = Action::Close(CloseCall { slot });
     act(table, tenant, label, action)

@@ -6,46 +6,46 @@ use native.Mathlib.Omega.{arith}
 use lib.ListN.{length, length-append}
 use Rattle.octets.specs.Bytes.{ascii}
 use Rattle.console.specs.Format.{field}
-use Rattle.label.specs.Words.{foundCategoryOf, membersBelow, members_of, nextCategoryFrom}
+use Rattle.label.specs.Words.{found_category_of, members_below, members_of, next_category_from}
 use Rattle.label.specs.declared.words.FoundCategory.{FoundCategory}
 use Rattle.label.specs.declared.words.FoundCategory.TheVariants.{At, Nothing}
-use Rattle.label.proofs.ListingLaws.{all_listed, last-listed, next-listed, next-within}
-use Rattle.segments_cmd.specs.Show.{categoryNumbersText, listText}
+use Rattle.label.proofs.ListingLaws.{all_listed, last_listed, next_listed, next_within}
+use Rattle.segments_cmd.specs.Show.{category_numbers_text, list_text}
 
 -- one category more
-list-more : (cs : List ℕ) (c : ℕ) → listText (cs ++ (c ∷ [])) ≡ listText cs ++ field (ascii " ") c
-unfolding listText
-list-more [] c = append-nil (field (ascii " ") c)
-list-more (x ∷ cs) c = ap (λ (l : List ℕ). field (ascii " ") x ++ l) (list-more cs c) ∙ sym (append_assoc (field (ascii " ") x) (listText cs) (field (ascii " ") c))
+list_more : (cs : List ℕ) (c : ℕ) → list_text (cs ++ (c ∷ [])) ≡ list_text cs ++ field (ascii " ") c
+unfolding list_text
+list_more [] c = append-nil (field (ascii " ") c)
+list_more (x ∷ cs) c = ap (λ (l : List ℕ). field (ascii " ") x ++ l) (list_more cs c) ∙ sym (append_assoc (field (ascii " ") x) (list_text cs) (field (ascii " ") c))
 
 -- what the search from a number on has found
-module _ (ws : List ℕ) (from : ℕ) (f : FoundCategory) (found : foundCategoryOf f ≡ nextCategoryFrom ws from) where
+module _ (ws : List ℕ) (from : ℕ) (f : FoundCategory) (found : found_category_of f ≡ next_category_from ws from) where
   -- a category at or above the number, which the words have room for, and which is listed next
   module _ (c : ℕ) (at : f ≡ At c) where
-    pub next-above : from ≤ c
-    next-above = (next-within ws from c (sym found ∙ ap foundCategoryOf at)).0
+    pub next_above : from ≤ c
+    next_above = (next_within ws from c (sym found ∙ ap found_category_of at)).0
 
-    pub next-below : c < length ws * 64
-    next-below = (next-within ws from c (sym found ∙ ap foundCategoryOf at)).1
+    pub next_below : c < length ws * 64
+    next_below = (next_within ws from c (sym found ∙ ap found_category_of at)).1
 
-    pub list-next : listText (membersBelow ws (c + 1)) ≡ listText (membersBelow ws from) ++ field (ascii " ") c
-    list-next = ap listText (next-listed ws from c (sym found ∙ ap foundCategoryOf at)) ∙ list-more (membersBelow ws from) c
+    pub list_next : list_text (members_below ws (c + 1)) ≡ list_text (members_below ws from) ++ field (ascii " ") c
+    list_next = ap list_text (next_listed ws from c (sym found ∙ ap found_category_of at)) ∙ list_more (members_below ws from) c
 
   -- where there is none, all are listed
-  pub list-last : f ≡ Nothing → from ≤ length ws * 64 → listText (membersBelow ws from) ≡ listText (members_of ws)
-  list-last e h = ap listText (sym (last-listed ws from (length ws * 64) (sym found ∙ ap foundCategoryOf e) h) ∙ all_listed ws (length ws * 64) refl)
+  pub list_last : f ≡ Nothing → from ≤ length ws * 64 → list_text (members_below ws from) ≡ list_text (members_of ws)
+  list_last e h = ap list_text (sym (last_listed ws from (length ws * 64) (sym found ∙ ap found_category_of e) h) ∙ all_listed ws (length ws * 64) refl)
 
-pub list-end : (ws : List ℕ) (from : ℕ) → from ≡ length ws * 64 → listText (membersBelow ws from) ≡ listText (members_of ws)
-list-end ws from e = ap listText (all_listed ws from e)
+pub list_end : (ws : List ℕ) (from : ℕ) → from ≡ length ws * 64 → list_text (members_below ws from) ≡ list_text (members_of ws)
+list_end ws from e = ap list_text (all_listed ws from e)
 
 -- ---- `-` where there are none
 
-pub none-listed : (cs : List ℕ) → length (listText cs) ≡ 0 → (categoryNumbersText cs ≡ ascii " -") × (listText cs ≡ [])
-unfolding listText categoryNumbersText
-none-listed [] e = (refl, refl)
-none-listed (c ∷ cs) e = absurd (omega (arith, simp length-append at e))
+pub none_listed : (cs : List ℕ) → length (list_text cs) ≡ 0 → (category_numbers_text cs ≡ ascii " -") × (list_text cs ≡ [])
+unfolding list_text category_numbers_text
+none_listed [] e = (refl, refl)
+none_listed (c ∷ cs) e = absurd (omega (arith, simp length-append at e))
 
-pub some-listed : (cs : List ℕ) → (length (listText cs) ≡ 0 → ⊥) → categoryNumbersText cs ≡ listText cs
-unfolding listText categoryNumbersText
-some-listed [] e = absurd (e refl)
-some-listed (c ∷ cs) e = refl
+pub some_listed : (cs : List ℕ) → (length (list_text cs) ≡ 0 → ⊥) → category_numbers_text cs ≡ list_text cs
+unfolding list_text category_numbers_text
+some_listed [] e = absurd (e refl)
+some_listed (c ∷ cs) e = refl

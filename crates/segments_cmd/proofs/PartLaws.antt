@@ -12,29 +12,29 @@ use borrow.Author.Tests.{le-leb}
 use borrow.Rule.Slice.PartMut.{mid_of, put_mid, put_same}
 use Rattle.octets.specs.Internal.Put.{PutWithin}
 use Rattle.octets.specs.Bytes.{put_at}
-use Rattle.octets.proofs.ByteLaws.{put-nil}
-use Rattle.hexline.specs.Line.{labelLineOf}
-use Rattle.hexline.proofs.KindLaws.{label-line-length}
+use Rattle.octets.proofs.ByteLaws.{put_nil}
+use Rattle.hexline.specs.Line.{label_line_of}
+use Rattle.hexline.proofs.KindLaws.{label_line_length}
 use Rattle.label.specs.declared.Label.{Label}
-use Rattle.common.specs.Answer.{Answer, granted, refused, valueOr}
-use Rattle.common.specs.Buffer.{WrittenTo, bufferOf, length_of, overlay, written_of}
+use Rattle.common.specs.Answer.{Answer, granted, refused, value_or}
+use Rattle.common.specs.Buffer.{WrittenTo, buffer_of, length_of, overlay, written_of}
 use Rattle.common.specs.declared.answer.Written.{Written}
 use Rattle.common.specs.declared.answer.Written.TheVariants.{Length, Refused}
 use Rattle.common.specs.declared.errno.Errno.{Errno}
-use Rattle.segments_cmd.specs.Answer.{lineText}
-use Rattle.segments_cmd.specs.Internal.Sizes.{hexlineBytes}
+use Rattle.segments_cmd.specs.Answer.{line_text}
+use Rattle.segments_cmd.specs.Internal.Sizes.{hexline_bytes}
 
 -- the line of a label is short
-line-bytes : (l : Label) → length (lineText l) ≤ hexlineBytes
-line-bytes l = pick (labelLineOf l) refl
+line_bytes_lem : (l : Label) → length (line_text l) ≤ hexline_bytes
+line_bytes_lem l = pick (label_line_of l) refl
   where
-    pick : (x : Answer (List ℕ)) → labelLineOf l ≡ x → length (valueOr [] x) ≤ hexlineBytes
-    pick (granted line) e = let h = label-line-length l line e in omega arith
+    pick : (x : Answer (List ℕ)) → label_line_of l ≡ x → length (value_or [] x) ≤ hexline_bytes
+    pick (granted line) e = let h = label_line_length l line e in omega arith
     pick (refused n detail) e = omega arith
 
 module _ (out : List ℕ) (at : ℕ) (within : at ≤ length out) where
-  part-is : mid_of at (length out - at) out ≡ drop at out
-  part-is = let e = length-drop at out in take_all (length out - at) (drop at out) (omega arith)
+  part_is : mid_of at (length out - at) out ≡ drop at out
+  part_is = let e = length-drop at out in take_all (length out - at) (drop at out) (omega arith)
 
   past_is : drop (length out - at) (drop at out) ≡ []
   past_is = let e = length-drop at out in rw (← e) (drop-length (drop at out))
@@ -45,38 +45,38 @@ module _ (out : List ℕ) (at : ℕ) (within : at ≤ length out) where
 
   fits_in : (line : List ℕ) → at + length line ≤ length out → leb (length line) (length (mid_of at (length out - at) out)) ≡ true
   fits_in line h =
-      let r : length (mid_of at (length out - at) out) ≡ length out - at = rw part-is (length-drop at out) in
+      let r : length (mid_of at (length out - at) out) ≡ length out - at = rw part_is (length-drop at out) in
       le-leb (length line) (length (mid_of at (length out - at) out)) (omega arith)
 
   -- a line that fits is written, and no line is not
-  part_length : (x : Answer (List ℕ)) → at + length (valueOr [] x) ≤ length out → valueOr 0 (length_of x (length (mid_of at (length out - at) out))) ≡ length (valueOr [] x)
+  part_length : (x : Answer (List ℕ)) → at + length (value_or [] x) ≤ length out → value_or 0 (length_of x (length (mid_of at (length out - at) out))) ≡ length (value_or [] x)
   unfolding length_of
   part_length (granted line) h = rw (fits_in line h)
   part_length (refused n detail) h = refl
 
-  part-put : (x : Answer (List ℕ)) → at + length (valueOr [] x) ≤ length out → put_mid at (length out - at) out (bufferOf x (mid_of at (length out - at) out)) ≡ put_at out at (valueOr [] x)
-  unfolding bufferOf
-  part-put (granted line) h = rw (fits_in line h, part-is) (overlaid line)
-  part-put (refused n detail) h = put_same at (length out - at) out ∙ sym (put-nil out at)
+  part_put : (x : Answer (List ℕ)) → at + length (value_or [] x) ≤ length out → put_mid at (length out - at) out (buffer_of x (mid_of at (length out - at) out)) ≡ put_at out at (value_or [] x)
+  unfolding buffer_of
+  part_put (granted line) h = rw (fits_in line h, part_is) (overlaid line)
+  part_put (refused n detail) h = put_same at (length out - at) out ∙ sym (put_nil out at)
 
-module _ (out : List ℕ) (at : ℕ) (l : Label) (room : at + hexlineBytes ≤ length out) (w : Written) (ys : List ℕ) (e : WrittenTo w (labelLineOf l) (mid_of at (length out - at) out) ys) where
-  written-length : valueOr 0 (written_of w) ≡ length (lineText l)
-  written-length = let b = line-bytes l in ap (valueOr 0) e.answer ∙ part_length out at (omega arith) (labelLineOf l) (omega arith)
+module _ (out : List ℕ) (at : ℕ) (l : Label) (room : at + hexline_bytes ≤ length out) (w : Written) (ys : List ℕ) (e : WrittenTo w (label_line_of l) (mid_of at (length out - at) out) ys) where
+  written_length : value_or 0 (written_of w) ≡ length (line_text l)
+  written_length = let b = line_bytes_lem l in ap (value_or 0) e.answer ∙ part_length out at (omega arith) (label_line_of l) (omega arith)
 
-  pub written-bytes : valueOr 0 (written_of w) ≤ hexlineBytes
-  written-bytes = rw written-length (line-bytes l)
+  pub written_bytes : value_or 0 (written_of w) ≤ hexline_bytes
+  written_bytes = rw written_length (line_bytes_lem l)
 
-  line-put : (n : ℕ) → valueOr 0 (written_of w) ≡ n → PutWithin (at + hexlineBytes) out at (lineText l) (at + n) (put_mid at (length out - at) out ys)
-  line-put n h =
-      let b = line-bytes l in
-      let k = written-length in
+  line_put : (n : ℕ) → value_or 0 (written_of w) ≡ n → PutWithin (at + hexline_bytes) out at (line_text l) (at + n) (put_mid at (length out - at) out ys)
+  line_put n h =
+      let b = line_bytes_lem l in
+      let k = written_length in
       record {
-        put = record { past = omega arith; written = ap (put_mid at (length out - at) out) e.buffer ∙ part-put out at (omega arith) (labelLineOf l) (omega arith) };
+        put = record { past = omega arith; written = ap (put_mid at (length out - at) out) e.buffer ∙ part_put out at (omega arith) (label_line_of l) (omega arith) };
         within = omega arith;
       }
 
-  pub line-written : (n : ℕ) → w ≡ Length n → PutWithin (at + hexlineBytes) out at (lineText l) (at + n) (put_mid at (length out - at) out ys)
-  line-written n h = line-put n (rw h)
+  pub line_written : (n : ℕ) → w ≡ Length n → PutWithin (at + hexline_bytes) out at (line_text l) (at + n) (put_mid at (length out - at) out ys)
+  line_written n h = line_put n (rw h)
 
-  pub line-left : (q : Errno) → w ≡ Refused q → PutWithin (at + hexlineBytes) out at (lineText l) at (put_mid at (length out - at) out ys)
-  line-left q h = rw (add-zero) at (line-put 0 (rw h))
+  pub line_left : (q : Errno) → w ≡ Refused q → PutWithin (at + hexline_bytes) out at (line_text l) at (put_mid at (length out - at) out ys)
+  line_left q h = rw (add-zero) at (line_put 0 (rw h))

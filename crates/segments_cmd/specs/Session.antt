@@ -1,16 +1,16 @@
 -- What a request does to the state, and what a line does to a session. A bad line comes as no bytes.
 use Rattle.std.specs.Prelude.{cond, List, ℕ}
 use Rattle.std.proofs.Math.Option.{none}
-use Rattle.console.specs.Command.{skippedOf}
-use Rattle.hexline.specs.Line.{readLabelLine, readTupleLine}
+use Rattle.console.specs.Command.{skipped_of}
+use Rattle.hexline.specs.Line.{read_label_line, read_tuple_line}
 use Rattle.common.specs.Answer.{Answer, granted, refused}
 use Rattle.segments.specs.Calls.{call_of, step_of}
-use Rattle.segment_table.specs.Operator.{admitOf, makeOf, setCeilingOf}
+use Rattle.segment_table.specs.Operator.{admit_of, make_of, set_ceiling_of}
 use Rattle.segment_table.specs.Replies.{Step, leaving}
 use Rattle.segments.specs.declared.Action.{Action}
 use Rattle.segment_table.specs.declared.SegmentTable.{SegmentTable}
 use Rattle.segment_table.specs.declared.TenantId.{TenantId}
-use Rattle.segments_cmd.specs.Request.{requestOfLine, takesOperand}
+use Rattle.segments_cmd.specs.Request.{request_of_line, takes_operand}
 use Rattle.segments_cmd.specs.declared.request.Request.{Request}
 use Rattle.segments_cmd.specs.declared.request.Request.TheVariants.{Invalid, Make, Admit, SetCeiling, Call, Show}
 use Rattle.segments_cmd.specs.declared.session.Session.{Session}
@@ -18,49 +18,49 @@ use Rattle.segments_cmd.specs.declared.session.Session.{Session}
 -- ---- requests
 
 -- no call is made
-abbrev pub invalidStep : SegmentTable → Step
-invalidStep s = leaving s s (refused 22 none)
+abbrev pub invalid_step : SegmentTable → Step
+invalid_step s = leaving s s (refused 22 none)
 
 -- a call on what the operand line holds; where that is refused no call is made
 abbrev pub on_operand : {A : Type 0} → SegmentTable → Answer A → (A → Step) → Step
 on_operand s (granted x) call = call x
-on_operand s (refused n detail) call = invalidStep s
+on_operand s (refused n detail) call = invalid_step s
 
 -- a granted make leaves its new state, a refused one the old one
-abbrev pub madeIn : SegmentTable → Step → Step
-madeIn s x = leaving s x.table x.answer
+abbrev pub made_in : SegmentTable → Step → Step
+made_in s x = leaving s x.table x.answer
 
-abbrev pub admitOn : SegmentTable → TenantId → ℕ → List ℕ → Step
-admitOn s t ceiling line = on_operand s (readTupleLine line) (admitOf s t ceiling)
+abbrev pub admit_on : SegmentTable → TenantId → ℕ → List ℕ → Step
+admit_on s t ceiling line = on_operand s (read_tuple_line line) (admit_of s t ceiling)
 
-abbrev pub callOn : SegmentTable → TenantId → Action → List ℕ → Step
-callOn s t a line = on_operand s (readLabelLine line) (λ l. step_of s (call_of t l a))
+abbrev pub call_on : SegmentTable → TenantId → Action → List ℕ → Step
+call_on s t a line = on_operand s (read_label_line line) (λ l. step_of s (call_of t l a))
 
 -- the state after a request with its operand line
-abbrev pub tableAfter : SegmentTable → Request → List ℕ → SegmentTable
-tableAfter s Invalid line = s
-tableAfter s (Make pool) line = (madeIn s (makeOf pool)).table
-tableAfter s (Admit t ceiling) line = (admitOn s t ceiling line).table
-tableAfter s (SetCeiling t ceiling) line = (setCeilingOf s t ceiling).table
-tableAfter s (Call t a) line = (callOn s t a line).table
-tableAfter s Show line = s
+abbrev pub table_after : SegmentTable → Request → List ℕ → SegmentTable
+table_after s Invalid line = s
+table_after s (Make pool) line = (made_in s (make_of pool)).table
+table_after s (Admit t ceiling) line = (admit_on s t ceiling line).table
+table_after s (SetCeiling t ceiling) line = (set_ceiling_of s t ceiling).table
+table_after s (Call t a) line = (call_on s t a line).table
+table_after s Show line = s
 
 -- ---- sessions
 
-abbrev pub sessionOf : SegmentTable → Request → Session
-sessionOf s r = record { table = s; request = r }
+abbrev pub session_of : SegmentTable → Request → Session
+session_of s r = record { table = s; request = r }
 
 -- no operand line is due
 abbrev pub between : SegmentTable → Session
-between s = sessionOf s Invalid
+between s = session_of s Invalid
 
-abbrev pub afterRequest : SegmentTable → Request → List ℕ → Session
-afterRequest s r line = cond (takesOperand r) (sessionOf s r) (between (tableAfter s r line))
+abbrev pub after_request : SegmentTable → Request → List ℕ → Session
+after_request s r line = cond (takes_operand r) (session_of s r) (between (table_after s r line))
 
 -- a line where a command line is due
-abbrev pub afterCommand : SegmentTable → List ℕ → Session
-afterCommand s line = cond (skippedOf line) (between s) (afterRequest s (requestOfLine line) line)
+abbrev pub after_command : SegmentTable → List ℕ → Session
+after_command s line = cond (skipped_of line) (between s) (after_request s (request_of_line line) line)
 
 -- any line: the operand line of the request that waits for one, else a command line
-abbrev pub afterLine : Session → List ℕ → Session
-afterLine x line = cond (takesOperand x.request) (between (tableAfter x.table x.request line)) (afterCommand x.table line)
+abbrev pub after_line : Session → List ℕ → Session
+after_line x line = cond (takes_operand x.request) (between (table_after x.table x.request line)) (after_command x.table line)

@@ -2,10 +2,10 @@
 ghost use Rattle.std.specs.Prelude.{◌+◌, ◌≤◌, length};
 ghost use Rattle.octets.specs.Bytes.{Appended};
 ghost use Rattle.console.specs.Format.{field};
-ghost use Rattle.console.specs.Internal.Numbers.{numberBytes};
+ghost use Rattle.console.specs.Internal.Numbers.{number_bytes};
 ghost use Rattle.octets.specs.Internal.Put.{PutWithin};
-ghost use Rattle.segments_cmd.specs.Answer.{lineText, placeText, replyText, shownNumbers, shownText};
-ghost use Rattle.segments_cmd.specs.Internal.Sizes.{answerBytes, hexlineBytes, numbersBytes};
+ghost use Rattle.segments_cmd.specs.Answer.{line_text, place_text, reply_text, shown_numbers, shown_text};
+ghost use Rattle.segments_cmd.specs.Internal.Sizes.{answer_bytes, hexline_bytes, numbers_bytes};
 
 use common::answer::Written;
 use console::format;
@@ -18,15 +18,15 @@ const ANSWER_BYTES: usize = 512;
 
 // Puts a word and a number where there is room for them.
 pub(crate) fn put_field(out: &mut [u8], at: usize, word: &[u8], n: u64) -> usize
-    requires { at + length word.now + numberBytes ≤ length out.old }
-    ensures { PutWithin (at + length word.now + numberBytes) out.old at (field word.now n) result out.new }
+    requires { at + length word.now + number_bytes ≤ length out.old }
+    ensures { PutWithin (at + length word.now + number_bytes) out.old at (field word.now n) result out.new }
 {
     format::append_field(out, at, word, n)
 }
 
 fn put_place(out: &mut [u8], slot: Slot) -> usize
-    requires { answerBytes ≤ length out.old }
-    ensures { PutWithin answerBytes out.old 0 (placeText slot) result out.new }
+    requires { answer_bytes ≤ length out.old }
+    ensures { PutWithin answer_bytes out.old 0 (place_text slot) result out.new }
 {
     let at = put_field(out, 0, b"place ", slot.0);
     octets::append(out, at, b"\n")
@@ -34,8 +34,8 @@ fn put_place(out: &mut [u8], slot: Slot) -> usize
 
 // The numbers that a look shows.
 fn put_numbers(out: &mut [u8], x: Shown) -> usize
-    requires { answerBytes ≤ length out.old }
-    ensures { PutWithin numbersBytes out.old 0 (shownNumbers x) result out.new }
+    requires { answer_bytes ≤ length out.old }
+    ensures { PutWithin numbers_bytes out.old 0 (shown_numbers x) result out.new }
 {
     let pages = put_field(out, 0, b"shown ", x.pages);
     let version = put_field(out, pages, b" ", x.version);
@@ -44,8 +44,8 @@ fn put_numbers(out: &mut [u8], x: Shown) -> usize
 
 // Appends the hex line of a label. A label that has none, which no sound state holds, adds nothing.
 fn put_label(out: &mut [u8], at: usize, label: Label) -> usize
-    requires { at + hexlineBytes ≤ length out.old }
-    ensures { PutWithin (at + hexlineBytes) out.old at (lineText label) result out.new }
+    requires { at + hexline_bytes ≤ length out.old }
+    ensures { PutWithin (at + hexline_bytes) out.old at (line_text label) result out.new }
 {
     let written = hexline::write_label(label, &mut out[at..]);
     match written {
@@ -55,8 +55,8 @@ fn put_label(out: &mut [u8], at: usize, label: Label) -> usize
 }
 
 fn put_shown(out: &mut [u8], x: Shown, label: Label) -> usize
-    requires { answerBytes ≤ length out.old }
-    ensures { PutWithin answerBytes out.old 0 (shownText x label) result out.new }
+    requires { answer_bytes ≤ length out.old }
+    ensures { PutWithin answer_bytes out.old 0 (shown_text x label) result out.new }
 {
     let at = put_numbers(out, x);
     put_label(out, at, label)
@@ -64,8 +64,8 @@ fn put_shown(out: &mut [u8], x: Shown, label: Label) -> usize
 
 // Puts a reply at the front of the buffer. Every grant is shown to fit; a refusal's line is written whole or not at all.
 fn put_reply(out: &mut [u8], reply: Reply, label: Label) -> usize
-    requires { answerBytes ≤ length out.old }
-    ensures { Appended out.old 0 (replyText reply label) result out.new }
+    requires { answer_bytes ≤ length out.old }
+    ensures { Appended out.old 0 (reply_text reply label) result out.new }
 {
     match reply {
         Reply::Done => octets::append(out, 0, b"ok\n"),

@@ -1,7 +1,7 @@
 // The call that a request makes: its operand line is read, and where it is bad no call is made.
-ghost use Rattle.segment_table.specs.Operator.{makeOf};
+ghost use Rattle.segment_table.specs.Operator.{make_of};
 ghost use Rattle.segment_table.specs.Replies.{Results};
-ghost use Rattle.segments_cmd.specs.Session.{admitOn, callOn, invalidStep, madeIn};
+ghost use Rattle.segments_cmd.specs.Session.{admit_on, call_on, invalid_step, made_in};
 
 use common::answer::granted;
 use common::errno::Errno;
@@ -10,7 +10,7 @@ use segments::{Action, Call, calls};
 
 // The outcome of a request that makes no call.
 pub(crate) fn refused(table: SegmentTable) -> CallOutcome
-    ensures { Results result (invalidStep table) }
+    ensures { Results result (invalid_step table) }
 {
     CallOutcome {
         table,
@@ -23,7 +23,7 @@ pub(crate) fn refused(table: SegmentTable) -> CallOutcome
 
 // A granted make leaves its new state in the place of the old one. A refused one leaves the old one, and not the zeros that it hands back.
 pub(crate) fn make(table: SegmentTable, pool: u64) -> CallOutcome
-    ensures { Results result (madeIn table (makeOf pool)) }
+    ensures { Results result (made_in table (make_of pool)) }
 {
     let made = operator::make(pool);
     let answer = made.answer;
@@ -35,7 +35,7 @@ pub(crate) fn make(table: SegmentTable, pool: u64) -> CallOutcome
 }
 
 pub(crate) fn admit(table: SegmentTable, tenant: TenantId, ceiling: u64, line: &[u8]) -> CallOutcome
-    ensures { Results result (admitOn table tenant ceiling line.now) }
+    ensures { Results result (admit_on table tenant ceiling line.now) }
 {
     let read = hexline::read_tuple(line);
     let outcome = read.outcome;
@@ -51,7 +51,7 @@ pub(crate) fn of_tenant(
     action: Action,
     line: &[u8],
 ) -> CallOutcome
-    ensures { Results result (callOn table tenant action line.now) }
+    ensures { Results result (call_on table tenant action line.now) }
 {
     let read = hexline::read_label(line);
     let outcome = read.outcome;

@@ -1,6 +1,6 @@
 // A command line as a request: which call it asks for, with its numbers. The library tests the numbers.
 ghost use Rattle.std.specs.Prelude.{◌≡◌};
-ghost use Rattle.segments_cmd.specs.Request.{of_none, ofOne, ofThree, ofTwo, requestOfLine, takesOperand};
+ghost use Rattle.segments_cmd.specs.Request.{of_none, of_one, of_three, of_two, request_of_line, takes_operand};
 
 use console::command;
 use segment_table::{Slot, TenantId};
@@ -31,7 +31,7 @@ fn of_none(word: &[u8]) -> Request
 
 // The command of that word with one number.
 fn of_one(word: &[u8], n: u64) -> Request
-    ensures { result ≡ ofOne word.now n }
+    ensures { result ≡ of_one word.now n }
 {
     if octets::same(word, b"make") {
         return Request::Make(n);
@@ -41,7 +41,7 @@ fn of_one(word: &[u8], n: u64) -> Request
 
 // The command of that word with a tenant and one number more.
 fn of_two(word: &[u8], tenant: TenantId, n: u64) -> Request
-    ensures { result ≡ ofTwo word.now tenant n }
+    ensures { result ≡ of_two word.now tenant n }
 {
     if octets::same(word, b"admit") {
         return Request::Admit(tenant, n);
@@ -63,7 +63,7 @@ fn of_two(word: &[u8], tenant: TenantId, n: u64) -> Request
 
 // The command of that word with a tenant, a slot and one number more.
 fn of_three(word: &[u8], tenant: TenantId, slot: Slot, n: u64) -> Request
-    ensures { result ≡ ofThree word.now tenant slot n }
+    ensures { result ≡ of_three word.now tenant slot n }
 {
     if octets::same(word, b"size") {
         return Request::Call(tenant, Action::Size(SizeCall { slot, pages: n }));
@@ -75,7 +75,7 @@ fn of_three(word: &[u8], tenant: TenantId, slot: Slot, n: u64) -> Request
 }
 
 pub(crate) fn of_line(line: &[u8]) -> Request
-    ensures { result ≡ requestOfLine line.now }
+    ensures { result ≡ request_of_line line.now }
 {
     let c = command::parse(line);
     if !c.valid {
@@ -95,7 +95,7 @@ pub(crate) fn of_line(line: &[u8]) -> Request
 
 // Whether a request has an operand line.
 pub(crate) fn takes_operand(r: Request) -> bool
-    ensures { result ≡ takesOperand r }
+    ensures { result ≡ takes_operand r }
 {
     match r {
         Request::Invalid => false,

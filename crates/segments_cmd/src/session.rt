@@ -1,7 +1,7 @@
 // The lines of the input as requests: a command line, then its operand line if it has one, then its answer.
 ghost use Rattle.std.specs.Prelude.{◌≡◌};
-ghost use Rattle.segment_table.specs.Segments.{emptyTable};
-ghost use Rattle.segments_cmd.specs.Session.{afterCommand, afterLine, between, tableAfter};
+ghost use Rattle.segment_table.specs.Segments.{empty_table};
+ghost use Rattle.segments_cmd.specs.Session.{after_command, after_line, between, table_after};
 
 use crate::request::Request;
 use crate::{answer, call, request, show};
@@ -27,7 +27,7 @@ fn between(table: SegmentTable) -> Session
 
 // The state of zeros, which is what a refused make hands back.
 pub(crate) fn start() -> Session
-    ensures { result ≡ between (emptyTable 0) }
+    ensures { result ≡ between (empty_table 0) }
 {
     let refused = operator::make(0);
     between(refused.table)
@@ -53,7 +53,7 @@ fn show(table: SegmentTable) -> Session
 
 // Answers a request, with its operand line if it has one.
 fn respond(table: SegmentTable, r: Request, line: &[u8]) -> Session
-    ensures { result ≡ between (tableAfter table r line.now) }
+    ensures { result ≡ between (table_after table r line.now) }
 {
     match r {
         Request::Invalid => reply(call::refused(table)),
@@ -69,7 +69,7 @@ fn respond(table: SegmentTable, r: Request, line: &[u8]) -> Session
 
 // A line where a command line is due. A bad line comes as no bytes at all.
 fn take_command(table: SegmentTable, line: &[u8]) -> Session
-    ensures { result ≡ afterCommand table line.now }
+    ensures { result ≡ after_command table line.now }
 {
     if command::is_skipped(line) {
         return between(table);
@@ -82,7 +82,7 @@ fn take_command(table: SegmentTable, line: &[u8]) -> Session
 }
 
 pub(crate) fn take_line(s: Session, line: &[u8]) -> Session
-    ensures { result ≡ afterLine s line.now }
+    ensures { result ≡ after_line s line.now }
 {
     let r = s.request;
     if request::takes_operand(r) {

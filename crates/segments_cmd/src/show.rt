@@ -3,9 +3,9 @@
 ghost use Rattle.std.specs.Prelude.{◌+◌, ◌<◌, ◌≤◌, length};
 ghost use Rattle.octets.specs.Internal.Put.{Put, PutWithin};
 ghost use Rattle.label.specs.Words.{members_of};
-ghost use Rattle.segment_table.specs.Segments.{tenantTotal};
-ghost use Rattle.segments_cmd.specs.Show.{categoryNumbersText, labelNumbersText, listText, poolText, segmentText, slotText, tenantText};
-ghost use Rattle.segments_cmd.specs.Internal.Sizes.{categoriesBytes, labelTextSize, lineBytes, segmentBytes};
+ghost use Rattle.segment_table.specs.Segments.{tenant_total};
+ghost use Rattle.segments_cmd.specs.Show.{category_numbers_text, label_numbers_text, list_text, pool_text, segment_text, slot_text, tenant_text};
+ghost use Rattle.segments_cmd.specs.Internal.Sizes.{categories_bytes, label_text_size, line_bytes, segment_bytes};
 
 use crate::answer::{print_bytes, put_field};
 use common::answer::Number;
@@ -21,8 +21,8 @@ const LINE_BYTES: usize = 128 + 21 * 64 * WORDS;
 
 // Appends a blank and a number for each category.
 fn put_members(out: &mut [u8], at: usize, categories: [u64; WORDS]) -> usize
-    requires { at + categoriesBytes ≤ length out.old }
-    ensures { PutWithin (at + categoriesBytes) out.old at (listText (members_of categories)) result out.new }
+    requires { at + categories_bytes ≤ length out.old }
+    ensures { PutWithin (at + categories_bytes) out.old at (list_text (members_of categories)) result out.new }
 {
     let mut end = at;
     let mut from: u64 = 0;
@@ -38,8 +38,8 @@ fn put_members(out: &mut [u8], at: usize, categories: [u64; WORDS]) -> usize
 
 // The same, with `-` where there are none.
 fn put_categories(out: &mut [u8], at: usize, categories: [u64; WORDS]) -> usize
-    requires { at + categoriesBytes ≤ length out.old }
-    ensures { PutWithin (at + categoriesBytes) out.old at (categoryNumbersText (members_of categories)) result out.new }
+    requires { at + categories_bytes ≤ length out.old }
+    ensures { PutWithin (at + categories_bytes) out.old at (category_numbers_text (members_of categories)) result out.new }
 {
     let end = put_members(out, at, categories);
     if end == at {
@@ -50,8 +50,8 @@ fn put_categories(out: &mut [u8], at: usize, categories: [u64; WORDS]) -> usize
 
 // The numbers of a segment.
 fn put_segment(out: &mut [u8], slot: u64, x: Segment) -> usize
-    requires { lineBytes ≤ length out.old }
-    ensures { PutWithin segmentBytes out.old 0 (segmentText slot x) result out.new }
+    requires { line_bytes ≤ length out.old }
+    ensures { PutWithin segment_bytes out.old 0 (segment_text slot x) result out.new }
 {
     let number = put_field(out, 0, b"place ", slot);
     let pages = put_field(out, number, b" pages ", x.pages);
@@ -59,8 +59,8 @@ fn put_segment(out: &mut [u8], slot: u64, x: Segment) -> usize
 }
 
 fn put_label(out: &mut [u8], at: usize, label: Label) -> usize
-    requires { at + labelTextSize ≤ length out.old }
-    ensures { PutWithin (at + labelTextSize) out.old at (labelNumbersText label) result out.new }
+    requires { at + label_text_size ≤ length out.old }
+    ensures { PutWithin (at + label_text_size) out.old at (label_numbers_text label) result out.new }
 {
     let categories = label.categories;
     let hierarchy = put_field(out, at, b" hierarchy ", label.hierarchy);
@@ -69,8 +69,8 @@ fn put_label(out: &mut [u8], at: usize, label: Label) -> usize
 }
 
 fn put_slot(out: &mut [u8], slot: u64, x: Segment) -> usize
-    requires { lineBytes ≤ length out.old }
-    ensures { Put out.old 0 (slotText slot x) result out.new }
+    requires { line_bytes ≤ length out.old }
+    ensures { Put out.old 0 (slot_text slot x) result out.new }
 {
     let at = put_segment(out, slot, x);
     let end = put_label(out, at, x.label);
@@ -78,8 +78,8 @@ fn put_slot(out: &mut [u8], slot: u64, x: Segment) -> usize
 }
 
 fn put_tenant(out: &mut [u8], tenant: u64, ceiling: u64, pages: u64) -> usize
-    requires { lineBytes ≤ length out.old }
-    ensures { Put out.old 0 (tenantText tenant ceiling pages) result out.new }
+    requires { line_bytes ≤ length out.old }
+    ensures { Put out.old 0 (tenant_text tenant ceiling pages) result out.new }
 {
     let number = put_field(out, 0, b"tenant ", tenant);
     let limit = put_field(out, number, b" ceiling ", ceiling);
@@ -88,8 +88,8 @@ fn put_tenant(out: &mut [u8], tenant: u64, ceiling: u64, pages: u64) -> usize
 }
 
 fn put_pool(out: &mut [u8], pool: u64) -> usize
-    requires { lineBytes ≤ length out.old }
-    ensures { Put out.old 0 (poolText pool) result out.new }
+    requires { line_bytes ≤ length out.old }
+    ensures { Put out.old 0 (pool_text pool) result out.new }
 {
     let at = put_field(out, 0, b"pool ", pool);
     octets::append(out, at, b"\n")
@@ -97,7 +97,7 @@ fn put_pool(out: &mut [u8], pool: u64) -> usize
 
 // Prints a slot that is filled.
 fn print_slot(out: &mut [u8], slot: u64, x: Segment)
-    requires { lineBytes ≤ length out.old }
+    requires { line_bytes ≤ length out.old }
 {
     if x.pages > 0 {
         let n = put_slot(out, slot, x);
@@ -106,7 +106,7 @@ fn print_slot(out: &mut [u8], slot: u64, x: Segment)
 }
 
 fn print_slots(out: &mut [u8], s: SegmentTable)
-    requires { lineBytes ≤ length out.old }
+    requires { line_bytes ≤ length out.old }
 {
     let mut i = 0;
     while i < SLOTS {
@@ -117,8 +117,8 @@ fn print_slots(out: &mut [u8], s: SegmentTable)
 
 // Prints a tenant that is admitted.
 fn print_tenant(out: &mut [u8], s: SegmentTable, tenant: usize)
-    requires line_bytes_in_bounds { lineBytes ≤ length out.old }
-    requires tenant_lt_tenant_total { tenant < tenantTotal }
+    requires line_bytes_in_bounds { line_bytes ≤ length out.old }
+    requires tenant_lt_tenant_total { tenant < tenant_total }
 {
     let ceiling = s.tenants[tenant].ceiling;
     let used = state::pages_in_use(s, TenantId(tenant as u64));
@@ -132,7 +132,7 @@ fn print_tenant(out: &mut [u8], s: SegmentTable, tenant: usize)
 }
 
 fn print_tenants(out: &mut [u8], s: SegmentTable)
-    requires { lineBytes ≤ length out.old }
+    requires { line_bytes ≤ length out.old }
 {
     let mut i = 0;
     while i < TENANTS {
@@ -142,7 +142,7 @@ fn print_tenants(out: &mut [u8], s: SegmentTable)
 }
 
 fn print_lines(out: &mut [u8], s: SegmentTable)
-    requires { lineBytes ≤ length out.old }
+    requires { line_bytes ≤ length out.old }
 {
     let n = put_pool(out, s.pool);
     print_bytes(octets::front(out, n));

@@ -8,16 +8,16 @@ use lib.ListN.{length, length-append}
 use Rattle.label.specs.declared.Label.{Label}
 use Rattle.common.proofs.BoolLaws.{both}
 use Rattle.range.specs.declared.Range.{Range}
-use Rattle.alias_entry.specs.Entry.{nameSize}
+use Rattle.alias_entry.specs.Entry.{name_size}
 use Rattle.alias_entry.specs.declared.Entry.{Entry}
 use Rattle.alias_entry.specs.declared.Value.TheVariants.{WholeLabel}
 use Rattle.octets.specs.Internal.Put.{Put}
 use Rattle.alias.specs.Lines.{entry_at}
-use Rattle.alias.specs.Lookup.{foundEntryOf, lastEntryFor}
+use Rattle.alias.specs.Lookup.{found_entry_of, last_entry_for}
 use Rattle.alias.specs.declared.FoundEntry.{FoundEntry}
 use Rattle.alias.specs.declared.FoundEntry.TheVariants.{At, Nothing}
-use Rattle.text.specs.Internal.Measure.{MeasuredText, highText, maxLabel, maxRange, rangeNamed, rangeText, statusOf}
-use Rattle.text.specs.Write.{allNamed, definitionNamed, definitionText, labelText, lowText, nameFor, named, named_in, shown, textIn, wholeText, writtenName}
+use Rattle.text.specs.Internal.Measure.{MeasuredText, high_text, max_label, max_range, range_named, range_text, status_of}
+use Rattle.text.specs.Write.{all_named, definition_named, definition_text, label_text, low_text, name_for, named, named_in, shown, text_in, whole_text, written_name}
 use Rattle.text.specs.declared.Form.{Form}
 use Rattle.text.specs.declared.Form.TheVariants.{Definition, Alias}
 use Rattle.text.specs.declared.Style.{Style}
@@ -33,39 +33,39 @@ joined {a} {b} {x} {y} {m} {n} {k} {l} p q =
     let s = length-append x y in
     let pc = p.count in
     let qc = q.count in
-    let pm = p.at-most in
-    let qm = q.at-most in
-    record { named = both p.named q.named; count = omega arith; at-most = omega arith }
+    let pm = p.at_most_lem in
+    let qm = q.at_most_lem in
+    record { named = both p.named q.named; count = omega arith; at_most_lem = omega arith }
 
 module _ (es : List Entry) (style : Style) (x : Range) where
-  range_length : (whole : Bool) → length (rangeText es style x whole) ≡ 3 + length (labelText es style x.low) + length (highText es style x whole)
+  range_length : (whole : Bool) → length (range_text es style x whole) ≡ 3 + length (label_text es style x.low) + length (high_text es style x whole)
   range_length whole = simp length-append
 
   -- both ends of a range, and the low end alone, with the markers
-  pub whole-counts : {k l : ℕ} → Whole (allNamed es style x.low) (labelText es style x.low) maxLabel k → Whole (allNamed es style x.high) (labelText es style x.high) maxLabel l
-      → Whole (rangeNamed es style x true) (rangeText es style x true) maxRange (k + l + 7)
-  whole-counts p q =
+  pub whole_counts : {k l : ℕ} → Whole (all_named es style x.low) (label_text es style x.low) max_label k → Whole (all_named es style x.high) (label_text es style x.high) max_label l
+      → Whole (range_named es style x true) (range_text es style x true) max_range (k + l + 7)
+  whole_counts p q =
       let s = range_length true in
       let pc = p.count in
       let qc = q.count in
-      let pm = p.at-most in
-      let qm = q.at-most in
-      record { named = both p.named q.named; count = omega arith; at-most = omega arith }
+      let pm = p.at_most_lem in
+      let qm = q.at_most_lem in
+      record { named = both p.named q.named; count = omega arith; at_most_lem = omega arith }
 
-  pub low-counts : {k : ℕ} → Whole (allNamed es style x.low) (labelText es style x.low) maxLabel k → Whole (rangeNamed es style x false) (rangeText es style x false) maxRange (k + 8)
-  low-counts p =
+  pub low_counts : {k : ℕ} → Whole (all_named es style x.low) (label_text es style x.low) max_label k → Whole (range_named es style x false) (range_text es style x false) max_range (k + 8)
+  low_counts p =
       let s = range_length false in
       let pc = p.count in
-      let pm = p.at-most in
-      record { named = both p.named refl; count = omega arith; at-most = omega arith }
+      let pm = p.at_most_lem in
+      record { named = both p.named refl; count = omega arith; at_most_lem = omega arith }
 
   -- a range as it is written
-  pub range-shown : (whole : Bool)
-      → cond whole (shown (allNamed es style x.low && allNamed es style x.high) 0 (wholeText es style x)) (shown (allNamed es style x.low) 1 (lowText es style x))
-      ≡ shown (rangeNamed es style x whole) (statusOf whole) (rangeText es style x whole)
-  unfolding wholeText lowText
-  range-shown true = rw append_assoc
-  range-shown false = rw and-true
+  pub range_shown : (whole : Bool)
+      → cond whole (shown (all_named es style x.low && all_named es style x.high) 0 (whole_text es style x)) (shown (all_named es style x.low) 1 (low_text es style x))
+      ≡ shown (range_named es style x whole) (status_of whole) (range_text es style x whole)
+  unfolding whole_text low_text
+  range_shown true = rw append_assoc
+  range_shown false = rw and-true
 
 -- ---- a label in its form
 
@@ -73,38 +73,38 @@ module _ (es : List Entry) (style : Style) (x : Range) where
 pub put_same : {out after text same : List ℕ} {at past : ℕ} → same ≡ text → Put out at text past after → Put out at same past after
 put_same e h = rw e h
 
-pub fits-same : {text same : List ℕ} (at : ℕ) {n : ℕ} → same ≡ text → at + length same ≤ n → at + length text ≤ n
-fits-same at e h = rw e at h
+pub fits_same : {text same : List ℕ} (at : ℕ) {n : ℕ} → same ≡ text → at + length same ≤ n → at + length text ≤ n
+fits_same at e h = rw e at h
 
 module _ (es : List Entry) (v : Variant) (l : Label) {form : Form} where
   module _ (d : form ≡ Definition) where
-    pub definition-measured : {r : Measure} → MeasuredText (definitionNamed es l) (definitionText es v l) maxLabel r → MeasuredText (named_in es form l) (textIn es form v l) maxLabel r
-    unfolding named_in textIn
-    definition-measured h = rw d h
+    pub definition_measured : {r : Measure} → MeasuredText (definition_named es l) (definition_text es v l) max_label r → MeasuredText (named_in es form l) (text_in es form v l) max_label r
+    unfolding named_in text_in
+    definition_measured h = rw d h
 
-    pub definition-is : textIn es form v l ≡ definitionText es v l
-    unfolding textIn
-    definition-is = rw d
+    pub definition_is : text_in es form v l ≡ definition_text es v l
+    unfolding text_in
+    definition_is = rw d
 
   -- the name of the label where it has one, else the definition form
   module _ (a : form ≡ Alias) where
-    pub alias-measured : {r : Measure} {n : ℕ} → MeasuredText (named es WholeLabel l) (nameFor es v WholeLabel l) nameSize r → r ≡ Bytes n
-        → MeasuredText (named_in es form l) (textIn es form v l) maxLabel r
-    unfolding named_in textIn
-    alias-measured t e =
+    pub alias_measured : {r : Measure} {n : ℕ} → MeasuredText (named es WholeLabel l) (name_for es v WholeLabel l) name_size r → r ≡ Bytes n
+        → MeasuredText (named_in es form l) (text_in es form v l) max_label r
+    unfolding named_in text_in
+    alias_measured t e =
         let w = counted t e in
-        rw (a, w.named) (record { measure = rw w.named at t.measure; at-most = λ m f. let k = t.at-most m f in omega arith })
+        rw (a, w.named) (record { measure = rw w.named at t.measure; at_most_lem = λ m f. let k = t.at_most_lem m f in omega arith })
 
-    pub alias-missing : {r s : Measure} → MeasuredText (named es WholeLabel l) (nameFor es v WholeLabel l) nameSize s → s ≡ Missing
-        → MeasuredText (definitionNamed es l) (definitionText es v l) maxLabel r → MeasuredText (named_in es form l) (textIn es form v l) maxLabel r
-    unfolding named_in textIn
-    alias-missing t e h = rw (a, missed t e) h
+    pub alias_missing : {r s : Measure} → MeasuredText (named es WholeLabel l) (name_for es v WholeLabel l) name_size s → s ≡ Missing
+        → MeasuredText (definition_named es l) (definition_text es v l) max_label r → MeasuredText (named_in es form l) (text_in es form v l) max_label r
+    unfolding named_in text_in
+    alias_missing t e h = rw (a, missed t e) h
 
-    module _ {r : FoundEntry} (f : foundEntryOf r ≡ lastEntryFor es WholeLabel l) where
-      pub alias-text : {k : ℕ} → r ≡ At k → textIn es form v l ≡ writtenName v (entry_at es k)
-      unfolding textIn named nameFor
-      alias-text e = rw (a, ← f, e)
+    module _ {r : FoundEntry} (f : found_entry_of r ≡ last_entry_for es WholeLabel l) where
+      pub alias_text : {k : ℕ} → r ≡ At k → text_in es form v l ≡ written_name v (entry_at es k)
+      unfolding text_in named name_for
+      alias_text e = rw (a, ← f, e)
 
-      pub definition-instead : r ≡ Nothing → textIn es form v l ≡ definitionText es v l
-      unfolding textIn named
-      definition-instead e = rw (a, ← f, e)
+      pub definition_instead : r ≡ Nothing → text_in es form v l ≡ definition_text es v l
+      unfolding text_in named
+      definition_instead e = rw (a, ← f, e)

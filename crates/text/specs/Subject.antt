@@ -3,10 +3,10 @@ use Rattle.std.specs.Prelude.{Bool, List, ℕ}
 use Rattle.common.specs.Answer.{Answer, and_then}
 use Rattle.alias_entry.specs.declared.Entry.{Entry}
 use Rattle.octets.specs.Lines.{lines_of}
-use Rattle.alias.specs.Lines.{entriesOf}
-use Rattle.alias.specs.Table.{checkTable}
+use Rattle.alias.specs.Lines.{entries_of}
+use Rattle.alias.specs.Table.{check_table}
 use Rattle.alias.specs.declared.LineStarts.{LineStarts}
 
 -- what is answered of the entries of a table; a bad table is refused before all else
-abbrev pub withTable : {A : Type 0} → Bool → List ℕ → (List Entry → Answer A) → Answer A
-withTable more table answer = and_then (checkTable more table) (λ (x : LineStarts). answer (entriesOf (lines_of table)))
+abbrev pub with_table : {A : Type 0} → Bool → List ℕ → (List Entry → Answer A) → Answer A
+with_table more table answer = and_then (check_table more table) (λ (x : LineStarts). answer (entries_of (lines_of table)))

@@ -1,10 +1,10 @@
 // Names of entries: how long they are, and put in a buffer.
 ghost use Rattle.std.specs.Prelude.{◌≡◌, ◌+◌, ◌-◌, ◌<◌, ◌≤◌, length};
-ghost use Rattle.alias_entry.specs.Entry.{nameSize};
+ghost use Rattle.alias_entry.specs.Entry.{name_size};
 ghost use Rattle.octets.specs.Internal.Put.{Put};
-ghost use Rattle.alias.specs.Lines.{entriesBy, entry_at};
-ghost use Rattle.text.specs.Internal.Measure.{MeasuredText, writtenIn};
-ghost use Rattle.text.specs.Write.{nameFor, named, writtenName};
+ghost use Rattle.alias.specs.Lines.{entries_by, entry_at};
+ghost use Rattle.text.specs.Internal.Measure.{MeasuredText, written_in};
+ghost use Rattle.text.specs.Write.{name_for, named, written_name};
 
 use crate::Variant;
 use alias::{FoundEntry, lookup};
@@ -22,8 +22,8 @@ pub(crate) enum Measure {
 
 // Where the name that is written stands in the line of an entry. The second clause follows, and is stated for callers.
 fn written_in(line: &[u8], v: Variant) -> Span
-    ensures value { result ≡ writtenIn v line.now }
-    ensures length_bound { (result.at + result.length < 1024) × (result.length ≤ nameSize) }
+    ensures value { result ≡ written_in v line.now }
+    ensures length_bound { (result.at + result.length < 1024) × (result.length ≤ name_size) }
 {
     let t = parts::texts(line);
     let abbreviation = t.abbreviation;
@@ -46,7 +46,7 @@ pub(crate) fn measure_name(
     value: Value,
     l: Label,
 ) -> Measure
-    ensures { MeasuredText (named (entriesBy table.now starts.now) value l) (nameFor (entriesBy table.now starts.now) v value l) nameSize result }
+    ensures { MeasuredText (named (entries_by table.now starts.now) value l) (name_for (entries_by table.now starts.now) v value l) name_size result }
 {
     match lookup::last(table, starts, value, l) {
         FoundEntry::At(k) => {
@@ -66,8 +66,8 @@ pub(crate) fn put_found(
     out: &mut [u8],
     at: usize,
 ) -> usize
-    requires { (k < length starts.now - 1) × (at + length (writtenName v (entry_at (entriesBy table.now starts.now) k)) ≤ length out.old) }
-    ensures { Put out.old at (writtenName v (entry_at (entriesBy table.now starts.now) k)) result out.new }
+    requires { (k < length starts.now - 1) × (at + length (written_name v (entry_at (entries_by table.now starts.now) k)) ≤ length out.old) }
+    ensures { Put out.old at (written_name v (entry_at (entries_by table.now starts.now) k)) result out.new }
 {
     let line = lookup::line(table, starts, k);
     let s = written_in(line, v);
@@ -89,8 +89,8 @@ pub(crate) fn put_name(
     out: &mut [u8],
     at: usize,
 ) -> usize
-    requires { at + length (nameFor (entriesBy table.now starts.now) v value l) ≤ length out.old }
-    ensures { Put out.old at (nameFor (entriesBy table.now starts.now) v value l) result out.new }
+    requires { at + length (name_for (entries_by table.now starts.now) v value l) ≤ length out.old }
+    ensures { Put out.old at (name_for (entries_by table.now starts.now) v value l) result out.new }
 {
     match lookup::last(table, starts, value, l) {
         FoundEntry::At(k) => put_found(table, starts, v, k, out, at),

@@ -1,7 +1,7 @@
 // Forms and variants by their numbers, as programs and C have them. A number that names nothing is refused: named is false, and what stands beside it
 // is of the number 0.
 ghost use Rattle.std.specs.Prelude.{◌≡◌};
-ghost use Rattle.text.specs.Numbers.{namedStyle, styleNamed, variantNamed};
+ghost use Rattle.text.specs.Numbers.{named_style, style_named, variant_named};
 
 use crate::{Form, Style, Variant};
 
@@ -13,7 +13,7 @@ pub struct NamedStyle {
 }
 
 fn style_with(named: bool, form: Form, variant: Variant) -> NamedStyle
-    ensures { result ≡ namedStyle named form variant }
+    ensures { result ≡ named_style named form variant }
 {
     NamedStyle {
         named,
@@ -23,7 +23,7 @@ fn style_with(named: bool, form: Form, variant: Variant) -> NamedStyle
 
 // A form with the variant that a number names.
 fn variant_of(form: Form, variant: u64) -> NamedStyle
-    ensures { result ≡ variantNamed form variant }
+    ensures { result ≡ variant_named form variant }
 {
     if variant == 0 {
         return style_with(true, form, Variant::Names);
@@ -36,7 +36,7 @@ fn variant_of(form: Form, variant: u64) -> NamedStyle
 
 // The form of a number, 0 definition and 1 alias, and the variant of another, 0 names and 1 abbreviations.
 pub fn style_of(form: u64, variant: u64) -> NamedStyle
-    ensures { result ≡ styleNamed form variant }
+    ensures { result ≡ style_named form variant }
 {
     if form == 0 {
         return variant_of(Form::Definition, variant);

@@ -1,13 +1,13 @@
 // Labels and ranges read from text. Whatever is wrong with a text is the same plain 22.
 ghost use Rattle.std.specs.Prelude.{◌≡◌};
 ghost use Rattle.common.specs.Answer.{Answered};
-ghost use Rattle.label.specs.Label.{zeroLabel};
-ghost use Rattle.range.specs.Range.{zeroRange};
+ghost use Rattle.label.specs.Label.{zero_label};
+ghost use Rattle.range.specs.Range.{zero_range};
 ghost use Rattle.octets.specs.Bytes.{split};
-ghost use Rattle.alias.specs.Lines.{entriesBy};
-ghost use Rattle.text.specs.Internal.Named.{addedTo, valueNamed, valueNamedOf};
-ghost use Rattle.text.specs.Read.{beginsWith, categoriesRead, composedOf, endsOf, high_of, labelInText, labelNamed, labelSeen, noCategories, plain, rangeFrom, readLabelText, readRangeText};
-ghost use Rattle.text.specs.Subject.{withTable};
+ghost use Rattle.alias.specs.Lines.{entries_by};
+ghost use Rattle.text.specs.Internal.Named.{added_to, value_named, value_named_of};
+ghost use Rattle.text.specs.Read.{begins_with, categories_read, composed_of, ends_of, high_of, label_in_text, label_named, label_seen, no_categories, plain, range_from, read_label_text, read_range_text};
+ghost use Rattle.text.specs.Subject.{with_table};
 ghost use Rattle.text.specs.Write.{comma};
 
 use crate::tested::{dominates, sees};
@@ -37,7 +37,7 @@ struct SetAnswer {
 }
 
 fn no_label() -> LabelAnswer
-    ensures { Answered result.outcome result.label zeroLabel plain }
+    ensures { Answered result.outcome result.label zero_label plain }
 {
     LabelAnswer {
         outcome: Outcome::Refused(Errno::Invalid),
@@ -46,7 +46,7 @@ fn no_label() -> LabelAnswer
 }
 
 fn no_range() -> RangeAnswer
-    ensures { Answered result.outcome result.range zeroRange plain }
+    ensures { Answered result.outcome result.range zero_range plain }
 {
     RangeAnswer {
         outcome: Outcome::Refused(Errno::Invalid),
@@ -55,7 +55,7 @@ fn no_range() -> RangeAnswer
 }
 
 fn no_set() -> SetAnswer
-    ensures { Answered result.outcome result.categories noCategories plain }
+    ensures { Answered result.outcome result.categories no_categories plain }
 {
     let categories = [0u64; WORDS];
     SetAnswer {
@@ -66,7 +66,7 @@ fn no_set() -> SetAnswer
 
 // The value that a text names.
 fn value_named(table: &[u8], starts: &[usize], text: &[u8]) -> Named
-    ensures { valueNamedOf result ≡ valueNamed (entriesBy table.now starts.now) text.now }
+    ensures { value_named_of result ≡ value_named (entries_by table.now starts.now) text.now }
 {
     match lookup::find(table, starts, text) {
         FoundEntry::At(k) => Named::As(parts::value(lookup::line(table, starts, k))),
@@ -76,7 +76,7 @@ fn value_named(table: &[u8], starts: &[usize], text: &[u8]) -> Named
 
 // The label that one name says.
 fn label_named(table: &[u8], starts: &[usize], text: &[u8]) -> LabelAnswer
-    ensures { Answered result.outcome result.label zeroLabel (labelNamed (entriesBy table.now starts.now) text.now) }
+    ensures { Answered result.outcome result.label zero_label (label_named (entries_by table.now starts.now) text.now) }
 {
     let FoundEntry::At(k) = lookup::find(table, starts, text) else {
         return no_label();
@@ -104,7 +104,7 @@ fn label_named(table: &[u8], starts: &[usize], text: &[u8]) -> LabelAnswer
 
 // The set with the category that a text names, which it must not have yet.
 fn add_category(table: &[u8], starts: &[usize], set: [u64; WORDS], name: &[u8]) -> SetAnswer
-    ensures { Answered result.outcome result.categories noCategories (addedTo (entriesBy table.now starts.now) set name.now) }
+    ensures { Answered result.outcome result.categories no_categories (added_to (entries_by table.now starts.now) set name.now) }
 {
     let Named::As(v) = value_named(table, starts, name) else {
         return no_set();
@@ -124,7 +124,7 @@ fn add_category(table: &[u8], starts: &[usize], set: [u64; WORDS], name: &[u8]) 
 
 // The set of the categories that names joined by `,` stand for.
 fn read_categories(table: &[u8], starts: &[usize], names: &[u8]) -> SetAnswer
-    ensures { Answered result.outcome result.categories noCategories (categoriesRead (entriesBy table.now starts.now) noCategories (split comma names.now)) }
+    ensures { Answered result.outcome result.categories no_categories (categories_read (entries_by table.now starts.now) no_categories (split comma names.now)) }
 {
     let mut set = [0u64; WORDS];
     let mut at = 0;
@@ -147,7 +147,7 @@ fn read_categories(table: &[u8], starts: &[usize], names: &[u8]) -> SetAnswer
 
 // The label of a hierarchy's name and the names of categories.
 fn composed(table: &[u8], starts: &[usize], name: &[u8], names: &[u8]) -> LabelAnswer
-    ensures { Answered result.outcome result.label zeroLabel (composedOf (entriesBy table.now starts.now) name.now names.now) }
+    ensures { Answered result.outcome result.label zero_label (composed_of (entries_by table.now starts.now) name.now names.now) }
 {
     let Named::As(v) = value_named(table, starts, name) else {
         return no_label();
@@ -176,7 +176,7 @@ fn composed(table: &[u8], starts: &[usize], name: &[u8], names: &[u8]) -> LabelA
 
 // The label that a text says.
 fn label_in(table: &[u8], starts: &[usize], text: &[u8]) -> LabelAnswer
-    ensures { Answered result.outcome result.label zeroLabel (labelInText (entriesBy table.now starts.now) text.now) }
+    ensures { Answered result.outcome result.label zero_label (label_in_text (entries_by table.now starts.now) text.now) }
 {
     let i = octets::index_of(b':', text);
     if i < text.len() {
@@ -192,7 +192,7 @@ fn label_in(table: &[u8], starts: &[usize], text: &[u8]) -> LabelAnswer
 
 // The label that a text says, where the subject may see it.
 fn label_seen(table: &[u8], starts: &[usize], caller: Caller, text: &[u8]) -> LabelAnswer
-    ensures { Answered result.outcome result.label zeroLabel (labelSeen (entriesBy table.now starts.now) caller text.now) }
+    ensures { Answered result.outcome result.label zero_label (label_seen (entries_by table.now starts.now) caller text.now) }
 {
     let l = label_in(table, starts, text);
     let outcome = l.outcome;
@@ -207,7 +207,7 @@ fn label_seen(table: &[u8], starts: &[usize], caller: Caller, text: &[u8]) -> La
 
 // Reads a label from a text.
 pub fn read_label(table: &[u8], more: bool, caller: Caller, text: &[u8]) -> LabelAnswer
-    ensures { Answered result.outcome result.label zeroLabel (withTable more table.now (λ es. readLabelText es caller text.now)) }
+    ensures { Answered result.outcome result.label zero_label (with_table more table.now (λ es. read_label_text es caller text.now)) }
 {
     let t = alias::check(table, more);
     let outcome = t.outcome;
@@ -226,7 +226,7 @@ pub fn read_label(table: &[u8], more: bool, caller: Caller, text: &[u8]) -> Labe
 }
 
 fn begins_with(marker: &[u8], text: &[u8]) -> bool
-    ensures { result ≡ beginsWith marker.now text.now }
+    ensures { result ≡ begins_with marker.now text.now }
 {
     octets::same(octets::front(text, marker.len()), marker)
 }
@@ -239,7 +239,7 @@ fn range_from(
     low: Label,
     text: &[u8],
 ) -> RangeAnswer
-    ensures { Answered result.outcome result.range zeroRange (rangeFrom (entriesBy table.now starts.now) caller low text.now) }
+    ensures { Answered result.outcome result.range zero_range (range_from (entries_by table.now starts.now) caller low text.now) }
 {
     let end = label_seen(table, starts, caller, text);
     let outcome = end.outcome;
@@ -261,7 +261,7 @@ fn range_from(
 
 // The range of a low end and what follows it: the marker and the text of a high end. The form with `?` is no range.
 fn high_end(table: &[u8], starts: &[usize], caller: Caller, low: Label, text: &[u8]) -> RangeAnswer
-    ensures { Answered result.outcome result.range zeroRange (high_of (entriesBy table.now starts.now) caller low text.now) }
+    ensures { Answered result.outcome result.range zero_range (high_of (entries_by table.now starts.now) caller low text.now) }
 {
     if octets::same(text, b" -H ?") {
         return no_range();
@@ -280,7 +280,7 @@ fn high_end(table: &[u8], starts: &[usize], caller: Caller, low: Label, text: &[
 
 // The range of a text behind its first marker: the low end first, and its refusal where it gives no label.
 fn ends(table: &[u8], starts: &[usize], caller: Caller, text: &[u8]) -> RangeAnswer
-    ensures { Answered result.outcome result.range zeroRange (endsOf (entriesBy table.now starts.now) caller text.now) }
+    ensures { Answered result.outcome result.range zero_range (ends_of (entries_by table.now starts.now) caller text.now) }
 {
     let n = octets::index_of(BLANK, text);
     let low = label_seen(table, starts, caller, octets::front(text, n));
@@ -296,7 +296,7 @@ fn ends(table: &[u8], starts: &[usize], caller: Caller, text: &[u8]) -> RangeAns
 
 // Reads a range from a text.
 pub fn read_range(table: &[u8], more: bool, caller: Caller, text: &[u8]) -> RangeAnswer
-    ensures { Answered result.outcome result.range zeroRange (withTable more table.now (λ es. readRangeText es caller text.now)) }
+    ensures { Answered result.outcome result.range zero_range (with_table more table.now (λ es. read_range_text es caller text.now)) }
 {
     let t = alias::check(table, more);
     let outcome = t.outcome;

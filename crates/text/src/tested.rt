@@ -1,13 +1,13 @@
 // Labels that were tested, taken apart: the one place of this crate that does it.
 ghost use Rattle.std.specs.Prelude.{◌≡◌};
-ghost use Rattle.label.specs.Caller.{seesOf};
-ghost use Rattle.label.specs.Label.{dominatesOf};
+ghost use Rattle.label.specs.Caller.{sees_of};
+ghost use Rattle.label.specs.Label.{dominates_of};
 
 use label::caller::Caller;
 use label::{Label, caller, components};
 
 pub(crate) fn dominates(a: Label, b: Label) -> bool
-    ensures { result ≡ dominatesOf a b }
+    ensures { result ≡ dominates_of a b }
 {
     let x = a.categories;
     let y = b.categories;
@@ -15,7 +15,7 @@ pub(crate) fn dominates(a: Label, b: Label) -> bool
 }
 
 pub(crate) fn sees(c: Caller, l: Label) -> bool
-    ensures { result ≡ seesOf c l }
+    ensures { result ≡ sees_of c l }
 {
     let own = c.label;
     let x = own.categories;

@@ -1,16 +1,16 @@
 // Labels and ranges written as text: measured first, so that a refusal writes nothing, and then put in the buffer.
 ghost use Rattle.std.specs.Prelude.{◌≡◌, ◌∷◌, ◌++◌, cond, ◌+◌, ◌*◌, ◌<◌, ◌≤◌, length};
-ghost use Rattle.common.specs.Answer.{Answered, granted, isGranted, require};
+ghost use Rattle.common.specs.Answer.{Answered, granted, is_granted, require};
 ghost use Rattle.common.specs.Buffer.{WrittenTo, written_of};
-ghost use Rattle.label.specs.Label.{zeroLabel};
+ghost use Rattle.label.specs.Label.{zero_label};
 ghost use Rattle.label.specs.Words.{members_of};
 ghost use Rattle.alias_entry.specs.declared.Value.TheVariants.{Category};
 ghost use Rattle.octets.specs.Internal.Put.{Put};
-ghost use Rattle.alias.specs.Lines.{entriesBy};
-ghost use Rattle.text.specs.Internal.Measure.{MeasuredText, maxCategories, maxLabel, maxRange, measureOf, rangeNamed, rangeText, roomOf, statusOf};
-ghost use Rattle.text.specs.Subject.{withTable};
-ghost use Rattle.text.specs.Internal.Allowed.{allowedOf};
-ghost use Rattle.text.specs.Write.{RangeWrittenTo, allNamed, categoriesNamed, categoriesText, colon, definitionNamed, definitionText, labelText, nameFor, writeLabelOf, writeRangeOf};
+ghost use Rattle.alias.specs.Lines.{entries_by};
+ghost use Rattle.text.specs.Internal.Measure.{MeasuredText, max_categories, max_label, max_range, measure_of, range_named, range_text, room_of, status_of};
+ghost use Rattle.text.specs.Subject.{with_table};
+ghost use Rattle.text.specs.Internal.Allowed.{allowed_of};
+ghost use Rattle.text.specs.Write.{RangeWrittenTo, all_named, categories_named, categories_text, colon, definition_named, definition_text, label_text, name_for, write_label_of, write_range_of};
 
 use crate::name::{Measure, measure_name, put_found, put_name};
 use crate::tested::sees;
@@ -34,7 +34,7 @@ fn measure_categories(
     v: Variant,
     categories: [u64; WORDS],
 ) -> Measure
-    ensures { MeasuredText (categoriesNamed (entriesBy table.now starts.now) (members_of categories)) (categoriesText (entriesBy table.now starts.now) v colon (members_of categories)) maxCategories result }
+    ensures { MeasuredText (categories_named (entries_by table.now starts.now) (members_of categories)) (categories_text (entries_by table.now starts.now) v colon (members_of categories)) max_categories result }
 {
     let mut total = 0;
     let mut c: u64 = 0;
@@ -62,8 +62,8 @@ fn put_category(
     out: &mut [u8],
     at: usize,
 ) -> usize
-    requires { at + 1 + length (nameFor (entriesBy table.now starts.now) v (Category c) zeroLabel) ≤ length out.old }
-    ensures { Put out.old at (mark ∷ nameFor (entriesBy table.now starts.now) v (Category c) zeroLabel) result out.new }
+    requires { at + 1 + length (name_for (entries_by table.now starts.now) v (Category c) zero_label) ≤ length out.old }
+    ensures { Put out.old at (mark ∷ name_for (entries_by table.now starts.now) v (Category c) zero_label) result out.new }
 {
     out[at] = mark;
     put_name(
@@ -86,8 +86,8 @@ fn put_categories(
     out: &mut [u8],
     at: usize,
 ) -> usize
-    requires { at + length (categoriesText (entriesBy table.now starts.now) v colon (members_of categories)) ≤ length out.old }
-    ensures { Put out.old at (categoriesText (entriesBy table.now starts.now) v colon (members_of categories)) result out.new }
+    requires { at + length (categories_text (entries_by table.now starts.now) v colon (members_of categories)) ≤ length out.old }
+    ensures { Put out.old at (categories_text (entries_by table.now starts.now) v colon (members_of categories)) result out.new }
 {
     let mut past = at;
     let mut mark = b':';
@@ -105,7 +105,7 @@ fn put_categories(
 
 // How long the definition form of a label is.
 fn measure_definition(table: &[u8], starts: &[usize], v: Variant, l: Label) -> Measure
-    ensures { MeasuredText (definitionNamed (entriesBy table.now starts.now) l) (definitionText (entriesBy table.now starts.now) v l) maxLabel result }
+    ensures { MeasuredText (definition_named (entries_by table.now starts.now) l) (definition_text (entries_by table.now starts.now) v l) max_label result }
 {
     let hierarchy = measure_name(
         table,
@@ -133,8 +133,8 @@ fn put_definition(
     out: &mut [u8],
     at: usize,
 ) -> usize
-    requires { at + length (definitionText (entriesBy table.now starts.now) v l) ≤ length out.old }
-    ensures { Put out.old at (definitionText (entriesBy table.now starts.now) v l) result out.new }
+    requires { at + length (definition_text (entries_by table.now starts.now) v l) ≤ length out.old }
+    ensures { Put out.old at (definition_text (entries_by table.now starts.now) v l) result out.new }
 {
     let past = put_name(
         table,
@@ -151,7 +151,7 @@ fn put_definition(
 
 // How long the text of a label is.
 fn measure_label(table: &[u8], starts: &[usize], style: Style, l: Label) -> Measure
-    ensures { MeasuredText (allNamed (entriesBy table.now starts.now) style l) (labelText (entriesBy table.now starts.now) style l) maxLabel result }
+    ensures { MeasuredText (all_named (entries_by table.now starts.now) style l) (label_text (entries_by table.now starts.now) style l) max_label result }
 {
     let form = style.form;
     let v = style.variant;
@@ -176,8 +176,8 @@ fn put_label(
     out: &mut [u8],
     at: usize,
 ) -> usize
-    requires { at + length (labelText (entriesBy table.now starts.now) style l) ≤ length out.old }
-    ensures { Put out.old at (labelText (entriesBy table.now starts.now) style l) result out.new }
+    requires { at + length (label_text (entries_by table.now starts.now) style l) ≤ length out.old }
+    ensures { Put out.old at (label_text (entries_by table.now starts.now) style l) result out.new }
 {
     let form = style.form;
     let v = style.variant;
@@ -194,7 +194,7 @@ fn put_label(
 
 // What is answered of a text of that measure where a buffer has so many bytes.
 fn room(m: Measure, size: usize) -> Written
-    ensures { written_of result ≡ roomOf (measureOf m) size }
+    ensures { written_of result ≡ room_of (measure_of m) size }
 {
     match m {
         Measure::Bytes(n) => {
@@ -209,7 +209,7 @@ fn room(m: Measure, size: usize) -> Written
 
 // Writes the text of a label that the subject may see.
 fn write_text(table: &[u8], starts: &[usize], style: Style, l: Label, out: &mut [u8]) -> Written
-    ensures { WrittenTo result (require (allNamed (entriesBy table.now starts.now) style l) 2 (granted (labelText (entriesBy table.now starts.now) style l))) out.old out.new }
+    ensures { WrittenTo result (require (all_named (entries_by table.now starts.now) style l) 2 (granted (label_text (entries_by table.now starts.now) style l))) out.old out.new }
 {
     let w = room(measure_label(table, starts, style, l), out.len());
     if let Written::Length(_) = w {
@@ -220,7 +220,7 @@ fn write_text(table: &[u8], starts: &[usize], style: Style, l: Label, out: &mut 
 
 // Whether a label may be shown to a subject, where what is asked for is valid.
 fn allowed(valid: bool, caller: Caller, l: Label) -> Outcome
-    ensures { Answered result l l (allowedOf valid caller l) }
+    ensures { Answered result l l (allowed_of valid caller l) }
 {
     if !(valid & label::valid(caller.label)) {
         return Outcome::Refused(Errno::Invalid);
@@ -240,7 +240,7 @@ pub fn write_label(
     l: Label,
     out: &mut [u8],
 ) -> Written
-    ensures { WrittenTo result (withTable more table.now (λ es. writeLabelOf es caller style l)) out.old out.new }
+    ensures { WrittenTo result (with_table more table.now (λ es. write_label_of es caller style l)) out.old out.new }
 {
     let t = alias::check(table, more);
     let outcome = t.outcome;
@@ -257,7 +257,7 @@ pub fn write_label(
 
 // How long the text of a range is, with both ends or with the low end only.
 fn measure_range(table: &[u8], starts: &[usize], style: Style, x: Range, whole: bool) -> Measure
-    ensures { MeasuredText (rangeNamed (entriesBy table.now starts.now) style x whole) (rangeText (entriesBy table.now starts.now) style x whole) maxRange result }
+    ensures { MeasuredText (range_named (entries_by table.now starts.now) style x whole) (range_text (entries_by table.now starts.now) style x whole) max_range result }
 {
     let low = measure_label(table, starts, style, x.low);
     let Measure::Bytes(m) = low else {
@@ -283,8 +283,8 @@ fn put_marked(
     out: &mut [u8],
     at: usize,
 ) -> usize
-    requires { at + length (marker.now ++ labelText (entriesBy table.now starts.now) style l) ≤ length out.old }
-    ensures { Put out.old at (marker.now ++ labelText (entriesBy table.now starts.now) style l) result out.new }
+    requires { at + length (marker.now ++ label_text (entries_by table.now starts.now) style l) ≤ length out.old }
+    ensures { Put out.old at (marker.now ++ label_text (entries_by table.now starts.now) style l) result out.new }
 {
     let past = octets::append(out, at, marker);
     put_label(table, starts, style, l, out, past)
@@ -298,8 +298,8 @@ fn put_range(
     whole: bool,
     out: &mut [u8],
 ) -> usize
-    requires { length (rangeText (entriesBy table.now starts.now) style x whole) ≤ length out.old }
-    ensures { Put out.old 0 (rangeText (entriesBy table.now starts.now) style x whole) result out.new }
+    requires { length (range_text (entries_by table.now starts.now) style x whole) ≤ length out.old }
+    ensures { Put out.old 0 (range_text (entries_by table.now starts.now) style x whole) result out.new }
 {
     let past = put_marked(table, starts, style, b"-L ", x.low, out, 0);
     if whole {
@@ -317,7 +317,7 @@ fn write_ends(
     whole: bool,
     out: &mut [u8],
 ) -> Written
-    ensures { WrittenTo result (require (rangeNamed (entriesBy table.now starts.now) style x whole) 2 (granted (rangeText (entriesBy table.now starts.now) style x whole))) out.old out.new }
+    ensures { WrittenTo result (require (range_named (entries_by table.now starts.now) style x whole) 2 (granted (range_text (entries_by table.now starts.now) style x whole))) out.old out.new }
 {
     let w = room(measure_range(table, starts, style, x, whole), out.len());
     if let Written::Length(_) = w {
@@ -328,7 +328,7 @@ fn write_ends(
 
 // What was written with its status: 0 with both ends, 1 with the low end only, and 0 beside a refusal.
 fn with_status(whole: bool, written: Written) -> RangeWritten
-    ensures { (result.written ≡ written) × (result.status ≡ cond (isGranted (written_of written)) (statusOf whole) 0) }
+    ensures { (result.written ≡ written) × (result.status ≡ cond (is_granted (written_of written)) (status_of whole) 0) }
 {
     match written {
         Written::Length(_) => {
@@ -350,7 +350,7 @@ pub fn write_range(
     x: Range,
     out: &mut [u8],
 ) -> RangeWritten
-    ensures { RangeWrittenTo result (withTable more table.now (λ es. writeRangeOf es caller style x)) out.old out.new }
+    ensures { RangeWrittenTo result (with_table more table.now (λ es. write_range_of es caller style x)) out.old out.new }
 {
     let t = alias::check(table, more);
     let outcome = t.outcome;

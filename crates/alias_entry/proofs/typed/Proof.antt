@@ -13,11 +13,11 @@ returns c =
     let name : (i : ℕ) → Fits w8 (byte_at c.args.e.name.bytes i) = λ i. search rules in
     let abbreviation : (i : ℕ) → Fits w8 (byte_at c.args.e.abbreviation.bytes i) = λ i. search rules in
     record {
-      label = record { hierarchy = search rules; length-is = search rules; word = λ i. (word i).fits };
-      name-size = search rules;
-      name-byte = λ i. (name i).fits;
-      abbreviation-size = search rules;
-      abbreviation-byte = λ i. (abbreviation i).fits;
+      label = record { hierarchy = search rules; length_is = search rules; word = λ i. (word i).fits };
+      name_has_size = search rules;
+      name_byte = λ i. (name i).fits;
+      abbreviation_has_size = search rules;
+      abbreviation_byte = λ i. (abbreviation i).fits;
     }
 
 pub typed_spec : {M : Type 1} → statement M

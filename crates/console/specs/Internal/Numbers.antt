@@ -5,15 +5,15 @@ use Rattle.console.specs.declared.command.Number.{Number}
 use Rattle.console.specs.declared.command.Number.TheVariants.{Value, Bad}
 
 -- what the enum Number says
-abbrev pub numberReadOf : Number → Option ℕ
-numberReadOf (Value v) = some v
-numberReadOf Bad = none
+abbrev pub number_read_of : Number → Option ℕ
+number_read_of (Value v) = some v
+number_read_of Bad = none
 
 -- r is how many bytes bs has, and that is at most n
 pub record ByteCount (n : ℕ) (bs : List ℕ) (r : ℕ) : Type 0 where
   pub count : r ≡ length bs
-  pub at-most : r ≤ n
+  pub at_most_lem : r ≤ n
 
 -- the most bytes that a number below 2 ^ 64 takes
-abbrev pub numberBytes : ℕ
-numberBytes = 20
+abbrev pub number_bytes : ℕ
+number_bytes = 20

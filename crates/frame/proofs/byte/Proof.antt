@@ -1,13 +1,13 @@
 use Rattle.std.proofs.Common.{sym, ◌∙◌, arith, rules}
-use Rattle.frame.proofs.FrameLoops.{body_at, body-past}
+use Rattle.frame.proofs.FrameLoops.{body_at, body_past}
 use Rattle.frame.proofs.byte.Statement.{statement}
 use Rattle.frame.proofs.byte.Tie as tie
 
 returns : tie.Need-returns
-returns c = sym (body-past _ _ (omega arith))
+returns c = sym (body_past _ _ (omega arith))
 
 returns-2 : tie.Need-returns-2
-returns-2 c = sym (body-past _ _ c.if2.true)
+returns-2 c = sym (body_past _ _ c.if2.true)
 
 returns-3 : tie.Need-returns-3
 returns-3 c = c.byte_at.ensures ∙ sym (body_at _ _ c.before.if2.false)

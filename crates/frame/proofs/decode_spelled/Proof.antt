@@ -1,8 +1,8 @@
--- What fills the buffer is the body (`filled`), and its sum with the last byte is that of all bytes (`framed-by`).
+-- What fills the buffer is the body (`filled`), and its sum with the last byte is that of all bytes (`framed_by`).
 use Rattle.std.proofs.Common.{◌≡◌, ℕ, ◌+◌, ◌%◌, eqb, List, length, get_or, take, ap, ◌∙◌, ap₂, arith, rules}
 use Rattle.frame.specs.Frame.{body_of, bytes_of, sum_of}
-use Rattle.frame.proofs.FrameLaws.{body-length}
-use Rattle.frame.proofs.FrameLoops.{body-taken, framed-by}
+use Rattle.frame.proofs.FrameLaws.{body_length}
+use Rattle.frame.proofs.FrameLoops.{body_taken, framed_by}
 use Rattle.frame.proofs.decode_spelled.Statement.{statement}
 use Rattle.frame.proofs.decode_spelled.Tie as tie
 
@@ -12,8 +12,8 @@ filled : (f : tie.After-fill) {xs : List ℕ} → let a = f.before.before.before
 filled f e =
     let s = f.before.before.before.before in
     let line = s.args.line.now in
-    let b = e ∙ body-taken line (length s.args.out.now) s.requires.1 in
-    (b, omega (arith, ap length b, body-length line, s.requires.1))
+    let b = e ∙ body_taken line (length s.args.out.now) s.requires.1 in
+    (b, omega (arith, ap length b, body_length line, s.requires.1))
 
 byte-at-requires : tie.Need-byte-at-requires
 byte-at-requires c κs =
@@ -32,7 +32,7 @@ returns c =
     let line = s.args.line.now in
     let e = filled f f.fill.ensures in (
       c.sums-up.ensures ∙ ap₂ (λ (l : List ℕ) (x : ℕ). eqb ((sum_of l + x) % 256) 0) e.0 (b.byte_at.ensures ∙ ap (λ (n : ℕ). get_or (bytes_of line) n 0) e.1)
-          ∙ framed-by line (length s.args.out.now) s.requires.1 s.requires.0,
+          ∙ framed_by line (length s.args.out.now) s.requires.1 s.requires.0,
       e.0,
     )
 

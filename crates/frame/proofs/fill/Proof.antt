@@ -1,8 +1,8 @@
--- The blocks have filled the front; each turn adds the next byte of the line (`front-next`) until the buffer is full.
+-- The blocks have filled the front; each turn adds the next byte of the line (`front_next`) until the buffer is full.
 use Rattle.std.proofs.Common.{◌≡◌, ℕ, ◌-◌, ◌≤◌, length, take, sym, refl, ap, ◌∙◌, arith, length-set, take_all, rules}
 use Rattle.frame.specs.Frame.{bytes_of}
-use Rattle.frame.proofs.FrameLaws.{bytes-length}
-use Rattle.frame.proofs.FrameLoops.{front-next}
+use Rattle.frame.proofs.FrameLaws.{bytes_length}
+use Rattle.frame.proofs.FrameLoops.{front_next}
 use Rattle.frame.proofs.fill.Statement.{statement}
 use Rattle.frame.proofs.fill.Tie as tie
 
@@ -30,7 +30,7 @@ loop-again c =
     let line = s.args.line.now in
     let n = h.loop.invariant.2 in (
       omega arith,
-      front-next (bytes_of line) h.loop.out h.loop.i _ (omega (arith, bytes-length line, s.requires, b.fill-blocks.ensures.1)) (omega arith) h.loop.invariant.1 c.byte_at.ensures,
+      front_next (bytes_of line) h.loop.out h.loop.i _ (omega (arith, bytes_length line, s.requires, b.fill-blocks.ensures.1)) (omega arith) h.loop.invariant.1 c.byte_at.ensures,
       length-set h.loop.out _ _ ∙ n,
     )
 

@@ -1,9 +1,9 @@
--- A block of the line's bytes is made first; each turn stores one of them, so that one byte more of the front is the line's (`front-next`).
+-- A block of the line's bytes is made first; each turn stores one of them, so that one byte more of the front is the line's (`front_next`).
 use Rattle.std.proofs.Common.{◌≡◌, ℕ, ◌+◌, ◌-◌, ◌≤◌, List, length, get_or, take, refl, ap, ◌∙◌, add-zero, arith, length-set, rules}
-use Rattle.common.proofs.IndexLaws.{tabulate-at}
+use Rattle.common.proofs.IndexLaws.{tabulate_at}
 use Rattle.frame.specs.Frame.{bytes_of}
-use Rattle.frame.proofs.FrameLaws.{bytes-length}
-use Rattle.frame.proofs.FrameLoops.{front-next}
+use Rattle.frame.proofs.FrameLaws.{bytes_length}
+use Rattle.frame.proofs.FrameLoops.{front_next}
 use Rattle.frame.proofs.fill_block.Statement.{statement}
 use Rattle.frame.proofs.fill_block.Tie as tie
 
@@ -32,11 +32,11 @@ loop-again c =
     let line = s.args.line.now in
     let i = s.args.i in
     let k = h.loop.k in
-    let l = bytes-length line in
+    let l = bytes_length line in
     let e : i + (k + 1) ≡ i + k + 1 = omega arith in
-    let v = ap (λ (bs : List ℕ). get_or bs k 0) b.bytes-from.ensures ∙ tabulate-at (λ j. get_or (bytes_of line) (i + j) 0) 16 k 0 c.loop-test.true in (
+    let v = ap (λ (bs : List ℕ). get_or bs k 0) b.bytes-from.ensures ∙ tabulate_at (λ j. get_or (bytes_of line) (i + j) 0) 16 k 0 c.loop-test.true in (
       search rules,
-      rw e (front-next (bytes_of line) h.loop.out (i + k) _ (omega (arith, p.0, p.1)) (omega (arith, p.1)) h.loop.invariant.1 v),
+      rw e (front_next (bytes_of line) h.loop.out (i + k) _ (omega (arith, p.0, p.1)) (omega (arith, p.1)) h.loop.invariant.1 v),
       length-set h.loop.out _ _ ∙ n,
     )
 

@@ -1,10 +1,10 @@
 use Rattle.std.proofs.Common.{refl, rules}
-use Rattle.frame.specs.Frame.{digitValue}
+use Rattle.frame.specs.Frame.{digit_value}
 use Rattle.frame.proofs.pair_value.Statement.{statement}
 use Rattle.frame.proofs.pair_value.Tie as tie
 
 returns : tie.Need-returns
-unfolding digitValue
+unfolding digit_value
 returns c = refl
 
 pub pair-value-spec : {M : Type 1} → statement M

@@ -1,10 +1,10 @@
 use borrow.Author.Rules.{rules}
-use Rattle.hexline.specs.Line.{bodyForm}
+use Rattle.hexline.specs.Line.{body_form}
 use Rattle.hexline.proofs.has_form.Statement.{statement}
 use Rattle.hexline.proofs.has_form.Tie as tie
 
 returns : tie.Need-returns
-unfolding bodyForm
+unfolding body_form
 returns c = rw c.byte.ensures
 
 pub has-form-spec : {M : Type 1} → statement M

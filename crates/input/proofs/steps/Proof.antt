@@ -8,14 +8,14 @@ use native.Mathlib.Omega.{arith}
 use lib.Dec.{ltb}
 use lib.ListN.{length}
 use borrow.Author.Tests.{lt-ltb, ltb-true}
-use Rattle.input.specs.Input.{Steps, mostLines}
-use Rattle.input.proofs.InputLaws.{step-more}
+use Rattle.input.specs.Input.{Steps, most_lines}
+use Rattle.input.proofs.InputLaws.{step_more}
 use Rattle.input.proofs.steps.Statement.{statement}
 use Rattle.input.proofs.steps.Tie as tie
 
 abbrev invariant-loop : tie.invariant-loop
 invariant-loop chunk₀ line₀ t₀ turns₀ chunk line t turns =
-    (length chunk ≡ length chunk₀) × (length line ≡ length line₀) × (turns ≤ mostLines) × Steps (mostLines - turns) t₀.input chunk₀ line₀ t chunk line
+    (length chunk ≡ length chunk₀) × (length line ≡ length line₀) × (turns ≤ most_lines) × Steps (most_lines - turns) t₀.input chunk₀ line₀ t chunk line
 
 abbrev decreases-loop : tie.decreases-loop
 decreases-loop chunk₀ line₀ t₀ turns₀ chunk line t turns = turns
@@ -52,8 +52,8 @@ loop-again c =
     let a = l.before.before.before.args in
     let turns = l.loop.turns in
     let g = goes_on w.waits.result turns t.if1.true in
-    let more = step-more (mostLines - turns) a.i a.chunk.now a.line.now l.loop.t l.loop.chunk l.loop.line l.loop.invariant.3 (sym w.waits.ensures ∙ g.0) s.step.ensures in
-    let e : mostLines - (turns - 1) ≡ suc (mostLines - turns) = omega (arith, g.1) in
+    let more = step_more (most_lines - turns) a.i a.chunk.now a.line.now l.loop.t l.loop.chunk l.loop.line l.loop.invariant.3 (sym w.waits.ensures ∙ g.0) s.step.ensures in
+    let e : most_lines - (turns - 1) ≡ suc (most_lines - turns) = omega (arith, g.1) in
     (search rules, search rules, omega arith, rw e more)
 
 returns : tie.Need-returns invariant-loop decreases-loop
@@ -62,11 +62,11 @@ returns c =
     let l = w.before in
     let turns = l.loop.turns in
     record {
-      count = mostLines - turns;
+      count = most_lines - turns;
       steps = l.loop.invariant.3;
       done = λ h. sym w.waits.ensures ∙ stops w.waits.result turns c.if1.false (omega (arith, h));
-      same-chunk-length = l.loop.invariant.0;
-      same-line-length = l.loop.invariant.1;
+      same_chunk_length = l.loop.invariant.0;
+      same_line_length = l.loop.invariant.1;
     }
 
 pub steps-spec : {M : Type 1} → statement M

@@ -9,7 +9,7 @@ use Rattle.label.proofs.typed.Tie as tie
 returns : tie.Need-returns
 returns c =
     let fits : (i : ℕ) → Fits w64 (word_at c.args.a.categories i) = λ i. search rules in
-    record { hierarchy = search rules; length-is = search rules; word = λ i. (fits i).fits }
+    record { hierarchy = search rules; length_is = search rules; word = λ i. (fits i).fits }
 
 pub typed_spec : {M : Type 1} → statement M
 typed_spec = tie.close (tie.spec returns)

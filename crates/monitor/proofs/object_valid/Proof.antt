@@ -1,12 +1,12 @@
 use borrow.Author.Rules.{rules}
-use Rattle.monitor.specs.Monitor.{objectValid}
+use Rattle.monitor.specs.Monitor.{object_valid}
 use mathlib.Core.Bool.{and-true}
 use mathlib.Core.Path.{sym}
 use Rattle.monitor.proofs.object_valid.Statement.{statement}
 use Rattle.monitor.proofs.object_valid.Tie as tie
 
 returns : tie.Need-returns
-unfolding objectValid
+unfolding object_valid
 returns c = rw (c.valid.ensures, c.before.before.before.requires) (sym (and-true _))
 
 pub object-valid-spec : {M : Type 1} → statement M

@@ -1,31 +1,31 @@
--- The privileges that a request needs, by which the code decides. That this is document 01's table is the law `decide-needed`: nothing here
+-- The privileges that a request needs, by which the code decides. That this is document 01's table is the law `decide_needed`: nothing here
 -- has to be believed.
 use Rattle.std.specs.Prelude.{Bool, cond, not, ◌&&◌, ◌||◌, ℕ}
 use Rattle.common.specs.Answer.{Answer, granted, require}
-use Rattle.monitor.specs.Monitor.{asks, destructiveRead, intentExecute, intentGet, intentRead, intentSearch, intentSet, intentWrite, metOf}
+use Rattle.monitor.specs.Monitor.{asks, destructive_read, intent_execute, intent_get, intent_read, intent_search, intent_set, intent_write, met_of}
 use Rattle.monitor.specs.declared.Access.TheVariants.{Observe, Modify}
 use Rattle.monitor.specs.declared.ObjectClass.{ObjectClass}
 use Rattle.monitor.specs.declared.Privileges.{Privileges}
 use Rattle.monitor.specs.declared.Request.{Request}
 
 -- whether a row that observes is asked for
-unfoldable pub observesOf : ℕ → Bool
-observesOf intents = asks intents intentRead || asks intents intentExecute || asks intents intentSearch || asks intents intentGet
+unfoldable pub observes_of : ℕ → Bool
+observes_of intents = asks intents intent_read || asks intents intent_execute || asks intents intent_search || asks intents intent_get
 
 -- whether a row that modifies is asked for
-unfoldable pub modifiesOf : ℕ → ObjectClass → Bool
-modifiesOf intents c = asks intents intentWrite || (asks intents intentRead && destructiveRead c) || asks intents intentSet
+unfoldable pub modifies_of : ℕ → ObjectClass → Bool
+modifies_of intents c = asks intents intent_write || (asks intents intent_read && destructive_read c) || asks intents intent_set
 
-unfoldable pub neededOf : Request → Privileges
-neededOf r =
+unfoldable pub needed_of : Request → Privileges
+needed_of r =
     record {
-      read = observesOf r.intents && not (metOf r.credentials.label r.object Observe);
-      write = modifiesOf r.intents r.object.class && not (metOf r.credentials.label r.object Modify);
-      relabel = asks r.intents intentSet;
+      read = observes_of r.intents && not (met_of r.credentials.label r.object Observe);
+      write = modifies_of r.intents r.object.class && not (met_of r.credentials.label r.object Modify);
+      relabel = asks r.intents intent_set;
     }
 
 -- what is answered to a valid request that needs n, where p is there
-unfoldable pub answerBy : Privileges → Privileges → Answer ℕ
-answerBy n p =
+unfoldable pub answer_by : Privileges → Privileges → Answer ℕ
+answer_by n p =
     require (not (n.read && not p.read || n.write && not p.write)) 13
     (require (not (n.relabel && not p.relabel)) 1 (granted (cond (n.read || n.write || n.relabel) 1 0)))

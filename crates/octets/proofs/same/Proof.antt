@@ -4,13 +4,13 @@ use mathlib.Core.Path.{◌≡◌, refl, sym, ◌∙◌}
 use Prim.Native.Nat.{◌-◌, ◌≤◌}
 use native.Mathlib.Omega.{arith}
 use lib.ListN.{drop, length}
-use Rattle.octets.specs.Bytes.{sameBytes}
-use Rattle.octets.proofs.ByteLaws.{lengths_differ, same_end, same-pass, same_stop}
+use Rattle.octets.specs.Bytes.{same_bytes}
+use Rattle.octets.proofs.ByteLaws.{lengths_differ, same_end, same_pass, same_stop}
 use Rattle.octets.proofs.same.Statement.{statement}
 use Rattle.octets.proofs.same.Tie as tie
 
 abbrev invariant-loop : tie.invariant-loop
-invariant-loop xs ys i₀ i = (i ≤ length xs) × (sameBytes xs ys ≡ sameBytes (drop i xs) (drop i ys))
+invariant-loop xs ys i₀ i = (i ≤ length xs) × (same_bytes xs ys ≡ same_bytes (drop i xs) (drop i ys))
 
 abbrev decreases-loop : tie.decreases-loop
 decreases-loop xs ys i₀ i = length xs - i
@@ -31,7 +31,7 @@ loop-again : tie.Need-loop-preserved invariant-loop decreases-loop
 loop-again c =
     let h = c.before.before.before.before in
     let a = h.before.before.args in
-    (search rules, h.loop.invariant.1 ∙ same-pass a.xs.now a.ys.now h.loop.i (omega arith) (omega arith) c.if2.false)
+    (search rules, h.loop.invariant.1 ∙ same_pass a.xs.now a.ys.now h.loop.i (omega arith) (omega arith) c.if2.false)
 
 returns-3 : tie.Need-returns-3 invariant-loop decreases-loop
 returns-3 c =

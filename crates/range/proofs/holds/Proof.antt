@@ -1,10 +1,10 @@
 use borrow.Author.Rules.{rules}
-use Rattle.range.specs.Range.{containsOf}
+use Rattle.range.specs.Range.{contains_of}
 use Rattle.range.proofs.holds.Statement.{statement}
 use Rattle.range.proofs.holds.Tie as tie
 
 returns : tie.Need-returns
-unfolding containsOf
+unfolding contains_of
 returns c = cc
 
 pub holds-spec : {M : Type 1} → statement M

@@ -11,8 +11,8 @@ returns c =
     let low : (i : ℕ) → Fits w64 (word_at c.args.x.low.categories i) = λ i. search rules in
     let high : (i : ℕ) → Fits w64 (word_at c.args.x.high.categories i) = λ i. search rules in
     record {
-      low = record { hierarchy = search rules; length-is = search rules; word = λ i. (low i).fits };
-      high = record { hierarchy = search rules; length-is = search rules; word = λ i. (high i).fits };
+      low = record { hierarchy = search rules; length_is = search rules; word = λ i. (low i).fits };
+      high = record { hierarchy = search rules; length_is = search rules; word = λ i. (high i).fits };
     }
 
 pub typed_spec : {M : Type 1} → statement M

@@ -5,11 +5,11 @@ use Rattle.segment_table.specs.declared.slots.Remaining.{Remaining}
 use Rattle.segment_table.specs.declared.slots.Remaining.TheVariants.{Pages, Exceeded}
 
 -- what the enum Remaining says
-abbrev pub remainingOf : Remaining → Option ℕ
-remainingOf (Pages n) = some n
-remainingOf Exceeded = none
+abbrev pub remaining_of : Remaining → Option ℕ
+remaining_of (Pages n) = some n
+remaining_of Exceeded = none
 
 -- whether the limit is kept
-abbrev pub keptIn : Option ℕ → Bool
-keptIn none = false
-keptIn (some left) = true
+abbrev pub kept_in : Option ℕ → Bool
+kept_in none = false
+kept_in (some left) = true

@@ -4,11 +4,11 @@ use Rattle.std.proofs.Math.Option.{Option, none, some}
 use Rattle.common.specs.Answer.{Answer, granted, refused}
 use Rattle.label.specs.Words.{words}
 use Rattle.range.specs.declared.Range.{Range}
-use Rattle.alias_entry.specs.Entry.{nameSize}
-use Rattle.hexline.specs.Line.{abbreviationIn, nameIn}
+use Rattle.alias_entry.specs.Entry.{name_size}
+use Rattle.hexline.specs.Line.{abbreviation_in, name_in}
 use Rattle.alias_entry.specs.declared.Entry.{Entry}
 use Rattle.alias_entry.specs.declared.bytes.Span.{Span}
-use Rattle.text.specs.Write.{allNamed, hiddenHigh, highMarker, labelText, lowMarker}
+use Rattle.text.specs.Write.{all_named, hidden_high, high_marker, label_text, low_marker}
 use Rattle.text.specs.declared.Style.{Style}
 use Rattle.text.specs.declared.Variant.{Variant}
 use Rattle.text.specs.declared.Variant.TheVariants.{Names, Abbreviations}
@@ -16,49 +16,49 @@ use Rattle.text.specs.declared.name.Measure.{Measure}
 use Rattle.text.specs.declared.name.Measure.TheVariants.{Bytes, Missing}
 
 -- what the enum Measure says
-abbrev pub measureOf : Measure → Option ℕ
-measureOf (Bytes n) = some n
-measureOf Missing = none
+abbrev pub measure_of : Measure → Option ℕ
+measure_of (Bytes n) = some n
+measure_of Missing = none
 
 -- what is answered of a text of a measure where a buffer has room for so many bytes
-abbrev pub roomOf : Option ℕ → ℕ → Answer ℕ
-roomOf none room = refused 2 none
-roomOf (some n) room = cond (leb n room) (granted n) (refused 7 (some n))
+abbrev pub room_of : Option ℕ → ℕ → Answer ℕ
+room_of none room = refused 2 none
+room_of (some n) room = cond (leb n room) (granted n) (refused 7 (some n))
 
 -- where the name that is written stands in the line of an entry
-unfoldable pub writtenIn : Variant → List ℕ → Span
-writtenIn Names line = nameIn line
-writtenIn Abbreviations line = cond (leb 1 (abbreviationIn line).length) (abbreviationIn line) (nameIn line)
+unfoldable pub written_in : Variant → List ℕ → Span
+written_in Names line = name_in line
+written_in Abbreviations line = cond (leb 1 (abbreviation_in line).length) (abbreviation_in line) (name_in line)
 
 -- bounds on the bytes of the names of categories with their marks, and of a label: as many as their arrays have
-abbrev pub maxCategories : ℕ
-maxCategories = words * 64 * (1 + nameSize)
+abbrev pub max_categories : ℕ
+max_categories = words * 64 * (1 + name_size)
 
-abbrev pub maxLabel : ℕ
-maxLabel = nameSize + maxCategories
+abbrev pub max_label : ℕ
+max_label = name_size + max_categories
 
 -- a range that is shown with both ends, or with the low end only: whether all names are there, its text, its status, and the most bytes
-abbrev pub highNamed : List Entry → Style → Range → Bool → Bool
-highNamed es style x true = allNamed es style x.high
-highNamed es style x false = true
+abbrev pub high_named : List Entry → Style → Range → Bool → Bool
+high_named es style x true = all_named es style x.high
+high_named es style x false = true
 
-abbrev pub highText : List Entry → Style → Range → Bool → List ℕ
-highText es style x true = highMarker ++ labelText es style x.high
-highText es style x false = hiddenHigh
+abbrev pub high_text : List Entry → Style → Range → Bool → List ℕ
+high_text es style x true = high_marker ++ label_text es style x.high
+high_text es style x false = hidden_high
 
-abbrev pub rangeNamed : List Entry → Style → Range → Bool → Bool
-rangeNamed es style x whole = allNamed es style x.low && highNamed es style x whole
+abbrev pub range_named : List Entry → Style → Range → Bool → Bool
+range_named es style x whole = all_named es style x.low && high_named es style x whole
 
-abbrev pub rangeText : List Entry → Style → Range → Bool → List ℕ
-rangeText es style x whole = lowMarker ++ labelText es style x.low ++ highText es style x whole
+abbrev pub range_text : List Entry → Style → Range → Bool → List ℕ
+range_text es style x whole = low_marker ++ label_text es style x.low ++ high_text es style x whole
 
-abbrev pub statusOf : Bool → ℕ
-statusOf whole = cond whole 0 1
+abbrev pub status_of : Bool → ℕ
+status_of whole = cond whole 0 1
 
-abbrev pub maxRange : ℕ
-maxRange = 7 + maxLabel + maxLabel
+abbrev pub max_range : ℕ
+max_range = 7 + max_label + max_label
 
 -- r is the length of a text where all its names are there. The second follows, and is stated for callers
-pub record MeasuredText (isNamed : Bool) (text : List ℕ) (most : ℕ) (r : Measure) : Type 0 where
-  pub measure : measureOf r ≡ cond isNamed (some (length text)) none
-  pub at-most : (n : ℕ) → r ≡ Bytes n → n ≤ most
+pub record MeasuredText (is_named : Bool) (text : List ℕ) (most : ℕ) (r : Measure) : Type 0 where
+  pub measure : measure_of r ≡ cond is_named (some (length text)) none
+  pub at_most_lem : (n : ℕ) → r ≡ Bytes n → n ≤ most

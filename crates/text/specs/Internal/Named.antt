@@ -1,22 +1,22 @@
 -- What a name stands for, for functions that are not public.
 use Rattle.std.specs.Prelude.{not, List, ℕ}
 use Rattle.common.specs.Answer.{Answer, and_then, granted, require}
-use Rattle.label.specs.Words.{includesOf, singleOf, unionOf}
+use Rattle.label.specs.Words.{includes_of, single_of, union_of}
 use Rattle.alias_entry.specs.declared.Entry.{Entry}
 use Rattle.alias_entry.specs.declared.Value.{Value}
-use Rattle.text.specs.Read.{categoryNamed, entryNamed, plain}
+use Rattle.text.specs.Read.{category_named, entry_named, plain}
 use Rattle.text.specs.declared.read.Named.{Named}
 use Rattle.text.specs.declared.read.Named.TheVariants.{As, Nothing}
 
 -- what the enum Named says
-abbrev pub valueNamedOf : Named → Answer Value
-valueNamedOf (As v) = granted v
-valueNamedOf Nothing = plain
+abbrev pub value_named_of : Named → Answer Value
+value_named_of (As v) = granted v
+value_named_of Nothing = plain
 
-unfoldable pub valueNamed : List Entry → List ℕ → Answer Value
-valueNamed es text = and_then (entryNamed es text) (λ (e : Entry). granted e.value)
+unfoldable pub value_named : List Entry → List ℕ → Answer Value
+value_named es text = and_then (entry_named es text) (λ (e : Entry). granted e.value)
 
 -- a set with the category that a name stands for, which it must not have yet
-unfoldable pub addedTo : List Entry → List ℕ → List ℕ → Answer (List ℕ)
-addedTo es ws name =
-    and_then (categoryNamed es name) (λ (c : ℕ). require (not (includesOf ws (singleOf c))) 22 (granted (unionOf ws (singleOf c))))
+unfoldable pub added_to : List Entry → List ℕ → List ℕ → Answer (List ℕ)
+added_to es ws name =
+    and_then (category_named es name) (λ (c : ℕ). require (not (includes_of ws (single_of c))) 22 (granted (union_of ws (single_of c))))

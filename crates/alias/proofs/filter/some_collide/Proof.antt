@@ -6,7 +6,7 @@ use mathlib.Core.Path.{sym, ◌∙◌}
 use Prim.Native.Nat.{◌-◌}
 use native.Mathlib.Omega.{arith}
 use borrow.Author.Count.{below_more}
-use Rattle.alias.proofs.HashLaws.{Filtering, filter-next, filter_none}
+use Rattle.alias.proofs.HashLaws.{Filtering, filter_next, filter_none}
 use Rattle.alias.proofs.filter.some_collide.Statement.{statement}
 use Rattle.alias.proofs.filter.some_collide.Tie as tie
 
@@ -37,7 +37,7 @@ loop-again c =
     let v = h.loop.invariant in
     record {
       upto = omega arith;
-      hashes = filter-next v.hashes a.insert.ensures c.insert2.ensures;
+      hashes = filter_next v.hashes a.insert.ensures c.insert2.ensures;
       clear = below_more _ _ v.clear (sym e.before.collides.ensures ∙ e.if2.false);
     }
 

@@ -4,16 +4,16 @@ use mathlib.Core.Option.{some}
 use mathlib.Core.Path.{◌≡◌, sym, ◌∙◌}
 use Prim.Native.Nat.{◌+◌, ◌-◌}
 use native.Mathlib.Omega.{arith}
-use Rattle.common.specs.Index.{firstFrom}
-use Rattle.common.proofs.SearchLaws.{search-end}
-use Rattle.alias.specs.Lines.{entriesBy}
-use Rattle.alias.specs.Lookup.{calledOf, findOf}
-use Rattle.alias.proofs.LookupLaws.{calledAt, entry-step, search-start}
+use Rattle.common.specs.Index.{first_from}
+use Rattle.common.proofs.SearchLaws.{search_end}
+use Rattle.alias.specs.Lines.{entries_by}
+use Rattle.alias.specs.Lookup.{called_of, find_of}
+use Rattle.alias.proofs.LookupLaws.{called_at, entry_step, search_start}
 use Rattle.alias.proofs.lookup.find.Statement.{statement}
 use Rattle.alias.proofs.lookup.find.Tie as tie
 
 abbrev invariant-loop : tie.invariant-loop
-invariant-loop table starts text n k₀ k = findOf (entriesBy table starts) text ≡ firstFrom (calledAt (entriesBy table starts) text) k (n - k)
+invariant-loop table starts text n k₀ k = find_of (entries_by table starts) text ≡ first_from (called_at (entries_by table starts) text) k (n - k)
 
 abbrev decreases-loop : tie.decreases-loop
 decreases-loop table starts text n k₀ k = n - k
@@ -22,18 +22,18 @@ decreases-loop table starts text n k₀ k = n - k
 told : (c : tie.After-called invariant-loop decreases-loop) (b : Bool) → c.called.result ≡ b
     → let h = c.before.before.before in
     let a = h.before.before.before.before.before.args in
-    let es = entriesBy a.table.now a.starts.now in
-    findOf es a.text.now ≡ cond b (some h.loop.k) (firstFrom (calledAt es a.text.now) (h.loop.k + 1) (h.before.count.result - (h.loop.k + 1)))
+    let es = entries_by a.table.now a.starts.now in
+    find_of es a.text.now ≡ cond b (some h.loop.k) (first_from (called_at es a.text.now) (h.loop.k + 1) (h.before.count.result - (h.loop.k + 1)))
 told c b e =
     let h = c.before.before.before in
     let a = h.before.before.before.before.before.args in
-    h.loop.invariant ∙ entry-step a.table.now a.starts.now (λ e. calledOf e a.text.now) h.loop.k _ b (omega arith) (omega arith) c.before.line.ensures c.called.ensures e
+    h.loop.invariant ∙ entry_step a.table.now a.starts.now (λ e. called_of e a.text.now) h.loop.k _ b (omega arith) (omega arith) c.before.line.ensures c.called.ensures e
 
 loop-holds : tie.Need-loop-init invariant-loop decreases-loop
-unfolding findOf
+unfolding find_of
 loop-holds c =
     let a = c.before.before.before.before.args in
-    search-start a.table.now a.starts.now _ c.count.ensures
+    search_start a.table.now a.starts.now _ c.count.ensures
 
 returns : tie.Need-returns invariant-loop decreases-loop
 returns c = sym (told c.before true c.if1.true)
@@ -42,7 +42,7 @@ loop-again : tie.Need-loop-preserved invariant-loop decreases-loop
 loop-again c = told c.before false c.if1.false
 
 returns-2 : tie.Need-returns-2 invariant-loop decreases-loop
-returns-2 c = let h = c.before in sym (h.loop.invariant ∙ search-end _ h.loop.k _ (omega arith))
+returns-2 c = let h = c.before in sym (h.loop.invariant ∙ search_end _ h.loop.k _ (omega arith))
 
 pub find_spec : {M : Type 1} → statement M
 find_spec =

@@ -2,13 +2,13 @@ use borrow.Author.Rules.{rules}
 use mathlib.Core.Path.{sym, ◌∙◌}
 use native.Mathlib.Omega.{arith}
 use Rattle.alias.specs.Lines.{part_at}
-use Rattle.alias.proofs.LookupLaws.{lines_at, lines-past}
+use Rattle.alias.proofs.LookupLaws.{lines_at, lines_past}
 use Rattle.alias.proofs.lookup.line.Statement.{statement}
 use Rattle.alias.proofs.lookup.line.Tie as tie
 
 returns : tie.Need-returns
 returns c =
-    let a = c.before.before.before.before.before.args in sym (lines-past a.table.now a.starts.now a.k (omega arith))
+    let a = c.before.before.before.before.before.args in sym (lines_past a.table.now a.starts.now a.k (omega arith))
 
 returns-2 : tie.Need-returns-2
 unfolding part_at

@@ -7,7 +7,7 @@ returns : tie.Need-returns
 unfolding layout_of
 returns c =
     let s = c.before.before in
-    (rw (c.span-in2.ensures.0, s.span-in.ensures.0, s.before.value-size.ensures.0, s.before.before.byte.ensures), search rules)
+    (rw (c.span-in2.ensures.0, s.span-in.ensures.0, s.before.value_size_lem.ensures.0, s.before.before.byte.ensures), search rules)
 
 pub layout-from-spec : {M : Type 1} → statement M
 layout-from-spec =

@@ -1,25 +1,25 @@
--- The code tests at once whether the label fits its bytes and these the buffer, which is what `code-left-out` and `code_put` go by.
+-- The code tests at once whether the label fits its bytes and these the buffer, which is what `code_left_out` and `code_put` go by.
 use borrow.Author.Rules.{rules}
 use mathlib.Core.Bool.{◌&&◌}
 use mathlib.Core.Path.{sym, ap₂, ◌∙◌}
 use native.Mathlib.Omega.{arith}
-use Rattle.common.proofs.BoolLaws.{first-true, told-false, told-true}
-use Rattle.codec.specs.Body.{labelBytes}
-use Rattle.codec.specs.Codec.{labelCode, labelFits, width}
-use Rattle.codec.proofs.BodyLaws.{label-length}
-use Rattle.codec.proofs.BodyLoops.{code-left-out, code_put, code-room}
+use Rattle.common.proofs.BoolLaws.{first_true, told_false, told_true}
+use Rattle.codec.specs.Body.{label_bytes}
+use Rattle.codec.specs.Codec.{label_code, label_fits, width}
+use Rattle.codec.proofs.BodyLaws.{label_length}
+use Rattle.codec.proofs.BodyLoops.{code_left_out, code_put, code_room}
 use Rattle.codec.proofs.labels.append_label.Statement.{statement}
 use Rattle.codec.proofs.labels.append_label.Tie as tie
 
 returns : tie.Need-returns
-unfolding labelCode
+unfolding label_code
 returns c =
     let f = c.before in
     let z = f.before in
     let t = z.before in
     let a = t.before.before.args in
-    code-left-out a.out.now a.at (labelBytes (width a.words) a.l) (labelFits a.l) z.label-size.result
-    (label-length (width a.words) a.l ∙ sym z.label-size.ensures.0) (told-false (ap₂ ◌&&◌ t.label-fits.ensures f.fits2.ensures) c.if1.true)
+    code_left_out a.out.now a.at (label_bytes (width a.words) a.l) (label_fits a.l) z.label-size.result
+    (label_length (width a.words) a.l ∙ sym z.label-size.ensures.0) (told_false (ap₂ ◌&&◌ t.label-fits.ensures f.fits2.ensures) c.if1.true)
 
 put-label-requires : tie.Need-put-label-requires
 put-label-requires c κs =
@@ -28,14 +28,14 @@ put-label-requires c κs =
     let z = f.before in
     let t = z.before in
     let a = t.before.before.args in
-    let e = told-true (ap₂ ◌&&◌ t.label-fits.ensures f.fits2.ensures) b.if1.false in
-    let n = label-length (width a.words) a.l in
+    let e = told_true (ap₂ ◌&&◌ t.label-fits.ensures f.fits2.ensures) b.if1.false in
+    let n = label_length (width a.words) a.l in
     let w = c.width.ensures.0 in
-    let r = code-room a.out.now a.at (labelBytes (width a.words) a.l) (labelFits a.l) z.label-size.result (n ∙ sym z.label-size.ensures.0) e in
-    (search rules, rw w (omega arith), first-true (labelFits a.l) _ e)
+    let r = code_room a.out.now a.at (label_bytes (width a.words) a.l) (label_fits a.l) z.label-size.result (n ∙ sym z.label-size.ensures.0) e in
+    (search rules, rw w (omega arith), first_true (label_fits a.l) _ e)
 
 returns-2 : tie.Need-returns-2
-unfolding labelCode
+unfolding label_code
 returns-2 c =
     let p = c.before.before in
     let w = p.before in
@@ -44,8 +44,8 @@ returns-2 c =
     let z = f.before in
     let t = z.before in
     let a = t.before.before.args in
-    code_put a.out.now a.at (labelBytes (width a.words) a.l) (labelFits a.l) z.label-size.result
-    (label-length (width a.words) a.l ∙ sym z.label-size.ensures.0) (told-true (ap₂ ◌&&◌ t.label-fits.ensures f.fits2.ensures) b.if1.false)
+    code_put a.out.now a.at (label_bytes (width a.words) a.l) (label_fits a.l) z.label-size.result
+    (label_length (width a.words) a.l ∙ sym z.label-size.ensures.0) (told_true (ap₂ ◌&&◌ t.label-fits.ensures f.fits2.ensures) b.if1.false)
     (rw w.width.ensures.0 at p.put-label.ensures)
 
 pub append-label-spec : {M : Type 1} → statement M

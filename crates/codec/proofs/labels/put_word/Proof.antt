@@ -4,8 +4,8 @@ use Prim.Native.Nat.{ℕ, ◌≤◌, ◌+◌, ◌-◌, ◌/◌, ◌%◌, ◌^◌
 use native.Mathlib.Omega.{arith}
 use Rattle.common.specs.Index.{tabulate}
 use Rattle.octets.specs.Internal.Put.{Put}
-use Rattle.codec.proofs.BodyLoops.{put_next, put-none, put-size}
-use Rattle.codec.proofs.NumberLaws.{pow-byte}
+use Rattle.codec.proofs.BodyLoops.{put_next, put_none, put_size}
+use Rattle.codec.proofs.NumberLaws.{pow_byte}
 use Rattle.codec.proofs.labels.put_word.Statement.{statement}
 use Rattle.codec.proofs.labels.put_word.Tie as tie
 
@@ -16,19 +16,19 @@ abbrev decreases-loop : tie.decreases-loop
 decreases-loop out₀ at w k₀ out k = 8 - k
 
 loop-holds : tie.Need-loop-init invariant-loop decreases-loop
-loop-holds c = (search rules, put-none _ _ _)
+loop-holds c = (search rules, put_none _ _ _)
 
 slice-write-out : tie.Need-slice-write-out invariant-loop decreases-loop
-slice-write-out c = let h = c.before in let n = put-size _ _ _ h.loop.out h.loop.k (omega arith) h.loop.invariant.1 in omega arith
+slice-write-out c = let h = c.before in let n = put_size _ _ _ h.loop.out h.loop.k (omega arith) h.loop.invariant.1 in omega arith
 
 loop-again : tie.Need-loop-preserved invariant-loop decreases-loop
 loop-again c =
     let h = c.before in
     let w = h.before.args.w in
-    (search rules, put_next _ _ _ h.loop.out h.loop.k _ (omega arith) (ap (λ (p : ℕ). w / p % 256) (pow-byte h.loop.k)) h.loop.invariant.1)
+    (search rules, put_next _ _ _ h.loop.out h.loop.k _ (omega arith) (ap (λ (p : ℕ). w / p % 256) (pow_byte h.loop.k)) h.loop.invariant.1)
 
 same_length : tie.Need-same-length invariant-loop decreases-loop
-same_length c = let h = c.before in put-size _ _ _ h.loop.out h.loop.k (omega arith) h.loop.invariant.1
+same_length c = let h = c.before in put_size _ _ _ h.loop.out h.loop.k (omega arith) h.loop.invariant.1
 
 returns : tie.Need-returns invariant-loop decreases-loop
 returns c = let h = c.before in let e : h.loop.k ≡ 8 = omega arith in rw e at h.loop.invariant.1

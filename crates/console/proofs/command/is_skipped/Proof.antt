@@ -7,17 +7,17 @@ use native.Mathlib.Omega.{arith}
 use lib.Dec.{eqb}
 use lib.ListN.{get_or, length}
 use Rattle.octets.specs.Bytes.{lf}
-use Rattle.console.specs.Command.{skippedOf}
+use Rattle.console.specs.Command.{skipped_of}
 use Rattle.console.proofs.command.is_skipped.Statement.{statement}
 use Rattle.console.proofs.command.is_skipped.Tie as tie
 
-no_bytes : (line : List ℕ) → length line ≡ 0 → false ≡ skippedOf line
-unfolding skippedOf
+no_bytes : (line : List ℕ) → length line ≡ 0 → false ≡ skipped_of line
+unfolding skipped_of
 no_bytes [] e = refl
 no_bytes (b ∷ bs) e = absurd (omega arith)
 
-by_first : (line : List ℕ) → (length line ≡ 0 → ⊥) → (eqb (get_or line 0 0) lf || eqb (get_or line 0 0) 35) ≡ skippedOf line
-unfolding skippedOf
+by_first : (line : List ℕ) → (length line ≡ 0 → ⊥) → (eqb (get_or line 0 0) lf || eqb (get_or line 0 0) 35) ≡ skipped_of line
+unfolding skipped_of
 by_first [] h = absurd (h refl)
 by_first (b ∷ bs) h = refl
 

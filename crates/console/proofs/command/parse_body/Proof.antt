@@ -3,15 +3,15 @@ use mathlib.Core.Path.{◌≡◌, refl, ap, ◌∙◌}
 use Prim.Native.Nat.{◌+◌, ◌-◌, ◌≤◌, ◌<◌}
 use native.Mathlib.Omega.{arith}
 use lib.ListN.{drop, length, replicate, take, length-drop, length-set}
-use Rattle.console.specs.Command.{bodyCommandOf, most}
-use Rattle.console.proofs.CommandLaws.{before-found, body-bad, body_end, body-full, body-next, body-start, commandFrom, zeros-next}
+use Rattle.console.specs.Command.{body_command_of, most}
+use Rattle.console.proofs.CommandLaws.{before_found, body_bad, body_end, body_full, body_next, body_start, command_from, zeros_next}
 use Rattle.console.proofs.command.parse_body.Statement.{statement}
 use Rattle.console.proofs.command.parse_body.Tie as tie
 
 abbrev invariant-loop : tie.invariant-loop
 invariant-loop body word at₀ count₀ numbers₀ at count numbers =
     (at ≤ length body) × (count ≤ most) × (length numbers ≡ most) × (drop count numbers ≡ replicate (most - count) 0)
-    × (bodyCommandOf body ≡ commandFrom word (take count numbers) (drop at body))
+    × (body_command_of body ≡ command_from word (take count numbers) (drop at body))
 
 abbrev decreases-loop : tie.decreases-loop
 decreases-loop body word at₀ count₀ numbers₀ at count numbers = length body - at
@@ -24,7 +24,7 @@ rest-length s = ap length s.rest.ensures ∙ length-drop (s.before.before.before
 loop-holds : tie.Need-loop-init invariant-loop decreases-loop
 loop-holds c =
     let body = c.before.before.args.body.now in
-    (c.index_of.ensures.within, omega arith, refl, refl, rw c.index_of.ensures.index (body-start body))
+    (c.index_of.ensures.within, omega arith, refl, refl, rw c.index_of.ensures.index (body_start body))
 
 add-at-2 : tie.Need-overflow-add-at-2 invariant-loop decreases-loop
 add-at-2 c = omega (arith, rest-length c.before.before.before.before.before.before)
@@ -40,10 +40,10 @@ loop-again c =
     let numbers = h.loop.numbers in
     let v = c.before.value.given.0.0 in
     let l : count < length numbers = omega arith in
-    (omega (arith, rest-length s), omega arith, length-set numbers count v ∙ h.loop.invariant.2, zeros-next numbers count v (omega arith) h.loop.invariant.3, search body-next)
+    (omega (arith, rest-length s), omega arith, length-set numbers count v ∙ h.loop.invariant.2, zeros_next numbers count v (omega arith) h.loop.invariant.3, search body_next)
 
 pub parse-body-spec : {M : Type 1} → statement M
 parse-body-spec =
-    tie.close (tie.spec invariant-loop decreases-loop (search rules) loop-holds (search rules) (λ c. search body-full) (search rules) (search rules) (search rules)
-    (λ c. search before-found) (search rules) (search rules) (search rules) (search rules) (λ c. search body-bad) (search rules) (search rules)
+    tie.close (tie.spec invariant-loop decreases-loop (search rules) loop-holds (search rules) (λ c. search body_full) (search rules) (search rules) (search rules)
+    (λ c. search before_found) (search rules) (search rules) (search rules) (search rules) (λ c. search body_bad) (search rules) (search rules)
     (search rules) (search rules) add-at-2 loop-less loop-again (λ c. search body_end))

@@ -5,24 +5,24 @@ use Prim.Native.Nat.{ℕ, ◌+◌}
 use native.Mathlib.Omega.{arith}
 use Rattle.common.specs.Errno.{carried_of}
 use Rattle.octets.proofs.ByteLaws.{Tested, appended, left_out, room_for}
-use Rattle.console.specs.Format.{errorText, refusalText}
-use Rattle.console.proofs.FormatLaws.{refusal-length}
+use Rattle.console.specs.Format.{error_text, refusal_text}
+use Rattle.console.proofs.FormatLaws.{refusal_length}
 use Rattle.console.proofs.format.append_error.Statement.{statement}
 use Rattle.console.proofs.format.append_error.Tie as tie
 
 -- where the two ways part: the line to print
 abbrev Line : tie.After-fits2 → List ℕ
-Line s = refusalText s.before.before.before.before.number.result (carried_of s.before.before.before.detail.result)
+Line s = refusal_text s.before.before.before.before.number.result (carried_of s.before.before.before.detail.result)
 
-line-is : (s : tie.After-fits2) → errorText s.before.before.before.before.before.before.args.e ≡ Line s
-unfolding errorText
-line-is s = rw (← s.before.before.before.before.number.ensures, ← s.before.before.before.detail.ensures)
+line_is : (s : tie.After-fits2) → error_text s.before.before.before.before.before.before.args.e ≡ Line s
+unfolding error_text
+line_is s = rw (← s.before.before.before.before.number.ensures, ← s.before.before.before.detail.ensures)
 
 tested : (s : tie.After-fits2)
     → Tested s.before.before.before.before.before.before.args.out.now s.before.before.before.before.before.before.args.at (Line s)
-    (6 + s.before.before.decimal-length.result + s.before.carried-length.result + 1) s.fits2.result
+    (6 + s.before.before.decimal_length.result + s.before.carried-length.result + 1) s.fits2.result
 tested s = record {
-  count = omega (arith, refusal-length s.before.before.before.before.number.result (carried_of s.before.before.before.detail.result));
+  count = omega (arith, refusal_length s.before.before.before.before.number.result (carried_of s.before.before.before.detail.result));
   room = search rules;
 }
 
@@ -32,10 +32,10 @@ put-refusal-requires c κs = room_for (tested c.before.before) c.before.if1.true
 returns : tie.Need-returns
 returns c =
     let t = c.before.before.before.before in
-    rw (line-is t.before) (appended (tested t.before) t.if1.true c.before.before.put-refusal.ensures)
+    rw (line_is t.before) (appended (tested t.before) t.if1.true c.before.before.put-refusal.ensures)
 
 returns-2 : tie.Need-returns-2
-returns-2 c = rw (line-is c.before) (left_out (tested c.before) c.if1.false)
+returns-2 c = rw (line_is c.before) (left_out (tested c.before) c.if1.false)
 
 pub append-error-spec : {M : Type 1} → statement M
 append-error-spec =

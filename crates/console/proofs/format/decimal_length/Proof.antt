@@ -3,13 +3,13 @@ use mathlib.Core.Path.{◌≡◌}
 use Prim.Native.Nat.{◌+◌, ◌≤◌}
 use native.Mathlib.Omega.{arith}
 use lib.ListN.{length}
-use Rattle.console.specs.Format.{decimalOf}
-use Rattle.console.proofs.DecimalLaws.{decimal-length, length_more, length-one}
+use Rattle.console.specs.Format.{decimal_of}
+use Rattle.console.proofs.DecimalLaws.{decimal_length, length_more, length_one}
 use Rattle.console.proofs.format.decimal_length.Statement.{statement}
 use Rattle.console.proofs.format.decimal_length.Tie as tie
 
 abbrev invariant-loop : tie.invariant-loop
-invariant-loop n k₀ left₀ k left = (k + left ≤ n + 1) × (k + length (decimalOf left) ≡ length (decimalOf n) + 1)
+invariant-loop n k₀ left₀ k left = (k + left ≤ n + 1) × (k + length (decimal_of left) ≡ length (decimal_of n) + 1)
 
 abbrev decreases-loop : tie.decreases-loop
 decreases-loop n k₀ left₀ k left = left
@@ -23,8 +23,8 @@ loop-again c = let left = c.before.loop.left in (search rules, omega (arith, len
 returns : tie.Need-returns invariant-loop decreases-loop
 returns c =
     let n = c.before.before.args.n in
-    let e = length-one c.before.loop.left (omega arith) in
-    let l = decimal-length n 19 (omega arith) in record { count = omega arith; at-most = omega arith }
+    let e = length_one c.before.loop.left (omega arith) in
+    let l = decimal_length n 19 (omega arith) in record { count = omega arith; at_most_lem = omega arith }
 
 pub decimal-length-spec : {M : Type 1} → statement M
 decimal-length-spec = tie.close (tie.spec invariant-loop decreases-loop loop-holds (search rules) (search rules) loop-again returns)

@@ -4,7 +4,7 @@ use Prim.Native.Nat.{◌+◌, ◌-◌}
 use native.Mathlib.Omega.{arith}
 use lib.ListN.{length, length-drop}
 use lib.Seq.{length-take-le}
-use Rattle.console.proofs.LineLaws.{taken-bad, taken-long, taken_more, taken-whole}
+use Rattle.console.proofs.LineLaws.{taken_bad, taken_long, taken_more, taken_whole}
 use Rattle.console.proofs.lines.take.Statement.{statement}
 use Rattle.console.proofs.lines.take.Tie as tie
 
@@ -30,6 +30,6 @@ add-answer-4 c = omega (arith, rest-length c.before.before.before.before)
 pub take_spec : {M : Type 1} → statement M
 take_spec =
     tie.close (tie.spec (search rules) (search rules) (search rules) (search rules) (search rules) slice-aggregate-append (search rules)
-    add-answer (search rules) (search rules) (search rules) (λ c. search taken-whole) add-answer-2 (search rules) (search rules)
-    (λ c. search taken-bad) (search rules) add-answer-3 (search rules) (search rules) (search rules) (λ c. search taken_more) add-answer-4
-    (search rules) (λ c. search taken-long))
+    add-answer (search rules) (search rules) (search rules) (λ c. search taken_whole) add-answer-2 (search rules) (search rules)
+    (λ c. search taken_bad) (search rules) add-answer-3 (search rules) (search rules) (search rules) (λ c. search taken_more) add-answer-4
+    (search rules) (λ c. search taken_long))

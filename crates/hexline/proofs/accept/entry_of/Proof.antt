@@ -1,10 +1,10 @@
 use borrow.Author.Rules.{rules}
 use mathlib.Core.Path.{refl}
-use Rattle.common.proofs.BoolLaws.{told-false, told-true}
+use Rattle.common.proofs.BoolLaws.{told_false, told_true}
 use Rattle.codec.specs.Codec.{width}
-use Rattle.alias_entry.specs.Entry.{valid_of, zeroEntry}
-use Rattle.hexline.specs.Line.{entryForm, entryIn}
-use Rattle.hexline.proofs.LineLaws.{body-granted, body_refused}
+use Rattle.alias_entry.specs.Entry.{valid_of, zero_entry}
+use Rattle.hexline.specs.Line.{entry_form, entry_in}
+use Rattle.hexline.proofs.LineLaws.{body_granted, body_refused}
 use Rattle.hexline.proofs.accept.entry_of.Statement.{statement}
 use Rattle.hexline.proofs.accept.entry_of.Tie as tie
 
@@ -13,14 +13,14 @@ returns c =
     let t = c.before.before in
     let a = t.before.before.args in
     let w = width a.words in
-    body_refused (entryForm a.kind w) (entryIn w) valid_of a.body.now zeroEntry (told-false t.judge.ensures c.before.if1.true) (refl, c.zero.ensures)
+    body_refused (entry_form a.kind w) (entry_in w) valid_of a.body.now zero_entry (told_false t.judge.ensures c.before.if1.true) (refl, c.zero.ensures)
 
 returns-2 : tie.Need-returns-2
 returns-2 c =
     let t = c.before.before in
     let a = t.before.before.args in
     let w = width a.words in
-    body-granted (entryForm a.kind w) (entryIn w) valid_of a.body.now zeroEntry (told-true t.judge.ensures c.before.if1.false) c.entry_at.ensures
+    body_granted (entry_form a.kind w) (entry_in w) valid_of a.body.now zero_entry (told_true t.judge.ensures c.before.if1.false) c.entry_at.ensures
 
 pub entry-of-spec : {M : Type 1} → statement M
 entry-of-spec = tie.close (tie.spec (search rules) (search rules) returns (search rules) returns-2)

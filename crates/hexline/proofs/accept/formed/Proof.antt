@@ -1,10 +1,10 @@
 use borrow.Author.Rules.{rules}
-use Rattle.hexline.specs.Line.{entryForm, bodyForm}
+use Rattle.hexline.specs.Line.{entry_form, body_form}
 use Rattle.hexline.proofs.accept.formed.Statement.{statement}
 use Rattle.hexline.proofs.accept.formed.Tie as tie
 
 returns : tie.Need-returns
-unfolding entryForm bodyForm
+unfolding entry_form body_form
 returns c =
     let f = c.before.before in
     let p = f.before.before.before.before.before.before.before.requires.0 in

@@ -4,7 +4,7 @@ use mathlib.Core.Path.{refl}
 use Prim.Native.Nat.{◌+◌, ◌-◌}
 use native.Mathlib.Omega.{arith}
 use lib.ListN.{length}
-use Rattle.common.proofs.IndexLaws.{Filled, fill-all, fill-next, fill_none}
+use Rattle.common.proofs.IndexLaws.{Filled, fill_all, fill_next, fill_none}
 use Rattle.frame.specs.Frame.{body_of}
 use Rattle.codec.specs.Body.{byte_at}
 use Rattle.hexline.proofs.parts.bytes_from.Statement.{statement}
@@ -30,13 +30,13 @@ loop-less c = let n = c.before.before.loop.invariant.long in omega arith
 loop-again : tie.Need-loop-preserved invariant-loop decreases-loop
 loop-again c =
     let h = c.before.before in
-    let n = h.loop.invariant.long in fill-next h.loop.invariant (omega arith) c.byte.ensures
+    let n = h.loop.invariant.long in fill_next h.loop.invariant (omega arith) c.byte.ensures
 
 same_length : tie.Need-same-length invariant-loop decreases-loop
 same_length c = c.before.loop.invariant.long
 
 returns : tie.Need-returns invariant-loop decreases-loop
-returns c = let n = c.before.loop.invariant.long in fill-all c.before.loop.invariant (omega arith)
+returns c = let n = c.before.loop.invariant.long in fill_all c.before.loop.invariant (omega arith)
 
 pub bytes-from-spec : {M : Type 1} → statement M
 bytes-from-spec = tie.close (tie.spec invariant-loop decreases-loop loop-holds add-byte (search rules) (search rules) (search rules) loop-less loop-again same_length returns)

@@ -7,7 +7,7 @@ returns : tie.Need-returns
 unfolding layout_of
 returns c =
     let s = c.before.before in
-    (rw (c.span-at2.ensures.0, s.span-at.ensures.0, s.before.value-size.ensures.0, s.before.before.byte.ensures), search rules)
+    (rw (c.span-at2.ensures.0, s.span_at.ensures.0, s.before.value_size_lem.ensures.0, s.before.before.byte.ensures), search rules)
 
 pub layout-at-spec : {M : Type 1} → statement M
 layout-at-spec =

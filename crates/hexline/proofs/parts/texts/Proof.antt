@@ -1,19 +1,19 @@
 use borrow.Author.Rules.{rules}
 use mathlib.Core.Path.{ap, ◌∙◌}
 use native.Mathlib.Omega.{arith}
-use Rattle.alias_entry.specs.Entry.{abbreviationSize, at_most, nameSize}
-use Rattle.hexline.specs.Line.{abbreviationIn, nameIn}
+use Rattle.alias_entry.specs.Entry.{abbreviation_size, at_most, name_size}
+use Rattle.hexline.specs.Line.{abbreviation_in, name_in}
 use Rattle.alias_entry.specs.declared.bytes.Layout.{Layout}
 use Rattle.hexline.proofs.parts.texts.Statement.{statement}
 use Rattle.hexline.proofs.parts.texts.Tie as tie
 
 returns : tie.Need-returns
-unfolding nameIn abbreviationIn
+unfolding name_in abbreviation_in
 returns c =
     let a = c.at-most2.ensures in
-    let n = c.before.at-most.ensures in
+    let n = c.before.at_most_lem.ensures in
     let p = c.before.before.layout-at.ensures in (
-      (n ∙ ap (λ (p : Layout). at_most nameSize p.name) p.0, a ∙ ap (λ (p : Layout). at_most abbreviationSize p.abbreviation) p.0),
+      (n ∙ ap (λ (p : Layout). at_most name_size p.name) p.0, a ∙ ap (λ (p : Layout). at_most abbreviation_size p.abbreviation) p.0),
       rw (n, a) (omega arith, omega arith, omega arith, omega arith),
     )
 

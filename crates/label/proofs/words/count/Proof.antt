@@ -7,19 +7,19 @@ use lib.Count.{ones, ones-le}
 use lib.ListN.{length}
 use mir.Syntax.{w64}
 use mir.Val.{Fits}
-use Rattle.label.specs.Words.{membersBelow, members_of, word_at, words}
+use Rattle.label.specs.Words.{members_below, members_of, word_at, words}
 use Rattle.label.proofs.ListingLaws.{below_more}
 use Rattle.label.proofs.words.count.Statement.{statement}
 use Rattle.label.proofs.words.count.Tie as tie
 
 abbrev invariant-loop : tie.invariant-loop
-invariant-loop a n₀ i₀ n i = (i ≤ words) × (n ≤ i * 64) × (n ≡ length (membersBelow a (i * 64)))
+invariant-loop a n₀ i₀ n i = (i ≤ words) × (n ≤ i * 64) × (n ≡ length (members_below a (i * 64)))
 
 abbrev decreases-loop : tie.decreases-loop
 decreases-loop a n₀ i₀ n i = words - i
 
 loop-holds : tie.Need-loop-init invariant-loop decreases-loop
-unfolding membersBelow
+unfolding members_below
 loop-holds c = (search rules, search rules, refl)
 
 cast-n : tie.Need-overflow-cast-n invariant-loop decreases-loop
@@ -45,7 +45,7 @@ returns c =
     let a = c.before.before.args.t1 in
     let l : length a ≡ words = search rules in
     let e : c.before.loop.i ≡ length a = omega arith in
-    c.before.loop.invariant.2 ∙ ap (λ (k : ℕ). length (membersBelow a (k * 64))) e
+    c.before.loop.invariant.2 ∙ ap (λ (k : ℕ). length (members_below a (k * 64))) e
 
 pub count_spec : {M : Type 1} → statement M
 count_spec =

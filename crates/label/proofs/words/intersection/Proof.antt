@@ -2,14 +2,14 @@ use borrow.Author.Rules.{rules}
 use mathlib.Core.Path.{refl, ◌∙◌}
 use Prim.Native.Nat.{◌-◌}
 use lib.Bits.{bit_and}
-use Rattle.label.specs.Words.{combinedAt, intersectionOf, words}
-use Rattle.common.proofs.IndexLaws.{Filled, fill-all, fill-next, fill_none}
-use Rattle.label.proofs.WordLaws.{combine-is}
+use Rattle.label.specs.Words.{combined_at, intersection_of, words}
+use Rattle.common.proofs.IndexLaws.{Filled, fill_all, fill_next, fill_none}
+use Rattle.label.proofs.WordLaws.{combine_is}
 use Rattle.label.proofs.words.intersection.Statement.{statement}
 use Rattle.label.proofs.words.intersection.Tie as tie
 
 abbrev invariant-loop : tie.invariant-loop
-invariant-loop a b r₀ i₀ r i = Filled (combinedAt bit_and a b) words r i
+invariant-loop a b r₀ i₀ r i = Filled (combined_at bit_and a b) words r i
 
 abbrev decreases-loop : tie.decreases-loop
 decreases-loop a b r₀ i₀ r i = words - i
@@ -18,11 +18,11 @@ loop-holds : tie.Need-loop-init invariant-loop decreases-loop
 loop-holds c = fill_none refl
 
 loop-again : tie.Need-loop-preserved invariant-loop decreases-loop
-loop-again c = fill-next c.before.loop.invariant c.loop-test.true refl
+loop-again c = fill_next c.before.loop.invariant c.loop-test.true refl
 
 returns : tie.Need-returns invariant-loop decreases-loop
-unfolding intersectionOf
-returns c = fill-all c.before.loop.invariant c.loop-test.false ∙ combine-is bit_and _ _ words (search rules) (search rules)
+unfolding intersection_of
+returns c = fill_all c.before.loop.invariant c.loop-test.false ∙ combine_is bit_and _ _ words (search rules) (search rules)
 
 pub intersection-spec : {M : Type 1} → statement M
 intersection-spec =

@@ -1,10 +1,10 @@
 use borrow.Author.Rules.{rules}
-use Rattle.abi.proofs.AnswerLaws.{write-answered}
+use Rattle.abi.proofs.AnswerLaws.{write_answered}
 use Rattle.lurmenize.proofs.lines.lurm_write_label.Statement.{statement}
 use Rattle.lurmenize.proofs.lines.lurm_write_label.Tie as tie
 
 returns : tie.Need-returns
-returns c = rw c.of-written.ensures (write-answered c.before.before.before.write-label.ensures)
+returns c = rw c.of-written.ensures (write_answered c.before.before.before.write-label.ensures)
 
 pub lurm-write-label-spec : {M : Type 1} → statement M
 lurm-write-label-spec = tie.close (tie.spec (search rules) (search rules) (search rules) returns)

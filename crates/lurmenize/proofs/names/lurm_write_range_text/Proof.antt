@@ -1,15 +1,15 @@
 use borrow.Author.Rules.{rules}
 use mathlib.Core.Path.{refl}
-use Rattle.common.specs.Buffer.{bufferOf, length_of}
-use Rattle.abi.proofs.AnswerLaws.{range-write-answered}
+use Rattle.common.specs.Buffer.{buffer_of, length_of}
+use Rattle.abi.proofs.AnswerLaws.{range_write_answered}
 use Rattle.lurmenize.proofs.names.lurm_write_range_text.Statement.{statement}
 use Rattle.lurmenize.proofs.names.lurm_write_range_text.Tie as tie
 
 returns : tie.Need-returns
-returns c = rw (← c.before.before.before.before.before.before.before.before.write-formed.ensures, c.before.before.before.before.before.before.before.if1.true, c.of-range-written.ensures, ← c.before.before.before.before.before.before.decode.ensures, ← c.before.before.before.before.before.decode2.ensures) (range-write-answered c.before.before.before.write-range.ensures)
+returns c = rw (← c.before.before.before.before.before.before.before.before.write-formed.ensures, c.before.before.before.before.before.before.before.if1.true, c.of-range-written.ensures, ← c.before.before.before.before.before.before.decode.ensures, ← c.before.before.before.before.before.decode2.ensures) (range_write_answered c.before.before.before.write-range.ensures)
 
 returns-2 : tie.Need-returns-2
-unfolding bufferOf length_of
+unfolding buffer_of length_of
 returns-2 c = rw (← c.before.before.write-formed.ensures, c.before.if1.false, c.of-range-written2.ensures) record { written = record { answer = refl; buffer = refl }; status = refl }
 
 pub lurm-write-range-text-spec : {M : Type 1} → statement M

@@ -1,10 +1,10 @@
 use borrow.Author.Rules.{rules}
-use Rattle.abi.proofs.OutcomeLaws.{call-applied}
+use Rattle.abi.proofs.OutcomeLaws.{call_applied}
 use Rattle.lurmenize.proofs.state.lurm_close.Statement.{statement}
 use Rattle.lurmenize.proofs.state.lurm_close.Tie as tie
 
 returns : tie.Need-returns
-returns c = call-applied c.before.before.args.state c.before.decided.ensures c.apply.ensures
+returns c = call_applied c.before.before.args.state c.before.decided.ensures c.apply.ensures
 
 pub lurm-close-spec : {M : Type 1} → statement M
 lurm-close-spec = tie.close (tie.spec (search rules) (search rules) returns)

@@ -1,12 +1,12 @@
 use borrow.Author.Rules.{rules}
 use mathlib.Core.Path.{◌≡◌}
-use Rattle.monitor.specs.Numbers.{typeNamed}
-use Rattle.monitor.proofs.NumbersLaws.{kindBy, type-kind}
+use Rattle.monitor.specs.Numbers.{type_named}
+use Rattle.monitor.proofs.NumbersLaws.{kind_by, type_kind}
 use Rattle.monitor.proofs.numbers.kind_of.Statement.{statement}
 use Rattle.monitor.proofs.numbers.kind_of.Tie as tie
 
-by_kind : (c : tie.After-is-type) → let a = c.before.args in kindBy c.is-type.result a.class a.kind ≡ (typeNamed a.class a.kind).kind
-by_kind c = let a = c.before.args in rw c.is-type.ensures (type-kind a.class a.kind)
+by_kind : (c : tie.After-is-type) → let a = c.before.args in kind_by c.is-type.result a.class a.kind ≡ (type_named a.class a.kind).kind
+by_kind c = let a = c.before.args in rw c.is-type.ensures (type_kind a.class a.kind)
 
 returns : tie.Need-returns
 returns c = rw c.if1.true at (by_kind c.before)

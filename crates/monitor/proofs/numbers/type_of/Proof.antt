@@ -1,5 +1,5 @@
 use borrow.Author.Rules.{rules}
-use Rattle.monitor.proofs.NumbersLaws.{type-class}
+use Rattle.monitor.proofs.NumbersLaws.{type_class}
 use Rattle.monitor.proofs.numbers.type_of.Statement.{statement}
 use Rattle.monitor.proofs.numbers.type_of.Tie as tie
 
@@ -7,7 +7,7 @@ returns : tie.Need-returns
 returns c =
     let k = c.before in
     let a = k.before.before.args in
-    rw (c.kind-of.ensures, k.class_of.ensures, k.before.is-type.ensures, ← type-class a.class a.kind)
+    rw (c.kind-of.ensures, k.class_of.ensures, k.before.is-type.ensures, ← type_class a.class a.kind)
 
 pub type-of-spec : {M : Type 1} → statement M
 type-of-spec = tie.close (tie.spec (search rules) (search rules) (search rules) returns)

@@ -2,8 +2,8 @@ use borrow.Author.Rules.{rules}
 use mathlib.Core.Path.{refl, ap}
 use Prim.Native.Nat.{◌-◌}
 use Rattle.label.specs.Region.{regions}
-use Rattle.common.proofs.IndexLaws.{Filled, fill-all, fill-next, fill_none}
-use Rattle.range.specs.Tuple.{cut_of, splitOf, tuple_of}
+use Rattle.common.proofs.IndexLaws.{Filled, fill_all, fill_next, fill_none}
+use Rattle.range.specs.Tuple.{cut_of, split_of, tuple_of}
 use Rattle.range.proofs.tuple.cut_regions.Statement.{statement}
 use Rattle.range.proofs.tuple.cut_regions.Tie as tie
 
@@ -17,11 +17,11 @@ loop-holds : tie.Need-loop-init invariant-loop decreases-loop
 loop-holds c = fill_none refl
 
 loop-again : tie.Need-loop-preserved invariant-loop decreases-loop
-loop-again c = let h = c.before in fill-next h.before.loop.invariant h.loop-test.true c.cut.ensures
+loop-again c = let h = c.before in fill_next h.before.loop.invariant h.loop-test.true c.cut.ensures
 
 returns : tie.Need-returns invariant-loop decreases-loop
-unfolding splitOf
-returns c = ap tuple_of (fill-all c.before.loop.invariant c.loop-test.false)
+unfolding split_of
+returns c = ap tuple_of (fill_all c.before.loop.invariant c.loop-test.false)
 
 pub cut-regions-spec : {M : Type 1} → statement M
 cut-regions-spec =

@@ -3,7 +3,7 @@ use mathlib.Core.Option.{Option}
 use mathlib.Core.Path.{ap, ◌∙◌}
 use Prim.Native.Nat.{ℕ}
 use borrow.Author.Tests.{le-ltb, lt-ltb}
-use Rattle.segment_table.specs.Limits.{fitsIn}
+use Rattle.segment_table.specs.Limits.{fits_in}
 use Rattle.segment_table.proofs.slots.has_room.Statement.{statement}
 use Rattle.segment_table.proofs.slots.has_room.Tie as tie
 
@@ -12,7 +12,7 @@ returns c =
     let p = c.before in
     let t = p.before in
     let a = t.before.before.args in
-    rw (lt-ltb _ _ t.if1.true) (c.fits2.ensures ∙ ap (λ (x : Option ℕ). fitsIn x a.replaced a.pages) p.pages-left.ensures)
+    rw (lt-ltb _ _ t.if1.true) (c.fits2.ensures ∙ ap (λ (x : Option ℕ). fits_in x a.replaced a.pages) p.pages-left.ensures)
 
 returns-2 : tie.Need-returns-2
 returns-2 c = rw (le-ltb _ _ c.if1.false)

@@ -1,33 +1,33 @@
--- The loop takes the pages of the tenant's slots from the limit one by one (`Taken`). Where they don't fit the limit is exceeded (`take-over`);
+-- The loop takes the pages of the tenant's slots from the limit one by one (`Taken`). Where they don't fit the limit is exceeded (`take_over`);
 -- at the end what is left is left of the sum (`take_all`).
 use borrow.Author.Rules.{rules}
 use mathlib.Core.Path.{◌≡◌, sym, ap, ◌∙◌}
 use Prim.Native.Nat.{◌+◌, ◌-◌, ◌≤◌}
 use native.Mathlib.Omega.{arith}
-use Rattle.common.specs.Index.{sumFrom}
-use Rattle.segment_table.specs.Limits.{limitLeft}
-use Rattle.segment_table.specs.Segments.{pagesAt, slot, slotTotal}
-use Rattle.segment_table.specs.Slots.{pagesOf}
-use Rattle.segment_table.proofs.LimitLaws.{Taken, take_all, take_next, take_none, take-over}
-use Rattle.segment_table.proofs.SlotsLaws.{bound_by, pages-by}
+use Rattle.common.specs.Index.{sum_from}
+use Rattle.segment_table.specs.Limits.{limit_left}
+use Rattle.segment_table.specs.Segments.{pages_at, slot, slot_total}
+use Rattle.segment_table.specs.Slots.{pages_of}
+use Rattle.segment_table.proofs.LimitLaws.{Taken, take_all, take_next, take_none, take_over}
+use Rattle.segment_table.proofs.SlotsLaws.{bound_by, pages_by}
 use Rattle.segment_table.proofs.slots.pages_left.Statement.{statement}
 use Rattle.segment_table.proofs.slots.pages_left.Tie as tie
 
 abbrev invariant-loop : tie.invariant-loop
-invariant-loop limit s first count left₀ i₀ left i = Taken (λ p. pagesAt s (slot p)) first.0 count limit i left
+invariant-loop limit s first count left₀ i₀ left i = Taken (λ p. pages_at s (slot p)) first.0 count limit i left
 
 abbrev decreases-loop : tie.decreases-loop
 decreases-loop limit s first count left₀ i₀ left i = count - i
 
 -- what the functions before the loop tell of the slots that are read
-bound : (c : tie.After-slot-count invariant-loop decreases-loop) → c.before.first_slot.result.0 + c.slot-count.result ≤ slotTotal
+bound : (c : tie.After-slot-count invariant-loop decreases-loop) → c.before.first_slot.result.0 + c.slot-count.result ≤ slot_total
 bound c = bound_by _ _ _ _ c.before.first_slot.ensures c.slot-count.ensures c.before.before.requires
 
 total : (c : tie.After-slot-count invariant-loop decreases-loop) → let a = c.before.before.args in
-    limitLeft a.limit (sumFrom (λ p. pagesAt a.t1 (slot p)) c.before.first_slot.result.0 c.slot-count.result) ≡ limitLeft a.limit (pagesOf a.t1 a.t)
+    limit_left a.limit (sum_from (λ p. pages_at a.t1 (slot p)) c.before.first_slot.result.0 c.slot-count.result) ≡ limit_left a.limit (pages_of a.t1 a.t)
 total c =
     let a = c.before.before.args in
-    ap (limitLeft a.limit) (pages-by a.t1 a.t _ _ c.before.first_slot.ensures c.slot-count.ensures)
+    ap (limit_left a.limit) (pages_by a.t1 a.t _ _ c.before.first_slot.ensures c.slot-count.ensures)
 
 loop-holds : tie.Need-loop-init invariant-loop decreases-loop
 loop-holds c = take_none _ _ _ _
@@ -42,7 +42,7 @@ element-copy-out-pages : tie.Need-element-copy-out-pages invariant-loop decrease
 element-copy-out-pages c = let b = bound c.before.before.before in omega arith
 
 returns : tie.Need-returns invariant-loop decreases-loop
-returns c = let h = c.before.before in sym (take-over _ _ _ _ _ _ h.loop-test.true c.if1.true h.before.loop.invariant) ∙ total h.before.before
+returns c = let h = c.before.before in sym (take_over _ _ _ _ _ _ h.loop-test.true c.if1.true h.before.loop.invariant) ∙ total h.before.before
 
 loop-again : tie.Need-loop-preserved invariant-loop decreases-loop
 loop-again c = let h = c.before.before in take_next _ _ _ _ _ _ h.loop-test.true c.if1.false h.before.loop.invariant

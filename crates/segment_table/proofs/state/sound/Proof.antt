@@ -5,20 +5,20 @@ use mathlib.Core.Path.{◌≡◌, sym, ◌∙◌}
 use borrow.Author.Tests.{eq-eqb}
 use lib.ListN.{length}
 use Rattle.common.proofs.BoolLaws.{both}
-use Rattle.common.proofs.IndexLaws.{length-mapped}
-use Rattle.segment_table.specs.Internal.SoundParts.{tenantsSound}
-use Rattle.segment_table.specs.Segments.{pagesValid, slotTotal, tenantTotal}
-use Rattle.segment_table.specs.Slots.{ceilingsOf}
-use Rattle.segment_table.specs.Sound.{sound, wellSized}
-use Rattle.segment_table.proofs.LimitLaws.{kept-exact}
+use Rattle.common.proofs.IndexLaws.{length_mapped}
+use Rattle.segment_table.specs.Internal.SoundParts.{tenants_sound}
+use Rattle.segment_table.specs.Segments.{pages_valid, slot_total, tenant_total}
+use Rattle.segment_table.specs.Slots.{ceilings_of}
+use Rattle.segment_table.specs.Sound.{sound, well_sized}
+use Rattle.segment_table.proofs.LimitLaws.{kept_exact}
 use Rattle.segment_table.proofs.state.sound.Statement.{statement}
 use Rattle.segment_table.proofs.state.sound.Tie as tie
 
 -- every state has the lengths of its type
-sized : (c : tie.Start) → wellSized c.args.s ≡ true
+sized : (c : tie.Start) → well_sized c.args.s ≡ true
 sized c =
-    let m : length c.args.s.tenants ≡ tenantTotal = search (rules, length-mapped) in
-    let n : length c.args.s.segments ≡ slotTotal = search (rules, length-mapped) in
+    let m : length c.args.s.tenants ≡ tenant_total = search (rules, length_mapped) in
+    let n : length c.args.s.segments ≡ slot_total = search (rules, length_mapped) in
     both (eq-eqb _ _ m) (eq-eqb _ _ n)
 
 returns : tie.Need-returns
@@ -33,16 +33,16 @@ returns c =
     rw (
       sized t.before.before,
       sym t.before.slots-sound.ensures ∙ t.if1.true,
-      and-true (pagesValid s.pool && tenantsSound s),
+      and-true (pages_valid s.pool && tenants_sound s),
       v.pages-valid.ensures,
       x.tenants-sound.ensures,
-      kept-exact s.pool (ceilingsOf s) l.pool-left.ensures k.kept.ensures,
+      kept_exact s.pool (ceilings_of s) l.pool-left.ensures k.kept.ensures,
       c.ceilings-kept.ensures,
     )
 
 returns-2 : tie.Need-returns-2
 unfolding sound
-returns-2 c = let s = c.before.before.args.s in rw (sized c.before.before, sym c.before.slots-sound.ensures ∙ c.if1.false, and-false (pagesValid s.pool && tenantsSound s))
+returns-2 c = let s = c.before.before.args.s in rw (sized c.before.before, sym c.before.slots-sound.ensures ∙ c.if1.false, and-false (pages_valid s.pool && tenants_sound s))
 
 pub sound-spec : {M : Type 1} → statement M
 sound-spec =

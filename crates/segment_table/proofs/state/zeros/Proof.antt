@@ -1,10 +1,10 @@
 use borrow.Author.Rules.{rules}
-use Rattle.segment_table.specs.Sound.{isZeroSegment}
+use Rattle.segment_table.specs.Sound.{is_zero_segment}
 use Rattle.segment_table.proofs.state.zeros.Statement.{statement}
 use Rattle.segment_table.proofs.state.zeros.Tie as tie
 
 returns : tie.Need-returns
-unfolding isZeroSegment
+unfolding is_zero_segment
 returns c = rw c.before.before.is_zero.ensures
 
 pub zeros-spec : {M : Type 1} → statement M

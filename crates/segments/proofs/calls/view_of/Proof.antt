@@ -3,16 +3,16 @@ use mathlib.Core.Path.{refl, sym, ap, ◌∙◌}
 use Prim.Native.Nat.{◌<◌}
 use native.Mathlib.Omega.{arith}
 use borrow.Author.Tests.{ltb-true}
-use Rattle.segments.specs.Internal.CallParts.{namedValid}
-use Rattle.segment_table.specs.Slots.{slotOptionOf}
-use Rattle.segment_table.specs.Segments.{slotTotal}
+use Rattle.segments.specs.Internal.CallParts.{named_valid}
+use Rattle.segment_table.specs.Slots.{slot_option_of}
+use Rattle.segment_table.specs.Segments.{slot_total}
 use Rattle.segment_table.specs.declared.slots.SlotOption.{SlotOption}
 use Rattle.segments.proofs.calls.view_of.Statement.{statement}
 use Rattle.segments.proofs.calls.view_of.Tie as tie
 
 -- the slot that is named is one of the state's
-inside : (c : tie.After-known-told) → c.before.slot.given.0.0.0 < slotTotal
-inside c = ltb-true _ slotTotal (ap (λ (x : SlotOption). namedValid (slotOptionOf x)) (sym c.before.slot.given.1) ∙ c.before.before.before.before.requires.1)
+inside : (c : tie.After-known-told) → c.before.slot.given.0.0.0 < slot_total
+inside c = ltb-true _ slot_total (ap (λ (x : SlotOption). named_valid (slot_option_of x)) (sym c.before.slot.given.1) ∙ c.before.before.before.before.requires.1)
 
 mul-segment : tie.Need-overflow-mul-segment
 mul-segment c = let h = inside c in omega arith

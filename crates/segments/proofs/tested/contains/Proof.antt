@@ -2,15 +2,15 @@ use borrow.Author.Rules.{rules}
 use mathlib.Core.Path.{◌≡◌, sym, ◌∙◌}
 use Prim.Native.Nat.{ℕ}
 use native.Mathlib.Omega.{arith}
-use Rattle.label.proofs.RegionLaws.{region-within}
-use Rattle.range.specs.Tuple.{containsAt, containsOf, regionRangeAt}
-use Rattle.range.proofs.TupleLaws.{contains-by-region}
+use Rattle.label.proofs.RegionLaws.{region_within}
+use Rattle.range.specs.Tuple.{contains_at, contains_of, region_range_at}
+use Rattle.range.proofs.TupleLaws.{contains_by_region}
 use Rattle.segments.proofs.tested.contains.Statement.{statement}
 use Rattle.segments.proofs.tested.contains.Tie as tie
 
 -- what is asked of the range at n, where n is the region
-asked : (c : tie.After-of-hierarchy) (n : ℕ) → c.of-hierarchy.result ≡ n → let a = c.before.args in containsAt (regionRangeAt a.t1 n) a.l ≡ containsOf a.t1 a.l
-asked c n e = let a = c.before.args in contains-by-region a.t1 a.l n (sym e ∙ c.of-hierarchy.ensures)
+asked : (c : tie.After-of-hierarchy) (n : ℕ) → c.of-hierarchy.result ≡ n → let a = c.before.args in contains_at (region_range_at a.t1 n) a.l ≡ contains_of a.t1 a.l
+asked c n e = let a = c.before.args in contains_by_region a.t1 a.l n (sym e ∙ c.of-hierarchy.ensures)
 
 returns : tie.Need-returns
 returns c = let t = c.before.before in c.contains-at.ensures ∙ asked t.before 0 t.if1.true
@@ -24,7 +24,7 @@ returns-3 c =
     let h = e.before.before in
     let p = e.before.if1.false in
     let q = e.if2.false in
-    let w = rw (← h.of-hierarchy.ensures) at (region-within h.before.args.l.hierarchy).known in
+    let w = rw (← h.of-hierarchy.ensures) at (region_within h.before.args.l.hierarchy).known in
     c.contains-at3.ensures ∙ asked h 2 (omega arith)
 
 pub contains-spec : {M : Type 1} → statement M

@@ -1,5 +1,5 @@
 use borrow.Author.Rules.{rules}
-use Rattle.octets.proofs.ByteLaws.{put-appended}
+use Rattle.octets.proofs.ByteLaws.{put_appended}
 use Rattle.segments_cmd.proofs.answer.put_reply.Statement.{statement}
 use Rattle.segments_cmd.proofs.answer.put_reply.Tie as tie
 
@@ -10,13 +10,13 @@ returns-2 : tie.Need-returns-2
 returns-2 c =
     let p = c.before.before in
     let e = p.put-place.ensures in
-    let i = e.put.past in rw p.before.before.before.reply.given.1 (put-appended (search rules) e.put)
+    let i = e.put.past in rw p.before.before.before.reply.given.1 (put_appended (search rules) e.put)
 
 returns-3 : tie.Need-returns-3
 returns-3 c =
     let p = c.before.before in
     let e = p.put-shown.ensures in
-    let i = e.put.past in rw p.before.before.before.reply2.given.1 (put-appended (search rules) e.put)
+    let i = e.put.past in rw p.before.before.before.reply2.given.1 (put_appended (search rules) e.put)
 
 returns-4 : tie.Need-returns-4
 returns-4 c = let p = c.before.before in rw p.before.before.before.reply3.given.1 p.append-error.ensures

@@ -3,9 +3,9 @@ use mathlib.Core.Bool.{true}
 use mathlib.Core.Path.{◌≡◌, ◌∙◌}
 use lib.ListN.{take}
 use borrow.Author.Tests.{ne_eqb, not-false, not-true}
-use Rattle.console.specs.Command.{commandOf, commandWord}
-use Rattle.console.proofs.CommandLaws.{command-word}
-use Rattle.segments_cmd.specs.Request.{byCount, requestOfLine}
+use Rattle.console.specs.Command.{command_of, command_word}
+use Rattle.console.proofs.CommandLaws.{command_word_lem}
+use Rattle.segments_cmd.specs.Request.{by_count, request_of_line}
 use Rattle.segments_cmd.proofs.request.of_line.Statement.{statement}
 use Rattle.segments_cmd.proofs.request.of_line.Tie as tie
 
@@ -13,19 +13,19 @@ use Rattle.segments_cmd.proofs.request.of_line.Tie as tie
 asked : (c : tie.After-numbers)
     → let f = c.before in
     let p = f.before.before.before in
-    requestOfLine p.before.before.args.line.now ≡ byCount f.front.result.now p.parse.result.count p.parse.result.numbers
-unfolding requestOfLine
+    request_of_line p.before.before.args.line.now ≡ by_count f.front.result.now p.parse.result.count p.parse.result.numbers
+unfolding request_of_line
 asked c =
     let f = c.before in
     let p = f.before.before.before in
     let line = p.before.before.args.line.now in
     let valid = not-false p.parse.result.valid f.before.if1.false in
-    let v : (commandOf line).valid ≡ true = rw (← p.parse.ensures) valid in
-    let w : take p.parse.result.word line ≡ commandWord line = rw p.parse.ensures (command-word line v) in
+    let v : (command_of line).valid ≡ true = rw (← p.parse.ensures) valid in
+    let w : take p.parse.result.word line ≡ command_word line = rw p.parse.ensures (command_word_lem line v) in
     rw (← p.parse.ensures, valid, f.front.ensures ∙ w)
 
 returns : tie.Need-returns
-unfolding requestOfLine
+unfolding request_of_line
 returns c = let p = c.before.before in rw (← p.parse.ensures, not-true p.parse.result.valid c.if1.true)
 
 returns-2 : tie.Need-returns-2

@@ -2,15 +2,15 @@ use borrow.Author.Rules.{rules}
 use mathlib.Core.Path.{◌≡◌}
 use Prim.Native.Nat.{◌-◌, ◌≤◌}
 use lib.ListN.{length}
-use Rattle.segment_table.specs.Segments.{tenantTotal}
+use Rattle.segment_table.specs.Segments.{tenant_total}
 use Rattle.segments_cmd.proofs.show.print_tenants.Statement.{statement}
 use Rattle.segments_cmd.proofs.show.print_tenants.Tie as tie
 
 abbrev invariant-loop : tie.invariant-loop
-invariant-loop out₀ s i₀ out i = (length out ≡ length out₀) × (i ≤ tenantTotal)
+invariant-loop out₀ s i₀ out i = (length out ≡ length out₀) × (i ≤ tenant_total)
 
 abbrev decreases-loop : tie.decreases-loop
-decreases-loop out₀ s i₀ out i = tenantTotal - i
+decreases-loop out₀ s i₀ out i = tenant_total - i
 
 pub print-tenants-spec : {M : Type 1} → statement M
 print-tenants-spec =

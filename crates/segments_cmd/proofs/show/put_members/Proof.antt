@@ -4,16 +4,16 @@ use Prim.Native.Nat.{◌+◌, ◌-◌, ◌*◌, ◌≤◌, ◌<◌}
 use native.Mathlib.Omega.{arith}
 use lib.ListN.{length}
 use Rattle.octets.specs.Internal.Put.{Put}
-use Rattle.octets.proofs.ByteLaws.{put-nil, then-put}
-use Rattle.label.specs.Words.{membersBelow, words}
-use Rattle.segments_cmd.specs.Show.{listText}
-use Rattle.segments_cmd.proofs.CategoryLaws.{list-end, list-last, list-next, next-above, next-below}
+use Rattle.octets.proofs.ByteLaws.{put_nil, then_put}
+use Rattle.label.specs.Words.{members_below, words}
+use Rattle.segments_cmd.specs.Show.{list_text}
+use Rattle.segments_cmd.proofs.CategoryLaws.{list_end, list_last, list_next, next_above, next_below}
 use Rattle.segments_cmd.proofs.show.put_members.Statement.{statement}
 use Rattle.segments_cmd.proofs.show.put_members.Tie as tie
 
 abbrev invariant-loop : tie.invariant-loop
 invariant-loop out₀ at categories end₀ from₀ t7 out end from =
-    (length out ≡ length out₀) × (from ≤ 64 * words) × (end ≤ at + 21 * from) × Put out₀ at (listText (membersBelow categories from)) end out
+    (length out ≡ length out₀) × (from ≤ 64 * words) × (end ≤ at + 21 * from) × Put out₀ at (list_text (members_below categories from)) end out
 
 abbrev decreases-loop : tie.decreases-loop
 decreases-loop out₀ at categories end₀ from₀ t7 out end from = 64 * words - from
@@ -26,12 +26,12 @@ next-c k =
     let l = n.before.before in
     let ws = l.before.before.args.categories in
     let h : length ws ≡ words = search rules in
-    let b = next-below ws l.loop.from n.next.result n.next.ensures k.before.c.given.0.0 k.before.c.given.1 in (search next-above, omega arith)
+    let b = next_below ws l.loop.from n.next.result n.next.ensures k.before.c.given.0.0 k.before.c.given.1 in (search next_above, omega arith)
 
 loop-holds : tie.Need-loop-init invariant-loop decreases-loop
-unfolding listText membersBelow
+unfolding list_text members_below
 loop-holds c =
-    let a = c.before.args in (refl, omega arith, omega arith, record { past = omega arith; written = sym (put-nil a.out.now a.at) })
+    let a = c.before.args in (refl, omega arith, omega arith, record { past = omega arith; written = sym (put_nil a.out.now a.at) })
 
 returns : tie.Need-returns invariant-loop decreases-loop
 returns c =
@@ -39,7 +39,7 @@ returns c =
     let l = n.before.before in
     let ws = l.before.before.args.categories in
     let h : length ws ≡ words = search rules in
-    let e = list-last ws l.loop.from n.next.result n.next.ensures c.enum_told.given.1 (omega arith) in
+    let e = list_last ws l.loop.from n.next.result n.next.ensures c.enum_told.given.1 (omega arith) in
     record { put = rw e at l.loop.invariant.3; within = omega arith }
 
 add-from : tie.Need-overflow-add-from invariant-loop decreases-loop
@@ -56,15 +56,15 @@ loop-again c =
     let l = n.before.before in
     let ws = l.before.before.args.categories in
     let r = next-c k in
-    let e = list-next ws l.loop.from n.next.result n.next.ensures k.before.c.given.0.0 k.before.c.given.1 in
-    (search rules, omega arith, omega arith, rw e (then-put (omega arith) l.loop.invariant.3 p.put-field.ensures.put))
+    let e = list_next ws l.loop.from n.next.result n.next.ensures k.before.c.given.0.0 k.before.c.given.1 in
+    (search rules, omega arith, omega arith, rw e (then_put (omega arith) l.loop.invariant.3 p.put-field.ensures.put))
 
 returns-2 : tie.Need-returns-2 invariant-loop decreases-loop
 returns-2 c =
     let l = c.before in
     let ws = l.before.before.args.categories in
     let h : length ws ≡ words = search rules in
-    let e = list-end ws l.loop.from (omega arith) in record { put = rw e at l.loop.invariant.3; within = omega arith }
+    let e = list_end ws l.loop.from (omega arith) in record { put = rw e at l.loop.invariant.3; within = omega arith }
 
 pub put-members-spec : {M : Type 1} → statement M
 put-members-spec =

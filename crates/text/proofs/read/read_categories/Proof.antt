@@ -4,19 +4,19 @@ use Prim.Native.Nat.{◌+◌, ◌-◌, ◌≤◌}
 use native.Mathlib.Omega.{arith}
 use lib.ListN.{length, length-drop}
 use Rattle.common.specs.Answer.{and_then}
-use Rattle.common.proofs.AnswerLaws.{answers-grant, answers-same, grant-next, refusal-beside, refusal-next}
+use Rattle.common.proofs.AnswerLaws.{answers_grant, answers_same, grant_next, refusal_beside, refusal_next}
 use Rattle.octets.specs.Bytes.{split}
-use Rattle.alias.specs.Lines.{entriesBy}
-use Rattle.text.specs.Internal.Named.{addedTo}
-use Rattle.text.specs.Read.{categoriesRead, noCategories}
+use Rattle.alias.specs.Lines.{entries_by}
+use Rattle.text.specs.Internal.Named.{added_to}
+use Rattle.text.specs.Read.{categories_read, no_categories}
 use Rattle.text.specs.Write.{comma}
-use Rattle.text.proofs.ReadLaws.{readFrom, read-end, read_next}
+use Rattle.text.proofs.ReadLaws.{read_from, read_end, read_next}
 use Rattle.text.proofs.read.read_categories.Statement.{statement}
 use Rattle.text.proofs.read.read_categories.Tie as tie
 
 abbrev invariant-loop : tie.invariant-loop
 invariant-loop table starts names set₀ at₀ set at =
-    (at ≤ length names + 1) × (categoriesRead (entriesBy table starts) noCategories (split comma names) ≡ readFrom (entriesBy table starts) names set at)
+    (at ≤ length names + 1) × (categories_read (entries_by table starts) no_categories (split comma names) ≡ read_from (entries_by table starts) names set at)
 
 abbrev decreases-loop : tie.decreases-loop
 decreases-loop table starts names set₀ at₀ set at = length names + 1 - at
@@ -31,9 +31,9 @@ told : (t : tie.After-add-category invariant-loop decreases-loop)
     → let i = t.before.before in
     let h = i.before.before.before in
     let a = h.before.before.before.before.args in
-    let es = entriesBy a.table.now a.starts.now in
-    categoriesRead es noCategories (split comma a.names.now)
-    ≡ and_then (addedTo es h.loop.set t.before.front.result.now) (λ us. readFrom es a.names.now us (h.loop.at + i.index_of.result + 1))
+    let es = entries_by a.table.now a.starts.now in
+    categories_read es no_categories (split comma a.names.now)
+    ≡ and_then (added_to es h.loop.set t.before.front.result.now) (λ us. read_from es a.names.now us (h.loop.at + i.index_of.result + 1))
 told t =
     let i = t.before.before in
     let h = i.before.before.before in
@@ -46,7 +46,7 @@ returns : tie.Need-returns invariant-loop decreases-loop
 returns c =
     let d = c.before.before in
     let e = c.enum-told2.given.1 in
-    answers-same (refusal-next d.add-category.ensures _ e (refusal-beside d.add-category.ensures e)) (told d)
+    answers_same (refusal_next d.add-category.ensures _ e (refusal_beside d.add-category.ensures e)) (told d)
 
 add_at : tie.Need-overflow-add-at invariant-loop decreases-loop
 add_at c = omega (arith, rest-length c.before.before.before.before.before.before)
@@ -61,12 +61,12 @@ loop-again : tie.Need-loop-preserved invariant-loop decreases-loop
 loop-again c =
     let e = c.before in
     let d = e.before.before in
-    (omega (arith, rest-length d.before.before.before), told d ∙ grant-next d.add-category.ensures _ e.enum_told.given.1)
+    (omega (arith, rest-length d.before.before.before), told d ∙ grant_next d.add-category.ensures _ e.enum_told.given.1)
 
 returns-2 : tie.Need-returns-2 invariant-loop decreases-loop
 returns-2 c =
     let h = c.before in
-    answers-grant _ noCategories _ _ (h.loop.invariant.1 ∙ read-end _ _ _ h.loop.at c.loop-test.false) refl
+    answers_grant _ no_categories _ _ (h.loop.invariant.1 ∙ read_end _ _ _ h.loop.at c.loop-test.false) refl
 
 pub read-categories-spec : {M : Type 1} → statement M
 read-categories-spec =

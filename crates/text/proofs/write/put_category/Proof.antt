@@ -2,7 +2,7 @@ use borrow.Author.Rules.{rules}
 use mathlib.Core.Path.{◌∙◌}
 use native.Mathlib.Omega.{arith}
 use lib.ListN.{length-set}
-use Rattle.octets.proofs.ByteLaws.{one-put, then-put}
+use Rattle.octets.proofs.ByteLaws.{one_put, then_put}
 use Rattle.text.proofs.write.put_category.Statement.{statement}
 use Rattle.text.proofs.write.put_category.Tie as tie
 
@@ -24,7 +24,7 @@ returns c =
     let z = p.before.before in
     let s = z.before.before.before.before in
     let a = s.args in
-    let h = s.requires in then-put (omega arith) (one-put a.out.now a.at a.mark (omega arith)) (rw z.zero.ensures at p.put-name.ensures)
+    let h = s.requires in then_put (omega arith) (one_put a.out.now a.at a.mark (omega arith)) (rw z.zero.ensures at p.put-name.ensures)
 
 pub put-category-spec : {M : Type 1} → statement M
 put-category-spec = tie.close (tie.spec (search rules) (search rules) (search rules) put-name-requires same_length returns)

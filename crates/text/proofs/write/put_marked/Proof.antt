@@ -1,7 +1,7 @@
 use borrow.Author.Rules.{rules}
-use Rattle.octets.proofs.ByteLaws.{appended-put, both-put, first_fits, second_fits}
-use Rattle.alias.specs.Lines.{entriesBy}
-use Rattle.text.specs.Write.{labelText}
+use Rattle.octets.proofs.ByteLaws.{appended_put, both_put, first_fits, second_fits}
+use Rattle.alias.specs.Lines.{entries_by}
+use Rattle.text.specs.Write.{label_text}
 use Rattle.text.proofs.write.put_marked.Statement.{statement}
 use Rattle.text.proofs.write.put_marked.Tie as tie
 
@@ -10,8 +10,8 @@ put-label-requires c κs =
     let p = c.before.before.before in
     let s = p.before.before.before.before.before.before in
     let a = s.args in
-    let text = labelText (entriesBy a.table.now a.starts.now) a.style a.l in
-    second_fits (appended-put (first_fits _ _ a.marker.now text s.requires) p.append.ensures) text s.requires
+    let text = label_text (entries_by a.table.now a.starts.now) a.style a.l in
+    second_fits (appended_put (first_fits _ _ a.marker.now text s.requires) p.append.ensures) text s.requires
 
 returns : tie.Need-returns
 returns c =
@@ -19,8 +19,8 @@ returns c =
     let p = l.before.before.before.before in
     let s = p.before.before.before.before.before.before in
     let a = s.args in
-    let text = labelText (entriesBy a.table.now a.starts.now) a.style a.l in
-    both-put (appended-put (first_fits _ _ a.marker.now text s.requires) p.append.ensures) text s.requires l.put-label.ensures
+    let text = label_text (entries_by a.table.now a.starts.now) a.style a.l in
+    both_put (appended_put (first_fits _ _ a.marker.now text s.requires) p.append.ensures) text s.requires l.put-label.ensures
 
 pub put-marked-spec : {M : Type 1} → statement M
 put-marked-spec = tie.close (tie.spec (search rules) put-label-requires (search rules) returns)
