@@ -87,6 +87,7 @@ In x (y ∷ ys) = (x ≡ y) ⊎ In x ys
 
 any_of : (f : Row → Bool) (x : Row) (xs : List Row) → In x xs → f x ≡ true → some_row f xs ≡ true
 unfolding some_row
+any_of f x [] m e = elim m [ ]
 any_of f x (y ∷ ys) (inl p) e = or_first _ (ap f (sym p) ∙ e)
 any_of f x (y ∷ ys) (inr h) e = or_second (f y) (any_of f x ys h e)
 
