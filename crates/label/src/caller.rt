@@ -13,6 +13,7 @@ pub struct Caller {
 }
 
 // Whether a caller may see a label, over the components of the caller's label and of that one: for labels that were tested.
+#[tactic(auto, unfolding(crate::specs::Caller::sees_of))]
 pub fn sees(h: u64, c: [u64; WORDS], read_override: bool, lh: u64, lc: [u64; WORDS]) -> bool
     ensures { result ≡ sees_of (caller_with (label_of h c) read_override) (label_of lh lc) }
 {

@@ -6,6 +6,7 @@ use crate::words::WORDS;
 use crate::{Label, words};
 
 // Whether the first label dominates the second.
+#[tactic(auto, unfolding(crate::specs::Label::dominates_of))]
 pub fn dominates(ah: u64, ac: [u64; WORDS], bh: u64, bc: [u64; WORDS]) -> bool
     ensures { result ≡ dominates_of (label_of ah ac) (label_of bh bc) }
 {
@@ -13,6 +14,7 @@ pub fn dominates(ah: u64, ac: [u64; WORDS], bh: u64, bc: [u64; WORDS]) -> bool
 }
 
 // Whether the two labels are equal.
+#[tactic(auto, unfolding(crate::specs::Label::equal_of))]
 pub fn equal(ah: u64, ac: [u64; WORDS], bh: u64, bc: [u64; WORDS]) -> bool
     ensures { result ≡ equal_of (label_of ah ac) (label_of bh bc) }
 {
@@ -42,6 +44,7 @@ pub fn lower(x: u64, y: u64) -> u64
 }
 
 // The upper bound of two labels: the larger hierarchy, and the union.
+#[tactic(auto, unfolding(crate::specs::Label::upper_bound_of))]
 pub fn upper_bound(ah: u64, ac: [u64; WORDS], bh: u64, bc: [u64; WORDS]) -> Label
     ensures { result ≡ upper_bound_of (label_of ah ac) (label_of bh bc) }
 {
@@ -52,6 +55,7 @@ pub fn upper_bound(ah: u64, ac: [u64; WORDS], bh: u64, bc: [u64; WORDS]) -> Labe
 }
 
 // The lower bound of two labels: the smaller hierarchy, and the intersection.
+#[tactic(auto, unfolding(crate::specs::Label::lower_bound_of))]
 pub fn lower_bound(ah: u64, ac: [u64; WORDS], bh: u64, bc: [u64; WORDS]) -> Label
     ensures { result ≡ lower_bound_of (label_of ah ac) (label_of bh bc) }
 {

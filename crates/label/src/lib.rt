@@ -54,6 +54,7 @@ pub fn zero() -> Label
     }
 }
 
+#[tactic(auto, unfolding(crate::specs::Label::valid_of))]
 pub fn valid(a: Label) -> bool
     ensures { result ≡ valid_of a }
 {
@@ -143,6 +144,7 @@ pub fn has_category(a: Label, c: u64) -> Test
 }
 
 // a with the category c, which it may have already.
+#[tactic(auto, unfolding(crate::specs::Label::with_category_of))]
 pub fn with_category(a: Label, c: u64) -> LabelAnswer
     ensures { Answered result.outcome result.label zero_label (require (valid_of a && ltb c categories) 22 (granted (with_category_of a c))) }
 {

@@ -36,6 +36,7 @@ pub fn last(region: usize) -> u64
 }
 
 // The region of a valid hierarchy number. Others count as administrative here: whoever asks has tested the label.
+#[tactic(auto, unfolding(crate::specs::Region::region_of))]
 pub fn of_hierarchy(hierarchy: u64) -> usize
     ensures { result ≡ region_of hierarchy }
 {

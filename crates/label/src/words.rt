@@ -65,6 +65,7 @@ pub fn includes(a: [u64; WORDS], b: [u64; WORDS]) -> bool
 }
 
 // Whether a and b have the same categories.
+#[tactic(auto, unfolding(crate::specs::Words::same_of))]
 pub fn same(a: [u64; WORDS], b: [u64; WORDS]) -> bool
     ensures { result ≡ same_of a b }
 {

@@ -10,6 +10,7 @@ use label::words::WORDS;
 
 // Whether the label of h and c is in what a tuple has for its region: in the range from the label of lh and lc to that of hh and hc, if that is
 // present.
+#[tactic(auto, unfolding(crate::specs::Range::contains_of, crate::specs::Tuple::contains_at))]
 pub fn contains_at(
     present: u64,
     lh: u64,

@@ -41,6 +41,7 @@ pub fn zero() -> Range
     }
 }
 
+#[tactic(auto, unfolding(crate::specs::Range::valid_of))]
 pub fn valid(x: Range) -> bool
     ensures { result ≡ valid_of x }
 {
@@ -48,6 +49,7 @@ pub fn valid(x: Range) -> bool
 }
 
 // Whether a label is in a range, both tested.
+#[tactic(auto, unfolding(crate::specs::Range::contains_of))]
 pub(crate) fn holds(x: Range, l: Label) -> bool
     ensures { result ≡ contains_of x l }
 {
@@ -65,6 +67,7 @@ pub fn contains(x: Range, l: Label) -> Test
 }
 
 // The upper bound of the lows and the lower bound of the highs: the labels that are in both ranges, if there are any.
+#[tactic(auto, unfolding(crate::specs::Range::meet_of))]
 pub(crate) fn bounds(x: Range, y: Range) -> Range
     ensures { result ≡ meet_of x y }
 {
@@ -75,6 +78,7 @@ pub(crate) fn bounds(x: Range, y: Range) -> Range
 }
 
 // Whether some label is in both ranges.
+#[tactic(auto, unfolding(crate::specs::Range::common_of))]
 pub(crate) fn common(x: Range, y: Range) -> bool
     ensures { result ≡ common_of x y }
 {

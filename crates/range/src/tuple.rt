@@ -55,6 +55,7 @@ pub fn empty() -> Tuple
 }
 
 // Whether a tuple may hold e for a region.
+#[tactic(auto, unfolding(crate::specs::Tuple::valid_at))]
 fn valid_at(region: usize, e: RegionRange) -> bool
     ensures { result ≡ valid_at region e }
 {
@@ -66,6 +67,7 @@ fn valid_at(region: usize, e: RegionRange) -> bool
     (e.present == 0) & is_zero(e.range.low) & is_zero(e.range.high)
 }
 
+#[tactic(auto, unfolding(crate::specs::Tuple::valid_of))]
 pub fn valid(t: Tuple) -> bool
     ensures { result ≡ valid_of t }
 {
@@ -80,6 +82,7 @@ pub fn valid(t: Tuple) -> bool
 }
 
 // Whether there is no range.
+#[tactic(auto, unfolding(crate::specs::Tuple::empty_of))]
 fn none_present(t: Tuple) -> bool
     ensures { result ≡ empty_of t }
 {
@@ -104,6 +107,7 @@ pub fn is_empty(t: Tuple) -> Test
 }
 
 // Whether a label is in what a tuple has for its region: in the range, if that is present.
+#[tactic(auto, unfolding(crate::specs::Tuple::contains_at))]
 pub(crate) fn contains_at(e: RegionRange, l: Label) -> bool
     ensures { result ≡ contains_at e l }
 {
@@ -135,6 +139,7 @@ pub fn contains(t: Tuple, l: Label) -> Test
 }
 
 // The range of the labels that are in e and in f, if there are any.
+#[tactic(auto, unfolding(crate::specs::Tuple::meet_at))]
 fn meet_at(e: RegionRange, f: RegionRange) -> RegionRange
     ensures { result ≡ meet_at e f }
 {
@@ -148,6 +153,7 @@ fn meet_at(e: RegionRange, f: RegionRange) -> RegionRange
 }
 
 // The meet, region by region.
+#[tactic(auto, unfolding(crate::specs::Tuple::meet_of))]
 fn meet_regions(t: Tuple, u: Tuple) -> Tuple
     ensures { result ≡ meet_of t u }
 {
@@ -178,6 +184,7 @@ pub fn meet(t: Tuple, u: Tuple) -> TupleAnswer
 }
 
 // Whether each label of e is in f.
+#[tactic(auto, unfolding(crate::specs::Tuple::within_at))]
 fn within_at(e: RegionRange, f: RegionRange) -> bool
     ensures { result ≡ within_at e f }
 {
@@ -188,6 +195,7 @@ fn within_at(e: RegionRange, f: RegionRange) -> bool
 }
 
 // Whether each label of t is in u, region by region.
+#[tactic(auto, unfolding(crate::specs::Tuple::within_of))]
 fn within_regions(t: Tuple, u: Tuple) -> bool
     ensures { result ≡ within_of t u }
 {
@@ -212,6 +220,7 @@ pub fn within(t: Tuple, u: Tuple) -> Test
 }
 
 // The part of x in a region: its hierarchies cut at the region's borders, both ends' categories kept.
+#[tactic(auto, unfolding(crate::specs::Tuple::cut_of))]
 fn cut(x: Range, region: usize) -> RegionRange
     ensures { result ≡ cut_of x region }
 {
@@ -240,6 +249,7 @@ fn cut(x: Range, region: usize) -> RegionRange
 }
 
 // The parts of x in each region.
+#[tactic(auto, unfolding(crate::specs::Tuple::split_of))]
 fn cut_regions(x: Range) -> Tuple
     ensures { result ≡ split_of x }
 {

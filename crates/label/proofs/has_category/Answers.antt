@@ -6,11 +6,7 @@ use Rattle.label.proofs.has_category.Goals as goal
 
 pub returns-then-valid_with : goal.returns-then-valid_with
 returns-then-valid_with c =
-    let s = c in
-    let a = s.args in
-    let t = s.valid_with.ensures in
-    rw (← t, s.if-valid_with.true)
-    (ap granted (c.includes.ensures ∙ ap (includes_of a.a.categories) c.single.ensures ∙ category_told a.a a.c (sym t ∙ s.if-valid_with.true)))
-
-pub returns : goal.returns
-returns c = rw (← c.valid_with.ensures, c.if-valid_with.false)
+    let a = c.args in
+    let t = c.valid_with.ensures in
+    rw (← t, c.if-valid_with.true)
+    (ap granted (c.includes.ensures ∙ ap (includes_of a.a.categories) c.single.ensures ∙ category_told a.a a.c (sym t ∙ c.if-valid_with.true)))

@@ -1,7 +1,7 @@
--- After i words n is the number of categories below 64 i: a word adds its set bits (`below_more`). All words make the whole set.
+-- A word adds its set bits to the number of categories (`below_more`). All words make the whole set.
 use borrow.Author.Rules.{rules}
 use mathlib.Core.Path.{◌≡◌, refl, sym, ap, ◌∙◌}
-use Prim.Native.Nat.{ℕ, ◌+◌, ◌-◌, ◌*◌}
+use Prim.Native.Nat.{ℕ, ◌+◌, ◌*◌}
 use native.Mathlib.Omega.{arith}
 use lib.Count.{ones, ones-le}
 use lib.ListN.{length}

@@ -1,6 +1,5 @@
 use borrow.Author.Rules.{rules}
 use mathlib.Core.Path.{refl, ◌∙◌}
-use Prim.Native.Nat.{◌-◌}
 use lib.Bits.{bit_and}
 use Rattle.label.specs.Words.{intersection_of, words}
 use Rattle.common.proofs.IndexLaws.{fill_all, fill_next, fill_none}

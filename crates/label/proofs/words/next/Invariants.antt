@@ -1,3 +1,4 @@
+-- The search from c on answers as the one from `from` on.
 use mathlib.Core.Path.{◌≡◌}
 use Prim.Native.Nat.{◌-◌, ◌*◌}
 use Rattle.label.specs.Words.{next_category_from, words}

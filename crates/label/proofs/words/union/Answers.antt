@@ -1,6 +1,5 @@
 use borrow.Author.Rules.{rules}
 use mathlib.Core.Path.{refl, ◌∙◌}
-use Prim.Native.Nat.{◌-◌}
 use lib.Bits.{bit_or}
 use Rattle.label.specs.Words.{union_of, words}
 use Rattle.common.proofs.IndexLaws.{fill_all, fill_next, fill_none}
