@@ -20,6 +20,7 @@ const LINE_FEED: u8 = 10;
 const BLOCK: usize = 16;
 
 // Letters stand 39 past where the decimal digits would go on. This takes fewer instructions than a choice.
+#[tactic(auto, using(crate::proofs::FrameLaws::digit_by))]
 fn digit(n: u8) -> u8
     requires { n < 16 }
     ensures { result ≡ digit_of n }
@@ -27,6 +28,7 @@ fn digit(n: u8) -> u8
     48 + n + 39 * (n / 10)
 }
 
+#[tactic(auto, unfolding(crate::specs::Frame::is_digit))]
 fn is_digit(c: u8) -> bool
     ensures { result ≡ is_digit c }
 {
@@ -42,6 +44,7 @@ fn pair(line: &[u8], i: usize) -> u16
 }
 
 // The byte of two digits, by arithmetic that takes fewer instructions than a choice.
+#[tactic(auto, unfolding(crate::specs::Frame::digit_value))]
 fn pair_value(p: u16) -> u16
     ensures { result ≡ digit_value (p % 256) * 16 + digit_value (p / 256) }
 {
