@@ -40,8 +40,8 @@ extern "C" {
 
 #define LURM_VERSION_MAJOR 0
 #define LURM_VERSION_MINOR 4
-#define LURM_VERSION_PATCH 1
-#define LURM_VERSION_STRING "0.4.1"
+#define LURM_VERSION_PATCH 0
+#define LURM_VERSION_STRING "0.4.0"
 #define LURM_VERSION (LURM_VERSION_MAJOR * 1000000 + LURM_VERSION_MINOR * 1000 + LURM_VERSION_PATCH)
 
 /* The LURM_VERSION of the library that is linked. Structs of another minor version may differ, until 1.0.0. */

@@ -73,7 +73,7 @@ macro_rules! functions {
 
 constants! {
     &str {
-        VERSION_STRING = "0.4.1",
+        VERSION_STRING = "0.4.0",
     }
     u32 {
         EPERM = 1, ENOENT = 2, E2BIG = 7, ENOMEM = 12, EACCES = 13, EBUSY = 16, EINVAL = 22, ENOSPC = 28, EDOM = 33,
@@ -83,7 +83,7 @@ constants! {
         MAX_ALIAS_LINES = 512, TENANTS = 8, SLOTS = 64, STACK_BYTES = 24_576,
     }
     u64 {
-        VERSION_MAJOR = 0, VERSION_MINOR = 4, VERSION_PATCH = 1, VERSION = 4_001,
+        VERSION_MAJOR = 0, VERSION_MINOR = 4, VERSION_PATCH = 0, VERSION = 4_000,
         CATEGORIES = 256, MAX_HIERARCHY = 199, MAX_PAGES = 1_048_576,
         LINE_LABEL = 1, LINE_RANGE = 2, LINE_TUPLE = 3, LINE_ENTRY = 4,
         NAMES_HIERARCHY = 1, NAMES_CATEGORY = 2, NAMES_LABEL = 3,

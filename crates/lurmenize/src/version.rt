@@ -6,7 +6,7 @@ const MAJOR: u64 = 0;
 
 const MINOR: u64 = 4;
 
-const PATCH: u64 = 1;
+const PATCH: u64 = 0;
 
 // One number for the three, so that a later version is a greater one.
 #[unsafe(no_mangle)]
