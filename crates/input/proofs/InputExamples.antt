@@ -34,7 +34,6 @@ part_held = refl
 
 -- bytes are left at index 3, and at index 4 none are
 left : (some_left (input_of (held 0) 3 4) 6 ≡ true) × (some_left (input_of (held 1) 4 4) 6 ≡ false)
-unfolding some_left
 left = (refl, refl)
 
 -- the end, with a byte held and with none, and by a read that failed

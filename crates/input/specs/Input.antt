@@ -1,4 +1,4 @@
--- Lines of standard input: one step at a time, and one line at a time.
+-- Lines of an input: one step at a time, and one line at a time.
 use Rattle.std.specs.Prelude.{Bool, true, false, not, ◌&&◌, cond, List, ◌≡◌, ℕ, zero, suc, ◌-◌, ◌≤◌, ◌<◌, eqb, ltb, drop, length, take}
 use Rattle.console.specs.Lines.{piece_buffer, held, line_at_end, piece_of}
 use Rattle.console.specs.declared.lines.Line.{Line}

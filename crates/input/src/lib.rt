@@ -1,5 +1,5 @@
-// Lines of standard input, one at a time, in two buffers that the program lends: a chunk to read into, and one for a line. A program asks for the
-// next line and works on it until none is left.
+// Lines of an input, one at a time, in two buffers that the program lends: a chunk to read into, and one for a line. A program asks for the next
+// line and works on it until none is left. The input is a reader that the program lends too: the standard input, or any other.
 #![tactic(auto)]
 
 ghost use Rattle.std.specs.Prelude.{false, ◌≡◌, length};
@@ -7,7 +7,7 @@ ghost use Rattle.input.specs.Input.{NextLine, Pieced, Refilled, Stepped, Waited,
 
 use console::lines;
 use console::lines::{Line, Partial};
-use libc::STDIN_FILENO;
+use std::io::Read;
 
 // Where the input stands.
 #[derive(Clone, Copy)]
@@ -89,6 +89,7 @@ fn next_piece(i: Input, chunk: &[u8], line: &mut [u8]) -> Turn
 }
 
 // What a read of n bytes makes. No bytes are the end of the input, or a read that failed, which ends it too.
+#[tactic(auto, unfolding(crate::specs::Input::turn_after_read))]
 fn after_read(partial: Partial, n: usize, failed: bool) -> Turn
     ensures { result ≡ turn_after_read partial n failed }
 {
@@ -112,24 +113,26 @@ fn after_read(partial: Partial, n: usize, failed: bool) -> Turn
     }
 }
 
-// Reads once. What the read answered can be named in no contract: these two lines are all that depends on it.
-fn refill(partial: Partial, chunk: &mut [u8]) -> Turn
+// Reads once. What a reader answers is open, and these lines are all that depends on it.
+fn refill<R: Read>(reader: &mut R, partial: Partial, chunk: &mut [u8]) -> Turn
     ensures { Refilled partial (length chunk.old) result }
 {
-    let got = libc::read(STDIN_FILENO, chunk);
-    after_read(partial, io::count(got, chunk), got < 0)
+    match reader.read(chunk) {
+        Ok(n) => after_read(partial, n, false),
+        Err(_) => after_read(partial, 0, true),
+    }
 }
 
 // Takes the next piece of the chunk where some of it is left, and reads once where none is. What is read is open: the contract says nothing of
 // the bytes, and of their number that the chunk has room for them and that none are the end.
-fn step(i: Input, chunk: &mut [u8], line: &mut [u8]) -> Turn
+fn step<R: Read>(reader: &mut R, i: Input, chunk: &mut [u8], line: &mut [u8]) -> Turn
     ensures { Stepped i chunk.old line.old result chunk.new line.new }
 {
     if (i.at < i.filled) & (i.at < chunk.len()) {
         return next_piece(i, chunk, line);
     }
     let partial = i.partial;
-    refill(partial, chunk)
+    refill(reader, partial, chunk)
 }
 
 // Whether a step is to be followed by another: it made no line and did not find the end.
@@ -146,7 +149,7 @@ fn waits(t: Turn) -> bool
 }
 
 // Takes steps until there is a line or the end.
-fn steps(i: Input, chunk: &mut [u8], line: &mut [u8]) -> Turn
+fn steps<R: Read>(reader: &mut R, i: Input, chunk: &mut [u8], line: &mut [u8]) -> Turn
     ensures { Waited i chunk.old line.old result chunk.new line.new }
 {
     let mut t = Turn {
@@ -155,7 +158,7 @@ fn steps(i: Input, chunk: &mut [u8], line: &mut [u8]) -> Turn
     };
     let mut turns = u64::MAX;
     while waits(t) & (turns > 0) {
-        t = step(t.input, chunk, line);
+        t = step(reader, t.input, chunk, line);
         turns -= 1;
     }
     t
@@ -175,12 +178,12 @@ fn after_step(left: u64, t: Turn) -> Lines
 }
 
 // The next line, by as many steps as it takes. At the end there is none, and nothing is read.
-pub fn next(l: Lines, chunk: &mut [u8], line: &mut [u8]) -> Lines
+pub fn next<R: Read>(reader: &mut R, l: Lines, chunk: &mut [u8], line: &mut [u8]) -> Lines
     ensures { NextLine l chunk.old line.old result chunk.new line.new }
 {
     if l.left == 0 {
         return lines_with(l.input, 0, 0);
     }
-    let t = steps(l.input, chunk, line);
+    let t = steps(reader, l.input, chunk, line);
     after_step(l.left - 1, t)
 }

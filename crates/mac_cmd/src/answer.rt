@@ -4,20 +4,16 @@ use common::answer::{Number, Outcome, Test, Written};
 use common::errno::Errno;
 use console::format;
 use label::{LabelAnswer, Next, region};
-use libc::{STDERR_FILENO, STDOUT_FILENO};
 use range::RangeAnswer;
 use range::tuple::TupleAnswer;
 
 // The size of the buffer for an answer.
 pub(crate) const ANSWER_BYTES: usize = 512;
 
-// Prints an answer. A write that fails is told on descriptor 2, and the requests go on.
-pub(crate) fn print_bytes(bytes: &[u8]) {
-    if !io::write_all(STDOUT_FILENO, bytes) {
-        io::write_all(
-            STDERR_FILENO,
-            b"mac_cmd: can't write to the standard output\n",
-        );
+// Prints an answer. A write that fails is told on the standard error, and the requests go on.
+pub(crate) fn print_bytes(rt: &(impl Print + Eprint), bytes: &[u8]) {
+    if rt.write_all(bytes).is_err() {
+        let _ = rt.eprintln("mac_cmd: can't write to the standard output");
     }
 }
 

@@ -3,7 +3,6 @@ use crate::answer::ANSWER_BYTES;
 use crate::request::Request;
 use crate::{answer, call, request};
 use console::command;
-use libc::STDERR_FILENO;
 
 // The request whose operand lines are due. Between two requests none is.
 #[derive(Clone, Copy)]
@@ -42,22 +41,22 @@ fn put_answer(r: Request, a: &[u8], b: &[u8], out: &mut [u8]) -> usize {
 }
 
 // Answers a request, with its operand lines if it has any.
-fn respond(r: Request, a: &[u8], b: &[u8]) -> Session {
+fn respond(rt: &(impl Print + Eprint), r: Request, a: &[u8], b: &[u8]) -> Session {
     let mut out = [0u8; ANSWER_BYTES];
     let n = put_answer(r, a, b, &mut out);
-    answer::print_bytes(octets::front(&out, n));
+    answer::print_bytes(rt, octets::front(&out, n));
     between()
 }
 
 // A line where a command line is due. A bad line comes as no bytes at all.
-fn take_command(line: &[u8]) -> Session {
+fn take_command(rt: &(impl Print + Eprint), line: &[u8]) -> Session {
     if command::is_skipped(line) {
         return between();
     }
     let r = request::of_line(line);
     let due = request::operand_count(r);
     if due == 0 {
-        return respond(r, line, line);
+        return respond(rt, r, line, line);
     }
     Session {
         request: r,
@@ -67,7 +66,12 @@ fn take_command(line: &[u8]) -> Session {
 }
 
 // A line where an operand line is due. Of two, the first is kept until the second is there.
-fn take_operand(s: Session, line: &[u8], operand: &mut [u8]) -> Session {
+fn take_operand(
+    rt: &(impl Print + Eprint),
+    s: Session,
+    line: &[u8],
+    operand: &mut [u8],
+) -> Session {
     let r = s.request;
     if s.due > 1 {
         let kept = octets::append(operand, 0, line);
@@ -78,24 +82,29 @@ fn take_operand(s: Session, line: &[u8], operand: &mut [u8]) -> Session {
         };
     }
     if request::operand_count(r) > 1 {
-        return respond(r, octets::front(operand, s.kept), line);
+        return respond(rt, r, octets::front(operand, s.kept), line);
     }
-    respond(r, line, line)
+    respond(rt, r, line, line)
 }
 
-pub(crate) fn take_line(s: Session, line: &[u8], operand: &mut [u8]) -> Session {
+pub(crate) fn take_line(
+    rt: &(impl Print + Eprint),
+    s: Session,
+    line: &[u8],
+    operand: &mut [u8],
+) -> Session {
     if s.due == 0 {
-        return take_command(line);
+        return take_command(rt, line);
     }
-    take_operand(s, line, operand)
+    take_operand(rt, s, line, operand)
 }
 
 // The end of the input: a request that lacks operand lines is refused, and a read that failed is told.
-pub(crate) fn finish(s: Session, failed: bool) {
+pub(crate) fn finish(rt: &(impl Print + Eprint), s: Session, failed: bool) {
     if s.due > 0 {
-        respond(Request::Invalid, b"", b"");
+        respond(rt, Request::Invalid, b"", b"");
     }
     if failed {
-        io::write_all(STDERR_FILENO, b"mac_cmd: can't read the standard input\n");
+        let _ = rt.eprintln("mac_cmd: can't read the standard input");
     }
 }

@@ -1,7 +1,6 @@
 // Decisions as text.
 use common::errno::Errno;
 use console::format;
-use libc::{STDERR_FILENO, STDOUT_FILENO};
 use monitor::Decision;
 
 // The size of the buffer for an answer.
@@ -15,23 +14,20 @@ fn put_decision(d: Decision, out: &mut [u8]) -> usize {
     }
 }
 
-// Prints an answer. A write that fails is told on descriptor 2, and the requests go on.
-fn print_bytes(bytes: &[u8]) {
-    if !io::write_all(STDOUT_FILENO, bytes) {
-        io::write_all(
-            STDERR_FILENO,
-            b"monitor_cmd: can't write to the standard output\n",
-        );
+// Prints an answer. A write that fails is told on the standard error, and the requests go on.
+fn print_bytes(rt: &(impl Print + Eprint), bytes: &[u8]) {
+    if rt.write_all(bytes).is_err() {
+        let _ = rt.eprintln("monitor_cmd: can't write to the standard output");
     }
 }
 
-pub(crate) fn print(d: Decision) {
+pub(crate) fn print(rt: &(impl Print + Eprint), d: Decision) {
     let mut out = [0u8; ANSWER_BYTES];
     let n = put_decision(d, &mut out);
-    print_bytes(octets::front(&out, n));
+    print_bytes(rt, octets::front(&out, n));
 }
 
 // What is printed of a request that makes no call.
-pub(crate) fn print_invalid() {
-    print(Decision::Refused(Errno::Invalid));
+pub(crate) fn print_invalid(rt: &(impl Print + Eprint)) {
+    print(rt, Decision::Refused(Errno::Invalid));
 }

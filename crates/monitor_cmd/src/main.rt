@@ -5,19 +5,22 @@ mod answer;
 mod request;
 mod session;
 
+use std::io::Read;
+
 // Answers the requests of the input, which is read into the chunk. The line at hand is in the second buffer.
-fn run(chunk: &mut [u8], line: &mut [u8]) {
+fn run(rt: &(impl Print + Eprint), reader: &mut impl Read, chunk: &mut [u8], line: &mut [u8]) {
     let mut s = session::between();
-    let mut l = input::next(input::start(), chunk, line);
+    let mut l = input::next(reader, input::start(), chunk, line);
     while l.left > 0 {
-        s = session::take_line(s, octets::front(line, l.length));
-        l = input::next(l, chunk, line);
+        s = session::take_line(rt, s, octets::front(line, l.length));
+        l = input::next(reader, l, chunk, line);
     }
-    session::finish(s, l.input.failed);
+    session::finish(rt, s, l.input.failed);
 }
 
-fn main() {
-    let mut chunk = io::buffer();
+fn main(rt: HostRuntime) {
+    let mut reader = rt.stdin();
+    let mut chunk = [0u8; 4096];
     let mut line = [0u8; 512];
-    run(&mut chunk, &mut line);
+    run(&rt, &mut reader, &mut chunk, &mut line);
 }

@@ -3,7 +3,6 @@ use crate::request::{Draft, NUMBERS, OPERANDS};
 use crate::{answer, request};
 use console::command;
 use console::command::MAX_NUMBERS;
-use libc::STDERR_FILENO;
 
 // The request whose operand lines are due. Between two requests none is.
 #[derive(Clone, Copy)]
@@ -21,23 +20,23 @@ pub(crate) fn between() -> Session {
 }
 
 // Answers a request, with its operand lines.
-fn respond(d: Draft) -> Session {
+fn respond(rt: &(impl Print + Eprint), d: Draft) -> Session {
     if d.good {
-        answer::print(monitor::check(request::of_draft(d)));
+        answer::print(rt, monitor::check(request::of_draft(d)));
     } else {
-        answer::print_invalid();
+        answer::print_invalid(rt);
     }
     between()
 }
 
 // A line where a command line is due. A bad line comes as no bytes at all.
-fn take_command(line: &[u8]) -> Session {
+fn take_command(rt: &(impl Print + Eprint), line: &[u8]) -> Session {
     if command::is_skipped(line) {
         return between();
     }
     let c = command::parse(line);
     if !octets::same(octets::front(line, c.word), b"check") | !c.valid | (c.count != NUMBERS) {
-        answer::print_invalid();
+        answer::print_invalid(rt);
         return between();
     }
     let numbers = c.numbers;
@@ -48,7 +47,7 @@ fn take_command(line: &[u8]) -> Session {
 }
 
 // A line where an operand line is due.
-fn take_operand(s: Session, line: &[u8]) -> Session {
+fn take_operand(rt: &(impl Print + Eprint), s: Session, line: &[u8]) -> Session {
     let draft = request::with_operand(s.draft, s.due, line);
     if s.due > 1 {
         return Session {
@@ -56,25 +55,22 @@ fn take_operand(s: Session, line: &[u8]) -> Session {
             due: s.due - 1,
         };
     }
-    respond(draft)
+    respond(rt, draft)
 }
 
-pub(crate) fn take_line(s: Session, line: &[u8]) -> Session {
+pub(crate) fn take_line(rt: &(impl Print + Eprint), s: Session, line: &[u8]) -> Session {
     if s.due == 0 {
-        return take_command(line);
+        return take_command(rt, line);
     }
-    take_operand(s, line)
+    take_operand(rt, s, line)
 }
 
 // The end of the input: a request that lacks operand lines is refused, and a read that failed is told.
-pub(crate) fn finish(s: Session, failed: bool) {
+pub(crate) fn finish(rt: &(impl Print + Eprint), s: Session, failed: bool) {
     if s.due > 0 {
-        answer::print_invalid();
+        answer::print_invalid(rt);
     }
     if failed {
-        io::write_all(
-            STDERR_FILENO,
-            b"monitor_cmd: can't read the standard input\n",
-        );
+        let _ = rt.eprintln("monitor_cmd: can't read the standard input");
     }
 }

@@ -10,7 +10,6 @@ ghost use Rattle.segments_cmd.specs.Internal.Sizes.{answer_bytes, hexline_bytes,
 use common::answer::Written;
 use console::format;
 use label::Label;
-use libc::{STDERR_FILENO, STDOUT_FILENO};
 use segment_table::{CallAnswer, Reply, Shown, Slot};
 
 // The size of the buffer for an answer.
@@ -75,19 +74,16 @@ fn put_reply(out: &mut [u8], reply: Reply, label: Label) -> usize
     }
 }
 
-// Prints an answer. A write that fails is told on descriptor 2, and the requests go on.
-pub(crate) fn print_bytes(bytes: &[u8]) {
-    if !io::write_all(STDOUT_FILENO, bytes) {
-        io::write_all(
-            STDERR_FILENO,
-            b"segments_cmd: can't write to the standard output\n",
-        );
+// Prints an answer. A write that fails is told on the standard error, and the requests go on.
+pub(crate) fn print_bytes(rt: &(impl Print + Eprint), bytes: &[u8]) {
+    if rt.write_all(bytes).is_err() {
+        let _ = rt.eprintln("segments_cmd: can't write to the standard output");
     }
 }
 
-pub(crate) fn print(a: CallAnswer) {
+pub(crate) fn print(rt: &(impl Print + Eprint), a: CallAnswer) {
     let mut out = [0u8; ANSWER_BYTES];
     let reply = a.reply;
     let n = put_reply(&mut out, reply, a.label);
-    print_bytes(octets::front(&out, n));
+    print_bytes(rt, octets::front(&out, n));
 }

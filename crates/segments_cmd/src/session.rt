@@ -6,7 +6,6 @@ ghost use Rattle.segments_cmd.specs.Session.{after_command, after_line, between,
 use crate::request::Request;
 use crate::{answer, call, request, show};
 use console::command;
-use libc::STDERR_FILENO;
 use segment_table::{CallOutcome, SegmentTable, operator, state};
 
 // The state, and the request whose operand line is due. Between two requests none is.
@@ -34,41 +33,42 @@ pub(crate) fn start() -> Session
 }
 
 // Prints what a call answers. The state that it leaves takes the old one's place.
-fn reply(o: CallOutcome) -> Session
+fn reply(rt: &(impl Print + Eprint), o: CallOutcome) -> Session
     ensures { result ≡ between o.table }
 {
-    answer::print(o.answer);
+    answer::print(rt, o.answer);
     between(o.table)
 }
 
-fn show(table: SegmentTable) -> Session
+fn show(rt: &(impl Print + Eprint), table: SegmentTable) -> Session
     ensures { result ≡ between table }
 {
     if state::sound(table) {
-        show::print(table);
+        show::print(rt, table);
         return between(table);
     }
-    reply(call::refused(table))
+    reply(rt, call::refused(table))
 }
 
 // Answers a request, with its operand line if it has one.
-fn respond(table: SegmentTable, r: Request, line: &[u8]) -> Session
+fn respond(rt: &(impl Print + Eprint), table: SegmentTable, r: Request, line: &[u8]) -> Session
     ensures { result ≡ between (table_after table r line.now) }
 {
     match r {
-        Request::Invalid => reply(call::refused(table)),
-        Request::Make(pool) => reply(call::make(table, pool)),
-        Request::Admit(tenant, ceiling) => reply(call::admit(table, tenant, ceiling, line)),
-        Request::SetCeiling(tenant, ceiling) => reply(operator::set_ceiling(
-            table, tenant, ceiling,
-        )),
-        Request::Call(tenant, action) => reply(call::of_tenant(table, tenant, action, line)),
-        Request::Show => show(table),
+        Request::Invalid => reply(rt, call::refused(table)),
+        Request::Make(pool) => reply(rt, call::make(table, pool)),
+        Request::Admit(tenant, ceiling) => reply(rt, call::admit(table, tenant, ceiling, line)),
+        Request::SetCeiling(tenant, ceiling) => reply(
+            rt,
+            operator::set_ceiling(table, tenant, ceiling),
+        ),
+        Request::Call(tenant, action) => reply(rt, call::of_tenant(table, tenant, action, line)),
+        Request::Show => show(rt, table),
     }
 }
 
 // A line where a command line is due. A bad line comes as no bytes at all.
-fn take_command(table: SegmentTable, line: &[u8]) -> Session
+fn take_command(rt: &(impl Print + Eprint), table: SegmentTable, line: &[u8]) -> Session
     ensures { result ≡ after_command table line.now }
 {
     if command::is_skipped(line) {
@@ -78,29 +78,26 @@ fn take_command(table: SegmentTable, line: &[u8]) -> Session
     if request::takes_operand(r) {
         return Session { table, request: r };
     }
-    respond(table, r, line)
+    respond(rt, table, r, line)
 }
 
-pub(crate) fn take_line(s: Session, line: &[u8]) -> Session
+pub(crate) fn take_line(rt: &(impl Print + Eprint), s: Session, line: &[u8]) -> Session
     ensures { result ≡ after_line s line.now }
 {
     let r = s.request;
     if request::takes_operand(r) {
-        return respond(s.table, r, line);
+        return respond(rt, s.table, r, line);
     }
-    take_command(s.table, line)
+    take_command(rt, s.table, line)
 }
 
 // The end of the input: a request that lacks its operand line is refused, and a read that failed is told.
-pub(crate) fn finish(s: Session, failed: bool) {
+pub(crate) fn finish(rt: &(impl Print + Eprint), s: Session, failed: bool) {
     let r = s.request;
     if request::takes_operand(r) {
-        reply(call::refused(s.table));
+        reply(rt, call::refused(s.table));
     }
     if failed {
-        io::write_all(
-            STDERR_FILENO,
-            b"segments_cmd: can't read the standard input\n",
-        );
+        let _ = rt.eprintln("segments_cmd: can't read the standard input");
     }
 }

@@ -96,27 +96,27 @@ fn put_pool(out: &mut [u8], pool: u64) -> usize
 }
 
 // Prints a slot that is filled.
-fn print_slot(out: &mut [u8], slot: u64, x: Segment)
+fn print_slot(rt: &(impl Print + Eprint), out: &mut [u8], slot: u64, x: Segment)
     requires { line_bytes ≤ length out.old }
 {
     if x.pages > 0 {
         let n = put_slot(out, slot, x);
-        print_bytes(octets::front(out, n));
+        print_bytes(rt, octets::front(out, n));
     }
 }
 
-fn print_slots(out: &mut [u8], s: SegmentTable)
+fn print_slots(rt: &(impl Print + Eprint), out: &mut [u8], s: SegmentTable)
     requires { line_bytes ≤ length out.old }
 {
     let mut i = 0;
     while i < SLOTS {
-        print_slot(out, i as u64, s.segments[i]);
+        print_slot(rt, out, i as u64, s.segments[i]);
         i += 1;
     }
 }
 
 // Prints a tenant that is admitted.
-fn print_tenant(out: &mut [u8], s: SegmentTable, tenant: usize)
+fn print_tenant(rt: &(impl Print + Eprint), out: &mut [u8], s: SegmentTable, tenant: usize)
     requires line_bytes_in_bounds { line_bytes ≤ length out.old }
     requires tenant_lt_tenant_total { tenant < tenant_total }
 {
@@ -125,34 +125,34 @@ fn print_tenant(out: &mut [u8], s: SegmentTable, tenant: usize)
     match used {
         Number::Value(pages) => {
             let n = put_tenant(out, tenant as u64, ceiling, pages);
-            print_bytes(octets::front(out, n));
+            print_bytes(rt, octets::front(out, n));
         }
         Number::Refused(_) => {}
     }
 }
 
-fn print_tenants(out: &mut [u8], s: SegmentTable)
+fn print_tenants(rt: &(impl Print + Eprint), out: &mut [u8], s: SegmentTable)
     requires { line_bytes ≤ length out.old }
 {
     let mut i = 0;
     while i < TENANTS {
-        print_tenant(out, s, i);
+        print_tenant(rt, out, s, i);
         i += 1;
     }
 }
 
-fn print_lines(out: &mut [u8], s: SegmentTable)
+fn print_lines(rt: &(impl Print + Eprint), out: &mut [u8], s: SegmentTable)
     requires { line_bytes ≤ length out.old }
 {
     let n = put_pool(out, s.pool);
-    print_bytes(octets::front(out, n));
-    print_tenants(out, s);
-    print_slots(out, s);
-    print_bytes(b"end\n");
+    print_bytes(rt, octets::front(out, n));
+    print_tenants(rt, out, s);
+    print_slots(rt, out, s);
+    print_bytes(rt, b"end\n");
 }
 
 // Prints a state that is sound.
-pub(crate) fn print(s: SegmentTable) {
+pub(crate) fn print(rt: &(impl Print + Eprint), s: SegmentTable) {
     let mut out = [0u8; LINE_BYTES];
-    print_lines(&mut out, s);
+    print_lines(rt, &mut out, s);
 }

@@ -3,7 +3,6 @@ use crate::kept::Kept;
 use crate::request::{Operand, Request};
 use crate::{answer, call, kept, request};
 use console::command;
-use libc::STDERR_FILENO;
 
 // What is kept, and the request whose operand is due. Between two requests none is.
 #[derive(Clone, Copy)]
@@ -33,28 +32,45 @@ pub(crate) fn takes_text(s: Session) -> bool {
 }
 
 // Answers a request, with its operand line if it has one.
-fn respond(kept: Kept, r: Request, line: &[u8], table: &[u8], out: &mut [u8]) -> Kept {
+fn respond(
+    rt: &(impl Print + Eprint),
+    kept: Kept,
+    r: Request,
+    line: &[u8],
+    table: &[u8],
+    out: &mut [u8],
+) -> Kept {
     match r {
-        Request::Invalid => answer::print_invalid(),
-        Request::Table => call::check_table(kept, table),
-        Request::Subject(read_override) => return call::take_subject(kept, read_override, line),
-        Request::Capacity(n) => return call::take_capacity(kept, n),
-        Request::Label(form, variant) => call::write_label(kept, form, variant, line, table, out),
-        Request::Range(form, variant) => call::write_range(kept, form, variant, line, table, out),
-        Request::ReadLabel => call::read_label(kept, line, table),
-        Request::ReadRange => call::read_range(kept, line, table),
+        Request::Invalid => answer::print_invalid(rt),
+        Request::Table => call::check_table(rt, kept, table),
+        Request::Subject(read_override) => return call::take_subject(rt, kept, read_override, line),
+        Request::Capacity(n) => return call::take_capacity(rt, kept, n),
+        Request::Label(form, variant) => call::write_label(
+            rt, kept, form, variant, line, table, out,
+        ),
+        Request::Range(form, variant) => call::write_range(
+            rt, kept, form, variant, line, table, out,
+        ),
+        Request::ReadLabel => call::read_label(rt, kept, line, table),
+        Request::ReadRange => call::read_range(rt, kept, line, table),
     }
     kept
 }
 
 // A line where a command line is due. A bad line comes as no bytes at all.
-fn take_command(kept: Kept, line: &[u8], table: &[u8], out: &mut [u8]) -> Session {
+fn take_command(
+    rt: &(impl Print + Eprint),
+    kept: Kept,
+    line: &[u8],
+    table: &[u8],
+    out: &mut [u8],
+) -> Session {
     if command::is_skipped(line) {
         return between(kept);
     }
     let request = request::of_line(line);
     match request::operand_of(request) {
-        Operand::Nothing => between(respond(kept, request, line, table, out)),
+        Operand::Nothing => between(respond(rt, kept, request, line, table, out)),
         Operand::Lines => Session {
             kept: kept::without_table(kept),
             request,
@@ -64,9 +80,14 @@ fn take_command(kept: Kept, line: &[u8], table: &[u8], out: &mut [u8]) -> Sessio
 }
 
 // A line where one of the table is due. An empty line ends the table.
-fn take_table_line(kept: Kept, line: &[u8], table: &mut [u8]) -> Session {
+fn take_table_line(
+    rt: &(impl Print + Eprint),
+    kept: Kept,
+    line: &[u8],
+    table: &mut [u8],
+) -> Session {
     if octets::same(line, b"\n") {
-        call::check_table(kept, table);
+        call::check_table(rt, kept, table);
         return between(kept);
     }
     Session {
@@ -75,25 +96,37 @@ fn take_table_line(kept: Kept, line: &[u8], table: &mut [u8]) -> Session {
     }
 }
 
-pub(crate) fn take_line(s: Session, line: &[u8], table: &mut [u8], out: &mut [u8]) -> Session {
+pub(crate) fn take_line(
+    rt: &(impl Print + Eprint),
+    s: Session,
+    line: &[u8],
+    table: &mut [u8],
+    out: &mut [u8],
+) -> Session {
     let r = s.request;
     match request::operand_of(r) {
-        Operand::Nothing => take_command(s.kept, line, table, out),
-        Operand::Lines => take_table_line(s.kept, line, table),
-        _ => between(respond(s.kept, r, line, table, out)),
+        Operand::Nothing => take_command(rt, s.kept, line, table, out),
+        Operand::Lines => take_table_line(rt, s.kept, line, table),
+        _ => between(respond(rt, s.kept, r, line, table, out)),
     }
 }
 
 // The end of the input: it ends a table, a request that lacks its operand has a bad one, and a read that failed is told.
-pub(crate) fn finish(s: Session, failed: bool, table: &[u8], out: &mut [u8]) {
+pub(crate) fn finish(
+    rt: &(impl Print + Eprint),
+    s: Session,
+    failed: bool,
+    table: &[u8],
+    out: &mut [u8],
+) {
     if failed {
-        io::write_all(STDERR_FILENO, b"text_cmd: can't read the standard input\n");
+        let _ = rt.eprintln("text_cmd: can't read the standard input");
     }
     let r = s.request;
     match request::operand_of(r) {
         Operand::Nothing => {}
         _ => {
-            respond(s.kept, r, b"", table, out);
+            respond(rt, s.kept, r, b"", table, out);
         }
     }
 }
