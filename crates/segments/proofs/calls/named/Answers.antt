@@ -1,0 +1,16 @@
+use Rattle.segments.proofs.calls.named.Goals as goal
+
+pub returns-in-Open : goal.returns-in-Open
+returns-in-Open c = rw c.in-Open.is
+
+pub returns-in-Size : goal.returns-in-Size
+returns-in-Size c = rw c.in-Size.is
+
+pub returns-in-Post : goal.returns-in-Post
+returns-in-Post c = rw c.in-Post.is
+
+pub returns-in-Look : goal.returns-in-Look
+returns-in-Look c = rw c.in-Look.is
+
+pub returns-in-Close : goal.returns-in-Close
+returns-in-Close c = rw c.in-Close.is
