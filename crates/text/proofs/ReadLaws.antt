@@ -4,7 +4,6 @@ use mathlib.Core.List.{List, ◌∷◌}
 use mathlib.Core.Path.{◌≡◌, refl, sym, ap, ◌∙◌}
 use Prim.Native.Nat.{ℕ, ◌+◌, ◌≤◌, ◌<◌}
 use native.Mathlib.Omega.{arith}
-use denote.Enum.Declared.{tag_of}
 use lib.ListN.{drop, length, take, drop_of_length-le}
 use Rattle.common.specs.Answer.{Answer, Answered, and_then, granted}
 use Rattle.common.specs.declared.answer.Outcome.{Outcome}
@@ -21,7 +20,6 @@ use Rattle.hexline.specs.Line.{standing_in}
 use Rattle.alias_entry.specs.declared.Entry.{Entry}
 use Rattle.alias_entry.specs.declared.Value.{Value}
 use Rattle.alias_entry.specs.declared.Value.TheVariants.{Hierarchy, Category, WholeLabel}
-use Rattle.alias_entry.specs.contracts.Value.{the_type}
 use Rattle.octets.specs.Lines.{line_at}
 use Rattle.alias.specs.Lines.{entries_by, lines_by}
 use Rattle.alias.specs.Lookup.{find_of, found_entry_of}
@@ -76,14 +74,14 @@ module _ (bytes starts text : List ℕ) {r : FoundEntry} (f : found_entry_of r �
     pub label_whole : v ≡ WholeLabel → label_named (entries_by bytes starts) text ≡ granted (standing_in line).label
     label_whole q = label_by_lem q
 
-no_hierarchy : (v : Value) → (tag_of the_type v ≡ 0 → ⊥) → hierarchy_by v ≡ plain
-no_hierarchy (Hierarchy h) d = absurd (d refl)
+no_hierarchy : (v : Value) → ((h : ℕ) → v ≡ Hierarchy h → ⊥) → hierarchy_by v ≡ plain
+no_hierarchy (Hierarchy h) d = absurd (d h refl)
 no_hierarchy (Category c) d = refl
 no_hierarchy WholeLabel d = refl
 
-no_category : (v : Value) → (tag_of the_type v ≡ 1 → ⊥) → category_by v ≡ plain
+no_category : (v : Value) → ((c : ℕ) → v ≡ Category c → ⊥) → category_by v ≡ plain
 no_category (Hierarchy h) d = refl
-no_category (Category c) d = absurd (d refl)
+no_category (Category c) d = absurd (d c refl)
 no_category WholeLabel d = refl
 
 -- by its value, as `value_named` tells it
@@ -102,11 +100,11 @@ module _ (es : List Entry) (text : List ℕ) {r : Named} (f : value_named_of r �
     composed_none names = rw (value_then hierarchy_by e)
 
   module _ {v : Value} (e : r ≡ As v) where
-    pub added_other : (ws : List ℕ) → (tag_of the_type v ≡ 1 → ⊥) → added_to es ws text ≡ plain
+    pub added_other : (ws : List ℕ) → ((c : ℕ) → v ≡ Category c → ⊥) → added_to es ws text ≡ plain
     unfolding added_to category_named
     added_other ws d = rw (value_then category_by e, no_category v d)
 
-    pub composed_other : (names : List ℕ) → (tag_of the_type v ≡ 0 → ⊥) → composed_of es text names ≡ plain
+    pub composed_other : (names : List ℕ) → ((h : ℕ) → v ≡ Hierarchy h → ⊥) → composed_of es text names ≡ plain
     unfolding composed_of hierarchy_named
     composed_other names d = rw (value_then hierarchy_by e, no_hierarchy v d)
 
