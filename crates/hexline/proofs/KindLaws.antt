@@ -26,7 +26,7 @@ use Rattle.codec.specs.Body.{byte_at, label_bytes, label_size, line_words, range
 use Rattle.alias_entry.specs.Entry
 use Rattle.alias_entry.specs.Entry.{TypedEntry}
 use Rattle.hexline.specs.Line.{contents_of, entry_body, entry_line_of, body_form, label_body, label_form, label_in_body, label_line_of, line_of, range_body, range_form, range_in, range_line_of, read_entry_line, read_label_line, read_range_line, read_tuple_line, tuple_body, tuple_form, tuple_in, tuple_line_of}
-use Rattle.codec.specs.Tuples.{presence_of, present_below, regions_bytes, tuple_size}
+use Rattle.codec.specs.Tuples.{presence_of, present_below, regions_bytes}
 use Rattle.alias_entry.specs.declared.Entry.{Entry}
 use Rattle.codec.proofs.BodyLaws.{Within, first_part, holds_second, holds_self, label_back, label_bytes_lem, label_forth, label_length, one_part, part, parts_join, range_back, range_bytes_lem, range_forth, range_length}
 use Rattle.hexline.proofs.EntryKindLaws.{entry_exact, entry_length}
@@ -91,7 +91,7 @@ module _ (kind w : ℕ) (k : kind < 256) (fits : w ≤ words) where
       (λ v. let p = presence_small t in
       cons_bytes kind (presence_of t ∷ regions_bytes w t regions) k (cons_bytes (presence_of t) (regions_bytes w t regions) (omega arith) (regions_bytes_lem w t v regions (omega arith))))
       (λ v. let n = presence_size w t in
-      both (lt-ltb (presence_of t) 8 (presence_small t)) (form_of body (1 + tuple_size w (presence_of t)) kind (omega arith) refl))
+      both (lt-ltb (presence_of t) 8 (presence_small t)) (form_of body (present_below (presence_of t) regions * range_size w + 2) kind (omega arith) refl))
       (λ v. tuple_back w t body 2 ty within v (holds_second body 0 2 (kind ∷ presence_of t ∷ []) (regions_bytes w t regions) refl (holds_self body)))
       tuple_forth
 

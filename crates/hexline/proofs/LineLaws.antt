@@ -1,5 +1,5 @@
 -- The laws of lines by their kind, and the ways in which their readers and writers end.
-use mathlib.Core.Bool.{Bool, true, false, cond, not, ◌&&◌, and-false, true≢false}
+use mathlib.Core.Bool.{Bool, true, false, cond, ◌&&◌, and-false, true≢false}
 use mathlib.Core.List.{List, [], ◌∷◌, ◌++◌}
 use mathlib.Core.Logic.{◌↔◌}
 use mathlib.Core.Option.{none}
@@ -9,7 +9,7 @@ use native.Mathlib.Omega.{arith}
 use lib.Dec.{eqb, leb, ltb}
 use lib.ListN.{drop, length, replicate, set, take, length-replicate, length-set}
 use lib.Seq.{take_at, take-suc-set}
-use borrow.Author.Tests.{eq-eqb, eqb-true, le-leb, leb-false, leb-true, lt-leb, ltb-true, not-false, not-true}
+use borrow.Author.Tests.{eq-eqb, eqb-true, le-leb, leb-false, leb-true, lt-leb, ltb-true}
 use Rattle.common.specs.Answer.{Answer, Answered, granted, is_granted, refused, require}
 use Rattle.common.specs.Buffer.{WrittenTo}
 use Rattle.label.specs.Region.{regions}
@@ -27,9 +27,9 @@ use Rattle.frame.proofs.FrameLaws.{frame_length, reads_back, reads_exactly}
 use Rattle.frame.proofs.FrameLoops.{sound_short}
 use Rattle.octets.specs.Bytes.{Appended, put_at}
 use Rattle.octets.proofs.ByteLaws.{appended_put}
-use Rattle.codec.specs.Body.{byte_at, line_words}
+use Rattle.codec.specs.Body.{byte_at, line_words, range_size}
 use Rattle.alias_entry.specs.Entry.{layout_of, max_abbreviation, max_name, past}
-use Rattle.codec.specs.Tuples.{tuple_size}
+use Rattle.codec.specs.Tuples.{present_below, tuple_size}
 use Rattle.codec.proofs.TupleBytesLaws.{below_most}
 use Rattle.hexline.specs.Line.{contents_of, entry_form, body_form, kind_in, kind_numbered, line_kind_of, line_of, longest_body, tuple_form}
 
@@ -162,9 +162,9 @@ pub tuple_form_parts : (kind w : ℕ) (bs : List ℕ) → tuple_form kind w bs �
     → (byte_at bs 1 < 8) × (length bs ≡ 1 + tuple_size w (byte_at bs 1)) × (byte_at bs 0 ≡ kind)
 unfolding tuple_form
 tuple_form_parts kind w bs e =
-    let n = 1 + tuple_size w (byte_at bs 1) in
+    let n = present_below (byte_at bs 1) regions * range_size w + 2 in
     let f = second_true (ltb (byte_at bs 1) 8) (body_form bs n kind) e in
-    (ltb-true (byte_at bs 1) 8 (first_true (ltb (byte_at bs 1) 8) (body_form bs n kind) e), form_length bs n kind f, form_kind bs n kind f)
+    (ltb-true (byte_at bs 1) 8 (first_true (ltb (byte_at bs 1) 8) (body_form bs n kind) e), omega (arith, form_length bs n kind f), form_kind bs n kind f)
 
 -- the body of a tuple is no longer than the longest, and not empty
 pub tuple_room : (bs : List ℕ) → tuple_form 3 line_words bs ≡ true → length bs ≤ longest_body line_words
@@ -204,13 +204,13 @@ entry_form_parts kind w bs e =
 -- ---- how a writer ends: it tests first, and then puts a body together
 
 module _ {valid test : Bool} (e : test ≡ valid) where
-  pub refuses_line : (body before : List ℕ) → not test ≡ true → WrittenTo (RefusedWrite Invalid) (line_of valid body) before before
-  refuses_line body before t = writes_nothing Invalid _ _ _ (stopped _ 22 _ (sym e ∙ not-true _ t)) refl
+  pub refuses_line : (body before : List ℕ) → test ≡ false → WrittenTo (RefusedWrite Invalid) (line_of valid body) before before
+  refuses_line body before t = writes_nothing Invalid _ _ _ (stopped _ 22 _ (sym e ∙ t)) refl
 
-  pub line_due : not test ≡ false → valid ≡ true
-  line_due t = sym e ∙ not-false _ t
+  pub line_due : test ≡ true → valid ≡ true
+  line_due t = sym e ∙ t
 
-  pub writes_line : not test ≡ false → (r : Written) (body before after : List ℕ) {bs : List ℕ} → bs ≡ body → length body ≤ max_body
+  pub writes_line : test ≡ true → (r : Written) (body before after : List ℕ) {bs : List ℕ} → bs ≡ body → length body ≤ max_body
       → WrittenTo r (frame_answer_of bs) before after → WrittenTo r (line_of valid body) before after
   writes_line t r body before after p h w =
       let fits : leb (length body) max_body ≡ true = le-leb (length body) max_body h in

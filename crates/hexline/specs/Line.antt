@@ -10,12 +10,10 @@ use Rattle.range.specs.Tuple
 use Rattle.range.specs.declared.Range.{Range}
 use Rattle.range.specs.declared.tuple.Tuple.{Tuple}
 use Rattle.codec.specs.Body.{byte_at, label_at, label_bytes, label_size, line_words, range_at, range_bytes, range_size}
-use Rattle.codec.specs.Codec.{tuple_from}
-use Rattle.alias_entry.specs.Codec.{entry_in_bytes}
 use Rattle.alias_entry.specs.Entry
-use Rattle.alias_entry.specs.Entry.{abbreviation_size, at_most, entry_bytes, layout_of, max_abbreviation, max_name, name_size, past}
+use Rattle.alias_entry.specs.Entry.{abbreviation_size, at_most, entry_bytes, entry_from, layout_of, max_abbreviation, max_name, name_size, past}
 use Rattle.frame.specs.Frame.{body_of, frame_of, read_body}
-use Rattle.codec.specs.Tuples.{presence_of, regions_bytes, tuple_size}
+use Rattle.codec.specs.Tuples.{presence_of, present_below, regions_bytes, tuple_at}
 use Rattle.alias_entry.specs.declared.Entry.{Entry}
 use Rattle.alias_entry.specs.declared.bytes.Span.{Span}
 use Rattle.hexline.specs.declared.Kind.{Kind}
@@ -78,10 +76,10 @@ tuple_body kind w t = kind ∷ presence_of t ∷ regions_bytes w t regions
 
 -- the byte of presence has no bit but those of the regions, and the ranges that are there fill the body
 unfoldable pub tuple_form : ℕ → ℕ → List ℕ → Bool
-tuple_form kind w bs = ltb (byte_at bs 1) (2 ^ regions) && body_form bs (1 + tuple_size w (byte_at bs 1)) kind
+tuple_form kind w bs = ltb (byte_at bs 1) (2 ^ regions) && body_form bs (present_below (byte_at bs 1) regions * range_size w + 2) kind
 
 abbrev pub tuple_in : ℕ → List ℕ → Tuple
-tuple_in w bs = tuple_from w bs 1
+tuple_in w bs = tuple_at w bs (byte_at bs 1) 2
 
 -- the line of a tuple, kind 03
 abbrev pub tuple_line_of : Tuple → Answer (List ℕ)
@@ -102,7 +100,7 @@ entry_form kind w bs =
     && (body_form bs (past (layout_of w bs 1).abbreviation) kind && leb 1 (layout_of w bs 1).class && leb (layout_of w bs 1).class 3)
 
 abbrev pub entry_in : ℕ → List ℕ → Entry
-entry_in w bs = entry_in_bytes w bs 1
+entry_in w bs = entry_from w bs 2 (layout_of w bs 1)
 
 -- the line of an alias entry, kind 04
 abbrev pub entry_line_of : Entry → Answer (List ℕ)

@@ -1,6 +1,7 @@
 // Bodies of alias entries judged by their bytes: no entry is made, and its texts can be read where they stand in the body.
 ghost use Rattle.std.specs.Prelude.{◌≡◌, ◌&&◌, ◌+◌, ◌<◌};
 ghost use Rattle.common.specs.Answer.{Answered};
+ghost use Rattle.codec.specs.Body.{line_words};
 ghost use Rattle.codec.specs.Codec.{width};
 ghost use Rattle.alias_entry.specs.Entry.{layout_of, valid_of, zero_entry};
 ghost use Rattle.hexline.specs.Accept.{accepted_body};
@@ -74,4 +75,11 @@ pub fn accepts(body: &[u8]) -> bool
     ensures { result ≡ accepted_body body.now }
 {
     judge(body, 4, LINE_WORDS)
+}
+
+// The class of the entry in any body, and where its texts stand.
+pub fn layout(body: &[u8]) -> Layout
+    ensures { result ≡ layout_of line_words body.now 1 }
+{
+    layout_in(body, LINE_WORDS)
 }

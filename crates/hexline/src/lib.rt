@@ -3,6 +3,8 @@
 #![tactic(auto)]
 
 pub mod accept;
+pub mod codec;
+pub mod entry;
 pub mod parts;
 
 ghost use Rattle.std.specs.Prelude.{◌≡◌, take};

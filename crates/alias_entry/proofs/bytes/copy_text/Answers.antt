@@ -1,5 +1,4 @@
 use mathlib.Core.Path.{refl}
-use Prim.Native.Nat.{◌-◌}
 use native.Mathlib.Omega.{arith}
 use Rattle.common.proofs.IndexLaws.{fill_all, fill_next, fill_none}
 use Rattle.alias_entry.specs.Entry.{text_from}
