@@ -1,9 +1,10 @@
 -- What a call on a state hands back to C.
-use Rattle.std.specs.Prelude.{ℕ}
+use Rattle.std.specs.Prelude.{cond, ◌||◌, ℕ, leb}
 use Rattle.common.specs.Answer as answers
 use Rattle.label.specs.declared.Label.{Label}
-use Rattle.segment_table.specs.Replies.{Grant, Step, done, opened, shown}
+use Rattle.segment_table.specs.Replies.{Grant, Step, done, is_refusal, opened, shown}
 use Rattle.segment_table.specs.Segments as core
+use Rattle.segments.specs.declared.Change.{Change}
 use Rattle.segment_table.specs.declared.CallOutcome as core_outcome
 use Rattle.segment_table.specs.declared.Reply.{Reply}
 use Rattle.segment_table.specs.declared.Reply.TheVariants.{Done, Opened, Shown, Refused}
@@ -50,3 +51,9 @@ segment_beside (Refused e) l = core.zero_segment
 
 abbrev pub handed_back : core_outcome.CallOutcome → COutcome
 handed_back o = outcome o.table (reply_answer o.answer.reply) (segment_beside o.answer.reply o.answer.label)
+
+-- what a call hands back that makes this change, if it is no refusal and there is such a slot
+abbrev pub applied_to : SegmentTable → Change → COutcome
+applied_to s c =
+    outcome (cond (is_refusal c.answer.reply || leb core.slot_total c.slot.0) s (core.with_segment s c.slot c.segment)) (reply_answer c.answer.reply)
+    (segment_beside c.answer.reply c.answer.label)

@@ -1,7 +1,8 @@
 // What a call on a state hands back.
-ghost use Rattle.std.specs.Prelude.{◌≡◌};
+ghost use Rattle.std.specs.Prelude.{◌≡◌, ◌<◌};
+ghost use Rattle.segment_table.specs.Segments.{slot_total};
 ghost use Rattle.segments.specs.Calls.{applied};
-ghost use Rattle.abi.specs.Outcome.{handed_back, reply_answer, segment_beside};
+ghost use Rattle.abi.specs.Outcome.{applied_to, handed_back, reply_answer, segment_beside};
 
 use crate::answer;
 use crate::answer::CAnswer;
@@ -61,7 +62,9 @@ pub fn hand_back(o: segment_table::CallOutcome) -> COutcome
 
 // What a call hands back that changes the state so; no slot that is not there is changed.
 pub fn apply(state: SegmentTable, change: Change) -> COutcome
-    ensures { result ≡ handed_back (applied state change) }
+    ensures applied { result ≡ applied_to state change }
+    ensures slot_in_range { change.slot.0 < slot_total → result ≡ handed_back (applied state change) }
+    ensures handed_back { result ≡ handed_back (applied state change) }
 {
     let a = change.answer;
     let r = a.reply;
