@@ -13,7 +13,7 @@ PKGCONFIGDIR = $(LIBDIR)/pkgconfig
 INSTALL = install
 
 LIBRARY = target/staticlib/liblurmenize.a
-PROGRAMS = target/bin/mac_cmd target/bin/monitor_cmd target/bin/segments_cmd target/bin/text_cmd
+PROGRAMS = crates/mac_cmd/out/mac_cmd crates/monitor_cmd/out/monitor_cmd crates/segments_cmd/out/segments_cmd crates/text_cmd/out/text_cmd
 PAGES = target/man
 LIBRARY_PAGE = $(PAGES)/man3/lurmenize.3
 
@@ -21,13 +21,14 @@ all: $(LIBRARY) $(PROGRAMS) $(LIBRARY_PAGE)
 
 # What has changed since $@ was built. Which crates it is made of is rt's to know, so that all are asked: a library that is older than its header must
 # not be installed with it. What rt finds to be as it should be is touched, or it would be asked for again each time.
-CHANGED = find crates crates.txt -type f \( -name crates.txt -o -path '*/src/*' -o -path '*/specs/*' -o -path '*/proofs/*' \) -newer $@
+CHANGED = find crates.txt crates/*/src crates/*/specs crates/*/proofs -type f -newer $@
 
 $(LIBRARY): FORCE
-	@test -f $@ && test -z "$$($(CHANGED))" || { rt staticlib lurmenize && touch $@; }
+	@test -f $@ && test -z "$$($(CHANGED))" || tools/library $@
 
+# `rt run` builds a program and runs it, here on an empty input, on which each of them prints nothing.
 $(PROGRAMS): FORCE
-	@test -f $@ && test -z "$$($(CHANGED))" || { rt check $(@F) && touch $@; }
+	@test -f $@ && test -z "$$($(CHANGED))" || { (cd crates/$(@F) && rt run </dev/null) && touch $@; }
 
 # All pages are made at once. Those of the functions are links to the library's.
 $(LIBRARY_PAGE): include/lurmenize.h docs/LINKING.md docs/PROGRAMS.md tools/man_pages tools/c_header.py tools/roff.py

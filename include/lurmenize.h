@@ -1,7 +1,7 @@
 /*
  * lurmenize.h - labels for mandatory access control, a reference monitor, and an account of shared memory segments.
  *
- * Link with liblurmenize.a (`rt staticlib lurmenize` writes it to target/staticlib/). x86-64 Linux, any C from C99 on, C++ too.
+ * Link with liblurmenize.a (`tools/library` builds it and puts it into target/staticlib/). x86-64 Linux, any C from C99 on, C++ too.
  *
  * Answers. Every function but lurm_version and lurm_strerror hands back a lurm_answer, alone or in a struct. LOOK AT ITS `refusal` BEFORE
  * ANYTHING ELSE:

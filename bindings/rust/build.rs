@@ -1,4 +1,4 @@
-//! Links `liblurmenize.a` from `$LURMENIZE_LIB_DIR`, or from where `rt staticlib lurmenize` writes it in this repository.
+//! Links `liblurmenize.a` from `$LURMENIZE_LIB_DIR`, or from where `tools/library` puts it in this repository.
 
 use std::env;
 use std::path::PathBuf;
@@ -15,7 +15,7 @@ fn main() {
     println!("cargo:rerun-if-changed={}", archive.display());
     if !archive.is_file() {
         eprintln!("lurmenize: {} is not there.", archive.display());
-        eprintln!("Run `rt staticlib lurmenize` at the top of the repository, or set {VARIABLE} to the folder that has liblurmenize.a.");
+        eprintln!("Run `tools/library` at the top of the repository, or set {VARIABLE} to the folder that has liblurmenize.a.");
         exit(1);
     }
     println!("cargo:rustc-link-search=native={}", directory.display());

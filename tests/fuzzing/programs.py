@@ -182,7 +182,7 @@ def program_input(seed, name, at):
 # Running
 
 def path_of(name):
-    return ROOT / "target" / "bin" / name
+    return ROOT / "crates" / name / "out" / name
 
 
 def difference(name, data):
