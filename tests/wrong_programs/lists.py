@@ -5,8 +5,9 @@ from collections import namedtuple
 
 HERE = os.path.dirname(os.path.abspath(__file__))
 ROOT = os.path.dirname(os.path.dirname(HERE))
-# crate and name; why the contract rules it out; the edit as rt takes it; of that the file, and each text that goes with the one that comes
-Wrong = namedtuple("Wrong", "crate name why edit file changes")
+# crate and name; why the contract rules it out; the edit as rt takes it; of that the file, each text that goes with the one that comes, and lines that rt
+# would not read: a text is one line
+Wrong = namedtuple("Wrong", "crate name why edit file changes unread")
 
 
 def crates():
@@ -22,5 +23,6 @@ def wrong_programs(crate):
         reason = re.match(r"why: (.*)\n", text)
         edit = text[reason.end():] if reason else text
         file = re.match(r"file: (\S+)\n", edit)
-        changes = re.findall(r"^old: (.*?)\nnew: (.*?)(?=\nold: |\n*\Z)", edit, flags=re.M | re.S)
-        yield Wrong(crate, name, reason[1] if reason else "", edit, file[1] if file else "", changes)
+        changes = re.findall(r"^old: (.+)\nnew:(?: (.*))?$", edit, flags=re.M)
+        unread = re.sub(r"\Afile: \S+\n|^old: .+\nnew:.*$", "", edit, flags=re.M).split("\n")
+        yield Wrong(crate, name, reason[1] if reason else "", edit, file[1] if file else "", changes, [line for line in unread if line.strip()])
