@@ -5,8 +5,8 @@ from collections import namedtuple
 
 HERE = os.path.dirname(os.path.abspath(__file__))
 ROOT = os.path.dirname(os.path.dirname(HERE))
-# crate and name; why the contract rules it out; the edit as rt takes it; of that the file, each text that goes with the one that comes, and lines that rt
-# would not read: a text is one line
+# crate and name; why the contract rules it out; the edit as rt takes it; of that the file, each text that goes with the one that comes, and the lines
+# that rt would not read, since a text is one line
 Wrong = namedtuple("Wrong", "crate name why edit file changes unread")
 
 
