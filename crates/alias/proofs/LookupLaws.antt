@@ -16,7 +16,7 @@ use Rattle.common.proofs.SearchLaws.{search_hit, search_pass}
 use Rattle.octets.specs.Bytes.{same_bytes}
 use Rattle.octets.proofs.ByteLaws.{lengths_differ, same_end, same_pass, same_stop}
 use Rattle.frame.specs.Frame.{body_of}
-use Rattle.codec.specs.Body.{byte_at}
+use Rattle.label_codec.specs.Body.{byte_at}
 use Rattle.alias_entry.specs.Entry.{abbreviation_bytes, name_bytes}
 use Rattle.alias_entry.specs.Internal.Spans.{span_bytes}
 use Rattle.hexline.specs.Line.{abbreviation_in, name_in, standing_in}

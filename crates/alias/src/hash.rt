@@ -2,7 +2,7 @@
 ghost use Rattle.std.specs.Prelude.{◌≡◌, true, cond, leb, length};
 ghost use Rattle.common.specs.Answer.{is_granted};
 ghost use Rattle.hexline.specs.Accept.{accepted_body};
-ghost use Rattle.codec.specs.Body.{line_words};
+ghost use Rattle.label_codec.specs.Body.{line_words};
 ghost use Rattle.alias_entry.specs.Entry.{abbreviation_bytes, name_bytes};
 ghost use Rattle.hexline.specs.Line.{entry_in, read_entry_line, standing_in};
 ghost use Rattle.alias_entry.specs.declared.Entry.{Entry};
@@ -10,9 +10,9 @@ ghost use Rattle.alias.specs.Internal.Hash.{HashesOf, folded_hash, hash_of, coll
 
 use crate::MAX_LINES;
 use alias_entry::bytes::layout_in;
-use codec::LINE_WORDS;
 use hexline::accept;
 use hexline::accept::ENTRY_BODY;
+use label_codec::LINE_WORDS;
 
 // What a hash is made with; the definitions say why these numbers.
 const MODULUS: u64 = 281474976710656;

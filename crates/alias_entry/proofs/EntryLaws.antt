@@ -19,14 +19,14 @@ use Rattle.common.proofs.IndexLaws.{every_at, le_or_lt, tabulate_at, tabulate_le
 use Rattle.label.proofs.LabelLaws.{equal_exact, valid_hierarchy}
 use Rattle.common.proofs.BytesLaws.{Bytes, cons_bytes}
 use Rattle.octets.proofs.ByteLaws.{first_fits}
-use Rattle.codec.specs.Body.{byte_at, label_at, label_size}
+use Rattle.label_codec.specs.Body.{byte_at, label_at, label_size}
 use Rattle.alias_entry.specs.Codec.{entry_in_bytes, entry_code, entry_fits, value_fits}
 use Rattle.alias_entry.specs.Entry.{abbreviation_size, abbreviation_text, value_class, entry_bytes, entry_from, entry_of, is_letter, is_name_byte, label_from, layout_of, name_byte_at, name_byte_ok, name_of, name_size, name_text, text_byte, text_bytes, text_from, valid_of, value_bytes, value_by_class, value_ok, value_size}
 use Rattle.alias_entry.specs.declared.Entry.{Entry}
 use Rattle.alias_entry.specs.declared.Value.{Value}
 use Rattle.alias_entry.specs.declared.Value.TheVariants.{Hierarchy, Category, WholeLabel}
-use Rattle.codec.proofs.BodyLoops.{Same, same_first, same_label, same_later, valid_label_fits}
-use Rattle.codec.proofs.BodyLaws.{Holds, Within, bytes_tabulate, label_back, label_bytes_lem, label_forth, label_length, label_typed, one_part, part, part_is, parts_join}
+use Rattle.label_codec.proofs.BodyLoops.{Same, same_first, same_label, same_later, valid_label_fits}
+use Rattle.label_codec.proofs.BodyLaws.{Holds, Within, bytes_tabulate, label_back, label_bytes_lem, label_forth, label_length, label_typed, one_part, part, part_is, parts_join}
 
 -- ---- what a valid entry has
 

@@ -2,7 +2,7 @@
 -- that is longer than the array that holds it, has no bytes.
 use Rattle.std.specs.Prelude.{Bool, ◌&&◌, cond, List, [], ℕ, ◌+◌, leb}
 use Rattle.label.specs.declared.Label.{Label}
-use Rattle.codec.specs.Codec.{label_fits}
+use Rattle.label_codec.specs.Codec.{label_fits}
 use Rattle.alias_entry.specs.Entry.{abbreviation_size, entry_bytes, entry_from, layout_of, name_size}
 use Rattle.alias_entry.specs.declared.Entry.{Entry}
 use Rattle.alias_entry.specs.declared.Value.{Value}

@@ -3,7 +3,7 @@ use Rattle.std.specs.Prelude.{Bool, cond, ◌&&◌, ◌||◌, List, [], ◌∷�
 use Rattle.common.specs.Index.{every, tabulate}
 use Rattle.label.specs.Label
 use Rattle.label.specs.declared.Label.{Label}
-use Rattle.codec.specs.Body.{byte_at, label_at, label_bytes, label_size}
+use Rattle.label_codec.specs.Body.{byte_at, label_at, label_bytes, label_size}
 use Rattle.alias_entry.specs.declared.Entry.{Entry}
 use Rattle.alias_entry.specs.declared.Abbreviation.{Abbreviation}
 use Rattle.alias_entry.specs.declared.bytes.Layout.{Layout}

@@ -4,17 +4,17 @@ ghost use Rattle.std.specs.Prelude.{◌≡◌, true, ◌+◌, ◌<◌, ◌≤◌
 ghost use Rattle.label.specs.Words.{words as set_words};
 ghost use Rattle.octets.specs.Bytes.{Appended};
 ghost use Rattle.octets.specs.Internal.Put.{Put};
-ghost use Rattle.codec.specs.Body.{label_size};
-ghost use Rattle.codec.specs.Codec as codecs;
+ghost use Rattle.label_codec.specs.Body.{label_size};
+ghost use Rattle.label_codec.specs.Codec as codecs;
 ghost use Rattle.alias_entry.specs.Codec.{entry_in_bytes, entry_code, entry_fits, value_fits};
 ghost use Rattle.alias_entry.specs.Entry.{entry_bytes, label_from, layout_of, span_of, text_byte, text_bytes, text_from, value_bytes, value_by_class, value_class, value_size};
 
 use crate::{
     ABBREVIATION_BYTES, Abbreviation, Entry, MAX_ABBREVIATION, MAX_NAME, NAME_BYTES, Name, Value,
 };
-use codec::labels::{LABEL_BYTES, append_label, label_at, label_size};
-use codec::{append_byte, byte};
 use label::Label;
+use label_codec::labels::{LABEL_BYTES, append_label, label_at, label_size};
+use label_codec::{append_byte, byte};
 
 // The most bytes of an entry in a line of kind 04: class, label, and two lengths with their texts.
 pub const ENTRY_BYTES: usize = 1 + LABEL_BYTES + (1 + MAX_NAME) + (1 + MAX_ABBREVIATION);

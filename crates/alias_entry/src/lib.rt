@@ -7,13 +7,13 @@ mod tested;
 
 ghost use Rattle.std.specs.Prelude.{◌≡◌, length};
 ghost use Rattle.common.specs.Index.{every};
-ghost use Rattle.codec.specs.Body.{byte_at};
+ghost use Rattle.label_codec.specs.Body.{byte_at};
 ghost use Rattle.alias_entry.specs.Entry.{TypedEntry, is_letter, is_name_byte, name_byte_at, name_byte_ok, name_of, text_ok, valid_of, value_ok, zero_entry};
 
 use crate::tested::is_zero;
-use codec::byte;
 use common::answer::Outcome;
 use label::{Label, MAX_HIERARCHY};
+use label_codec::byte;
 
 pub const MAX_NAME: usize = 31;
 

@@ -13,10 +13,10 @@ use Rattle.range.specs.Range
 use Rattle.range.specs.Tuple
 use Rattle.frame.specs.Frame.{body_of, bytes_of, check_byte, digit_of, digits_of, frame_of, framed_of, is_digit, spelled_of, sum_of, digit_value}
 use Rattle.octets.specs.Bytes.{same_bytes}
-use Rattle.codec.specs.Body.{base_number}
+use Rattle.label_codec.specs.Body.{base_number}
 use Rattle.alias_entry.specs.Entry
 use Rattle.hexline.specs.Line.{contents_of, entry_form, body_form, standing_in, tuple_body, tuple_form}
-use Rattle.codec.specs.Tuples.{presence_of, present_below, region_at, region_bytes, regions_bytes, tuple_at}
+use Rattle.label_codec.specs.Tuples.{presence_of, present_below, region_at, region_bytes, regions_bytes, tuple_at}
 use Rattle.octets.specs.Lines.{lines_of}
 use Rattle.alias.specs.Lines.{entries_of}
 use Rattle.alias.specs.Lookup.{called_of, last_entry_for, same_value, stands_for}

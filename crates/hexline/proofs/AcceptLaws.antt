@@ -20,7 +20,7 @@ use Rattle.frame.specs.Frame.{body_of, sound_body}
 use Rattle.frame.proofs.FrameLoops.{sound_whole}
 use Rattle.hexline.specs.Accept.{accepted_body}
 use Rattle.hexline.specs.Internal.Accept.{span_part, value_byte_ok}
-use Rattle.codec.specs.Body.{byte_at, label_at, label_size, line_words}
+use Rattle.label_codec.specs.Body.{byte_at, label_at, label_size, line_words}
 use Rattle.alias_entry.specs.Entry.{abbreviation_bytes, abbreviation_size, at_most, entry_from, is_letter, is_name_byte, label_from, layout_of, name_byte_at, name_byte_ok, name_bytes, name_of, name_size, past, text_byte, text_from, text_ok, valid_of, value_by_class, value_ok, value_size}
 use Rattle.alias_entry.specs.Internal.Spans.{entry_size, span_bytes}
 use Rattle.hexline.specs.Line.{contents_of, entry_form, entry_in, read_entry_line}

@@ -17,7 +17,7 @@ use Rattle.label.specs.declared.Label.{Label}
 use Rattle.common.proofs.BoolLaws.{both}
 use Rattle.frame.specs.Frame.{read_body}
 use Rattle.common.proofs.BytesLaws.{Bytes, bytes_append, bytes_take, cons_bytes}
-use Rattle.codec.specs.Body.{byte_at, label_size}
+use Rattle.label_codec.specs.Body.{byte_at, label_size}
 use Rattle.alias_entry.specs.Entry.{TypedEntry, abbreviation_size, abbreviation_text, value_class, entry_bytes, entry_from, entry_of, layout_of, max_abbreviation, max_name, name_size, name_text, past, text_bytes, text_from, valid_of, value_bytes, value_size}
 use Rattle.alias_entry.specs.Internal.Spans.{entry_size}
 use Rattle.hexline.specs.Line.{contents_of, entry_body, entry_form, entry_in, body_form, line_of}
@@ -25,7 +25,7 @@ use Rattle.alias_entry.specs.declared.Entry.{Entry}
 use Rattle.alias_entry.specs.declared.bytes.Layout.{Layout}
 use Rattle.alias_entry.specs.declared.Value.{Value}
 use Rattle.alias_entry.specs.declared.Value.TheVariants.{Hierarchy, Category, WholeLabel}
-use Rattle.codec.proofs.BodyLaws.{Holds, Within, first_part, holds_first, holds_second, holds_self, one_part, part, parts_join}
+use Rattle.label_codec.proofs.BodyLaws.{Holds, Within, first_part, holds_first, holds_second, holds_self, one_part, part, parts_join}
 use Rattle.alias_entry.proofs.EntryLaws.{name_fits, name_zero, text_back, text_forth, text_length, valid_parts, value_back, value_bytes_lem, value_forth, value_length, value_size_lem}
 use Rattle.hexline.proofs.LineLaws.{entry_form_parts, form_of, line_exact}
 

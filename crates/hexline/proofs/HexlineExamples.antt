@@ -11,11 +11,11 @@ use Rattle.label.specs.Label.{equal_of, label_of, zero_label}
 use Rattle.label.specs.Words.{bit, has, includes_of, same_of}
 use Rattle.frame.specs.Frame.{body_of, bytes_of, check_byte, digit_of, digits_of, frame_of, framed_of, is_digit, spelled_of, sum_of, digit_value}
 use Rattle.octets.specs.Bytes.{ascii}
-use Rattle.codec.specs.Body.{category_byte, label_bytes, line_words, base_number}
+use Rattle.label_codec.specs.Body.{category_byte, label_bytes, line_words, base_number}
 use Rattle.alias_entry.specs.Entry
 use Rattle.alias_entry.specs.Entry.{abbreviation_size, abbreviation_text, entry_bytes, entry_from, entry_of, is_letter, is_name_byte, label_from, layout_of, name_byte_ok, name_of, name_text, text_byte, text_from, value_bytes, value_by_class, value_ok, value_size}
 use Rattle.hexline.specs.Line.{contents_of, entry_body, entry_form, entry_line_of, body_form, line_kind_of, read_entry_line, read_tuple_line, tuple_form}
-use Rattle.codec.specs.Tuples.{present_below}
+use Rattle.label_codec.specs.Tuples.{present_below}
 use Rattle.alias_entry.specs.declared.Entry.{Entry}
 use Rattle.alias_entry.specs.declared.Value.TheVariants.{Category, Hierarchy}
 

@@ -22,16 +22,16 @@ use Rattle.range.specs.declared.Range.{Range}
 use Rattle.range.specs.declared.tuple.Tuple.{Tuple}
 use Rattle.frame.specs.Frame.{read_body}
 use Rattle.common.proofs.BytesLaws.{Bytes, cons_bytes}
-use Rattle.codec.specs.Body.{byte_at, label_bytes, label_size, line_words, range_bytes, range_size}
+use Rattle.label_codec.specs.Body.{byte_at, label_bytes, label_size, line_words, range_bytes, range_size}
 use Rattle.alias_entry.specs.Entry
 use Rattle.alias_entry.specs.Entry.{TypedEntry}
 use Rattle.hexline.specs.Line.{contents_of, entry_body, entry_line_of, body_form, label_body, label_form, label_in_body, label_line_of, line_of, range_body, range_form, range_in, range_line_of, read_entry_line, read_label_line, read_range_line, read_tuple_line, tuple_body, tuple_form, tuple_in, tuple_line_of}
-use Rattle.codec.specs.Tuples.{presence_of, present_below, regions_bytes}
+use Rattle.label_codec.specs.Tuples.{presence_of, present_below, regions_bytes}
 use Rattle.alias_entry.specs.declared.Entry.{Entry}
-use Rattle.codec.proofs.BodyLaws.{Within, first_part, holds_second, holds_self, label_back, label_bytes_lem, label_forth, label_length, one_part, part, parts_join, range_back, range_bytes_lem, range_forth, range_length}
+use Rattle.label_codec.proofs.BodyLaws.{Within, first_part, holds_second, holds_self, label_back, label_bytes_lem, label_forth, label_length, one_part, part, parts_join, range_back, range_bytes_lem, range_forth, range_length}
 use Rattle.hexline.proofs.EntryKindLaws.{entry_exact, entry_length}
 use Rattle.hexline.proofs.LineLaws.{form_kind, form_length, form_of, line_exact, line_length, line_valid, tuple_form_parts}
-use Rattle.codec.proofs.TupleBytesLaws.{WithinTuple, presence_forth, presence_size, presence_small, regions_bytes_lem, regions_forth, regions_full, regions_size, tuple_back}
+use Rattle.label_codec.proofs.TupleBytesLaws.{WithinTuple, presence_forth, presence_size, presence_small, regions_bytes_lem, regions_forth, regions_full, regions_size, tuple_back}
 
 -- ---- bodies that begin with a kind
 

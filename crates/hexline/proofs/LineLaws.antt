@@ -27,10 +27,10 @@ use Rattle.frame.proofs.FrameLaws.{frame_length, reads_back, reads_exactly}
 use Rattle.frame.proofs.FrameLoops.{sound_short}
 use Rattle.octets.specs.Bytes.{Appended, put_at}
 use Rattle.octets.proofs.ByteLaws.{appended_put}
-use Rattle.codec.specs.Body.{byte_at, line_words, range_size}
+use Rattle.label_codec.specs.Body.{byte_at, line_words, range_size}
 use Rattle.alias_entry.specs.Entry.{layout_of, max_abbreviation, max_name, past}
-use Rattle.codec.specs.Tuples.{present_below, tuple_size}
-use Rattle.codec.proofs.TupleBytesLaws.{below_most}
+use Rattle.label_codec.specs.Tuples.{present_below, tuple_size}
+use Rattle.label_codec.proofs.TupleBytesLaws.{below_most}
 use Rattle.hexline.specs.Line.{contents_of, entry_form, body_form, kind_in, kind_numbered, line_kind_of, line_of, longest_body, tuple_form}
 
 -- ---- how a reader of a body ends

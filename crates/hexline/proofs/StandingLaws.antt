@@ -12,7 +12,7 @@ use Rattle.common.specs.Index.{tabulate}
 use Rattle.common.proofs.IndexLaws.{tabulate_at, tabulate_length}
 use Rattle.frame.specs.Frame.{body_of}
 use Rattle.frame.proofs.FrameLaws.{body_small}
-use Rattle.codec.specs.Body.{byte_at, line_words}
+use Rattle.label_codec.specs.Body.{byte_at, line_words}
 use Rattle.alias_entry.specs.Entry
 use Rattle.alias_entry.specs.Entry.{TypedEntry, abbreviation_bytes, abbreviation_size, at_most, entry_from, is_name_byte, layout_of, name_bytes, name_of, name_size, text_byte, text_from}
 use Rattle.alias_entry.specs.Internal.Spans.{span_bytes}

@@ -1,6 +1,6 @@
 -- Which bodies are those of accepted lines of kind 04.
 use Rattle.std.specs.Prelude.{Bool, ◌&&◌, List, ℕ}
-use Rattle.codec.specs.Body.{line_words}
+use Rattle.label_codec.specs.Body.{line_words}
 use Rattle.alias_entry.specs.Entry
 use Rattle.hexline.specs.Line.{entry_form, entry_in}
 

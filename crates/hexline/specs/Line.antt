@@ -9,11 +9,11 @@ use Rattle.range.specs.Range
 use Rattle.range.specs.Tuple
 use Rattle.range.specs.declared.Range.{Range}
 use Rattle.range.specs.declared.tuple.Tuple.{Tuple}
-use Rattle.codec.specs.Body.{byte_at, label_at, label_bytes, label_size, line_words, range_at, range_bytes, range_size}
+use Rattle.label_codec.specs.Body.{byte_at, label_at, label_bytes, label_size, line_words, range_at, range_bytes, range_size}
 use Rattle.alias_entry.specs.Entry
 use Rattle.alias_entry.specs.Entry.{abbreviation_size, at_most, entry_bytes, entry_from, layout_of, max_abbreviation, max_name, name_size, past}
 use Rattle.frame.specs.Frame.{body_of, frame_of, read_body}
-use Rattle.codec.specs.Tuples.{presence_of, present_below, regions_bytes, tuple_at}
+use Rattle.label_codec.specs.Tuples.{presence_of, present_below, regions_bytes, tuple_at}
 use Rattle.alias_entry.specs.declared.Entry.{Entry}
 use Rattle.alias_entry.specs.declared.bytes.Span.{Span}
 use Rattle.hexline.specs.declared.Kind.{Kind}

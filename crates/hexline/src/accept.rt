@@ -1,8 +1,8 @@
 // Bodies of alias entries judged by their bytes: no entry is made, and its texts can be read where they stand in the body.
 ghost use Rattle.std.specs.Prelude.{◌≡◌, ◌&&◌, ◌+◌, ◌<◌};
 ghost use Rattle.common.specs.Answer.{Answered};
-ghost use Rattle.codec.specs.Body.{line_words};
-ghost use Rattle.codec.specs.Codec.{width};
+ghost use Rattle.label_codec.specs.Body.{line_words};
+ghost use Rattle.label_codec.specs.Codec.{width};
 ghost use Rattle.alias_entry.specs.Entry.{layout_of, valid_of, zero_entry};
 ghost use Rattle.hexline.specs.Accept.{accepted_body};
 ghost use Rattle.hexline.specs.Internal.Accept.{value_byte_ok};
@@ -10,10 +10,10 @@ ghost use Rattle.hexline.specs.Line.{contents_of, entry_form, entry_in};
 
 use alias_entry::bytes::{ENTRY_BYTES, Layout, entry_at, layout_in};
 use alias_entry::{EntryAnswer, text_ok};
-use codec::{LINE_WORDS, byte};
 use common::answer::Outcome;
 use common::errno::Errno;
 use label::MAX_HIERARCHY;
+use label_codec::{LINE_WORDS, byte};
 
 // The longest body of an entry.
 pub const ENTRY_BODY: usize = 1 + ENTRY_BYTES;

@@ -1,14 +1,13 @@
 // Labels, ranges and tuples as bytes of a lent buffer, and read from any bytes, with the words that a set has in lines of kinds 01 to 04: for a crate
 // that has bodies of its own, with any value of the types, an invalid one too. A value with a number above 255 has no bytes at all: nothing is put, and
-// the index that was given is answered, as where there is no room. The crate `codec` has these for any number of words.
+// the index that was given is answered, as where there is no room. The crate `label_codec` has these for any number of words.
 ghost use Rattle.std.specs.Prelude.{◌≡◌};
 ghost use Rattle.octets.specs.Bytes.{Appended};
-ghost use Rattle.codec.specs.Body.{label_at, line_words, range_at};
-ghost use Rattle.codec.specs.Codec.{label_code, range_code, tuple_code, tuple_from};
+ghost use Rattle.label_codec.specs.Body.{label_at, line_words, range_at};
+ghost use Rattle.label_codec.specs.Codec.{label_code, range_code, tuple_code, tuple_from};
 
-// In the root of this crate the name `codec` is this module's, so that the parts of the crate of that name that are used there are passed on here.
-pub(crate) use codec::{LINE_WORDS, byte, labels, tuples};
 use label::Label;
+use label_codec::{LINE_WORDS, labels, tuples};
 use range::Range;
 use range::tuple::Tuple;
 

@@ -15,7 +15,7 @@ ghost use Rattle.common.specs.declared.answer.Outcome.TheVariants.{Refused};
 ghost use Rattle.common.specs.declared.errno.Errno.TheVariants.{Invalid};
 ghost use Rattle.range.specs.Range as ranges;
 ghost use Rattle.range.specs.Tuple as tuples;
-ghost use Rattle.codec.specs.Codec.{width};
+ghost use Rattle.label_codec.specs.Codec.{width};
 ghost use Rattle.alias_entry.specs.Entry as entries;
 ghost use Rattle.frame.specs.Frame.{frame_answer_of};
 ghost use Rattle.hexline.specs.Line.{contents_of, entry_line_of, body_form, kind_answer_of, kind_numbered, line_kind_of, label_form, label_in_body, label_line_of, range_form, range_in, range_line_of, read_entry_line, read_label_line, read_range_line, read_tuple_line, tuple_form, tuple_in, tuple_line_of};
@@ -23,15 +23,15 @@ ghost use Rattle.hexline.specs.Line.{contents_of, entry_line_of, body_form, kind
 use crate::accept::{ENTRY_BODY, entry_of};
 use alias_entry::bytes::append_entry;
 use alias_entry::{Entry, EntryAnswer};
-use codec::labels::{
-    LABEL_BYTES, RANGE_BYTES, append_label, append_range, label_at, label_size, range_at,
-    range_size,
-};
-use codec::tuples::{TUPLE_BYTES, append_tuple, tuple_at, tuple_size};
-use codec::{LINE_WORDS, byte};
 use common::answer::{Outcome, Written};
 use common::errno::Errno;
 use label::{Label, LabelAnswer};
+use label_codec::labels::{
+    LABEL_BYTES, RANGE_BYTES, append_label, append_range, label_at, label_size, range_at,
+    range_size,
+};
+use label_codec::tuples::{TUPLE_BYTES, append_tuple, tuple_at, tuple_size};
+use label_codec::{LINE_WORDS, byte};
 use range::tuple::{Tuple, TupleAnswer};
 use range::{Range, RangeAnswer, tuple};
 

@@ -3,15 +3,15 @@
 ghost use Rattle.std.specs.Prelude.{◌≡◌, ◌+◌, ◌<◌, ◌≤◌, length};
 ghost use Rattle.common.specs.Index.{tabulate};
 ghost use Rattle.frame.specs.Frame.{body_of};
-ghost use Rattle.codec.specs.Body.{byte_at, line_words};
+ghost use Rattle.label_codec.specs.Body.{byte_at, line_words};
 ghost use Rattle.alias_entry.specs.Entry.{abbreviation_size, at_most, layout_of, name_size, span_of};
 ghost use Rattle.hexline.specs.Line.{abbreviation_in, name_in, standing_in};
 
 use alias_entry::bytes::{Layout, Span, value_from, value_size};
 use alias_entry::{ABBREVIATION_BYTES, NAME_BYTES, Value};
-use codec::LINE_WORDS;
-use codec::labels::{LABEL_BYTES, label_at};
 use label::Label;
+use label_codec::LINE_WORDS;
+use label_codec::labels::{LABEL_BYTES, label_at};
 
 // Where the texts of an entry stand in its line's body.
 #[derive(Clone, Copy)]

@@ -4,7 +4,7 @@ use mathlib.Core.Path.{◌≡◌, refl, sym, ap, ap₂, ◌∙◌}
 use native.Mathlib.Omega.{arith}
 use lib.ListN.{length}
 use Rattle.common.specs.Index.{every}
-use Rattle.codec.specs.Body.{byte_at}
+use Rattle.label_codec.specs.Body.{byte_at}
 use Rattle.alias_entry.specs.Entry.{is_name_byte}
 use Rattle.common.proofs.IndexLaws.{every_more}
 use Rattle.alias_entry.proofs.all_of_name.Goals as goal

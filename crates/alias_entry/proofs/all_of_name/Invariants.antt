@@ -2,7 +2,7 @@ use mathlib.Core.Path.{◌≡◌}
 use Prim.Native.Nat.{◌≤◌, ◌-◌}
 use lib.ListN.{length}
 use Rattle.common.specs.Index.{every}
-use Rattle.codec.specs.Body.{byte_at}
+use Rattle.label_codec.specs.Body.{byte_at}
 use Rattle.alias_entry.specs.Entry.{is_name_byte}
 use Rattle.alias_entry.proofs.all_of_name.Given as goal
 

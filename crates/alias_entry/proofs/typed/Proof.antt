@@ -3,7 +3,7 @@ use Prim.Native.Nat.{ℕ}
 use mir.Syntax.{w64, w8}
 use mir.Val.{Fits}
 use Rattle.label.specs.Words.{word_at}
-use Rattle.codec.specs.Body.{byte_at}
+use Rattle.label_codec.specs.Body.{byte_at}
 use Rattle.alias_entry.proofs.typed.Statement.{statement}
 use Rattle.alias_entry.proofs.typed.Tie as tie
 

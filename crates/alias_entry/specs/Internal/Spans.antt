@@ -1,7 +1,7 @@
 -- How long an entry can be, and the bytes at a span.
 use Rattle.std.specs.Prelude.{List, ℕ, ◌+◌}
 use Rattle.common.specs.Index.{tabulate}
-use Rattle.codec.specs.Body.{byte_at, label_size}
+use Rattle.label_codec.specs.Body.{byte_at, label_size}
 use Rattle.alias_entry.specs.Entry.{max_abbreviation, max_name}
 use Rattle.alias_entry.specs.declared.bytes.Span.{Span}
 

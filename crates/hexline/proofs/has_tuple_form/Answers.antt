@@ -2,9 +2,9 @@ use mathlib.Core.Path.{◌≡◌}
 use Prim.Native.Nat.{◌+◌, ◌*◌}
 use native.Mathlib.Omega.{arith}
 use Rattle.label.specs.Region.{regions}
-use Rattle.codec.specs.Body.{range_size}
-use Rattle.codec.specs.Codec.{width}
-use Rattle.codec.specs.Tuples.{present_below}
+use Rattle.label_codec.specs.Body.{range_size}
+use Rattle.label_codec.specs.Codec.{width}
+use Rattle.label_codec.specs.Tuples.{present_below}
 use Rattle.hexline.specs.Line.{tuple_form}
 use Rattle.hexline.proofs.has_tuple_form.Goals as goal
 

@@ -2,7 +2,7 @@ use mathlib.Core.List.{List}
 use mathlib.Core.Path.{ap, ◌∙◌}
 use Prim.Native.Nat.{ℕ}
 use Rattle.frame.proofs.FrameLoops.{decoded_front}
-use Rattle.codec.specs.Body.{byte_at}
+use Rattle.label_codec.specs.Body.{byte_at}
 use Rattle.hexline.specs.Line.{kind_numbered}
 use Rattle.hexline.proofs.LineLaws.{kind_told}
 use Rattle.hexline.proofs.kind_of.Goals as goal

@@ -1,7 +1,7 @@
 use mathlib.Core.Path.{ap, ◌∙◌, sym}
 use Prim.Native.Nat.{ℕ, ◌+◌}
 use Rattle.label.specs.Label.{valid_of, zero_label}
-use Rattle.codec.specs.Codec.{width}
+use Rattle.label_codec.specs.Codec.{width}
 use Rattle.hexline.specs.Line.{body_form, label_form, label_in_body}
 use Rattle.hexline.proofs.LineLaws.{body_formless, body_invalid, body_read}
 use Rattle.hexline.proofs.label_of.Goals as goal

@@ -1,7 +1,7 @@
 use mathlib.Core.Path.{ap, ◌∙◌, sym}
 use Prim.Native.Nat.{ℕ, ◌+◌}
 use Rattle.range.specs.Range.{valid_of, zero_range}
-use Rattle.codec.specs.Codec.{width}
+use Rattle.label_codec.specs.Codec.{width}
 use Rattle.hexline.specs.Line.{body_form, range_form, range_in}
 use Rattle.hexline.proofs.LineLaws.{body_formless, body_invalid, body_read}
 use Rattle.hexline.proofs.range_of.Goals as goal

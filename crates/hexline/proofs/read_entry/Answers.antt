@@ -2,7 +2,7 @@ use Prim.Native.Nat.{◌+◌}
 use Rattle.alias_entry.specs.Entry.{valid_of}
 use Rattle.alias_entry.specs.Internal.Spans.{entry_size}
 use Rattle.frame.proofs.FrameLoops.{decoded_front}
-use Rattle.codec.specs.Body.{line_words}
+use Rattle.label_codec.specs.Body.{line_words}
 use Rattle.hexline.specs.Line.{entry_form, entry_in}
 use Rattle.hexline.proofs.AcceptLaws.{form_room, no_entry}
 use Rattle.hexline.proofs.LineLaws.{line_read}

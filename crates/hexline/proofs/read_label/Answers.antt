@@ -2,7 +2,7 @@ use Prim.Native.Nat.{◌+◌}
 use native.Mathlib.Omega.{arith}
 use Rattle.label.specs.Label.{valid_of}
 use Rattle.frame.proofs.FrameLoops.{decoded_front}
-use Rattle.codec.specs.Body.{label_size, line_words}
+use Rattle.label_codec.specs.Body.{label_size, line_words}
 use Rattle.hexline.specs.Line.{label_form, label_in_body}
 use Rattle.hexline.proofs.LineLaws.{form_empty, form_length, line_read}
 use Rattle.hexline.proofs.read_label.Goals as goal

@@ -2,7 +2,7 @@ use Prim.Native.Nat.{◌+◌}
 use native.Mathlib.Omega.{arith}
 use Rattle.range.specs.Range.{valid_of}
 use Rattle.frame.proofs.FrameLoops.{decoded_front}
-use Rattle.codec.specs.Body.{range_size, line_words}
+use Rattle.label_codec.specs.Body.{range_size, line_words}
 use Rattle.hexline.specs.Line.{range_form, range_in}
 use Rattle.hexline.proofs.LineLaws.{form_empty, form_length, line_read}
 use Rattle.hexline.proofs.read_range.Goals as goal

@@ -1,6 +1,6 @@
 use Rattle.range.specs.Tuple.{valid_of}
 use Rattle.frame.proofs.FrameLoops.{decoded_front}
-use Rattle.codec.specs.Body.{line_words}
+use Rattle.label_codec.specs.Body.{line_words}
 use Rattle.hexline.specs.Line.{longest_body, tuple_form, tuple_in}
 use Rattle.hexline.proofs.LineLaws.{line_read, no_tuple, tuple_room}
 use Rattle.hexline.proofs.read_tuple.Goals as goal

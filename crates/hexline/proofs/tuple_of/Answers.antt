@@ -1,6 +1,6 @@
 use mathlib.Core.Path.{sym, ◌∙◌}
 use Rattle.range.specs.Tuple.{valid_of, empty_tuple}
-use Rattle.codec.specs.Codec.{width}
+use Rattle.label_codec.specs.Codec.{width}
 use Rattle.hexline.specs.Line.{tuple_form, tuple_in}
 use Rattle.hexline.proofs.LineLaws.{body_formless, body_invalid, body_read}
 use Rattle.hexline.proofs.tuple_of.Goals as goal

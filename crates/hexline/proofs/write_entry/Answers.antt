@@ -3,7 +3,7 @@ use mathlib.Core.Path.{◌≡◌}
 use Prim.Native.Nat.{◌+◌}
 use native.Mathlib.Omega.{arith}
 use lib.ListN.{length}
-use Rattle.codec.specs.Body.{line_words}
+use Rattle.label_codec.specs.Body.{line_words}
 use Rattle.alias_entry.specs.Entry.{abbreviation_size, entry_bytes, name_size}
 use Rattle.alias_entry.specs.Internal.Spans.{entry_size}
 use Rattle.alias_entry.proofs.EntryLaws.{entry_coded}

@@ -1,8 +1,8 @@
 use Prim.Native.Nat.{◌+◌}
 use native.Mathlib.Omega.{arith}
-use Rattle.codec.proofs.BodyLaws.{label_length}
-use Rattle.codec.proofs.BodyLoops.{label_coded}
-use Rattle.codec.specs.Body.{label_bytes, label_size, line_words}
+use Rattle.label_codec.proofs.BodyLaws.{label_length}
+use Rattle.label_codec.proofs.BodyLoops.{label_coded}
+use Rattle.label_codec.specs.Body.{label_bytes, label_size, line_words}
 use Rattle.hexline.specs.Line.{label_body}
 use Rattle.hexline.proofs.LineLaws.{body_put, line_due, refuses_line, writes_line}
 use Rattle.hexline.proofs.write_label.Goals as goal

@@ -1,8 +1,8 @@
 use Prim.Native.Nat.{◌+◌}
 use native.Mathlib.Omega.{arith}
-use Rattle.codec.proofs.BodyLaws.{range_length}
-use Rattle.codec.proofs.BodyLoops.{range_coded}
-use Rattle.codec.specs.Body.{line_words, range_bytes, range_size}
+use Rattle.label_codec.proofs.BodyLaws.{range_length}
+use Rattle.label_codec.proofs.BodyLoops.{range_coded}
+use Rattle.label_codec.specs.Body.{line_words, range_bytes, range_size}
 use Rattle.hexline.specs.Line.{range_body}
 use Rattle.hexline.proofs.LineLaws.{body_put, line_due, refuses_line, writes_line}
 use Rattle.hexline.proofs.write_range.Goals as goal

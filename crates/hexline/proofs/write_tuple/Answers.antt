@@ -1,9 +1,9 @@
 use mathlib.Core.List.{◌∷◌}
 use native.Mathlib.Omega.{arith}
 use Rattle.label.specs.Region.{regions}
-use Rattle.codec.proofs.TupleBytesLaws.{regions_size, tuple_coded}
-use Rattle.codec.specs.Body.{line_words}
-use Rattle.codec.specs.Tuples.{presence_of, regions_bytes}
+use Rattle.label_codec.proofs.TupleBytesLaws.{regions_size, tuple_coded}
+use Rattle.label_codec.specs.Body.{line_words}
+use Rattle.label_codec.specs.Tuples.{presence_of, regions_bytes}
 use Rattle.hexline.specs.Line.{longest_body, tuple_body}
 use Rattle.hexline.proofs.LineLaws.{body_put, line_due, refuses_line, writes_line}
 use Rattle.hexline.proofs.write_tuple.Goals as goal

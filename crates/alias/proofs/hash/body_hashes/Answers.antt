@@ -4,7 +4,7 @@ use mathlib.Core.Path.{sym, ap, ◌∙◌}
 use Prim.Native.Nat.{ℕ}
 use lib.ListN.{take}
 use Rattle.common.proofs.BoolLaws.{first_true}
-use Rattle.codec.specs.Body.{line_words}
+use Rattle.label_codec.specs.Body.{line_words}
 use Rattle.hexline.specs.Line.{entry_form}
 use Rattle.hexline.proofs.AcceptLaws.{texts_at}
 use Rattle.alias.proofs.hash.body_hashes.Goals as goal

@@ -4,10 +4,10 @@ use Prim.Native.Nat.{◌+◌}
 use native.Mathlib.Omega.{arith}
 use lib.ListN.{length}
 use borrow.Author.Tests.{leb-true}
-use Rattle.codec.specs.Codec.{width}
+use Rattle.label_codec.specs.Codec.{width}
 use Rattle.alias_entry.specs.Codec.{entry_code, entry_fits}
 use Rattle.alias_entry.specs.Entry.{entry_bytes}
-use Rattle.codec.proofs.BodyLoops.{code_left_out, code_put}
+use Rattle.label_codec.proofs.BodyLoops.{code_left_out, code_put}
 use Rattle.alias_entry.proofs.bytes.append_entry.Goals as goal
 
 pub returns-then-not-entry_fits : goal.returns-then-not-entry_fits

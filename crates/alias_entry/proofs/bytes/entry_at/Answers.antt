@@ -1,8 +1,8 @@
 -- The entry is made of the bytes past the index, by its layout there; an entry is the same where its bytes are (`same_entry`).
 use lib.ListN.{drop}
-use Rattle.codec.specs.Codec.{width}
+use Rattle.label_codec.specs.Codec.{width}
 use Rattle.alias_entry.specs.Entry.{entry_from}
-use Rattle.codec.proofs.BodyLoops.{rest_same}
+use Rattle.label_codec.proofs.BodyLoops.{rest_same}
 use Rattle.alias_entry.proofs.EntryLaws.{same_entry}
 use Rattle.alias_entry.proofs.bytes.entry_at.Goals as goal
 

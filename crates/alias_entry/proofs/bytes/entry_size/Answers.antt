@@ -3,7 +3,7 @@ use mathlib.Core.Path.{◌≡◌, sym, ap, ◌∙◌}
 use Prim.Native.Nat.{ℕ, ◌+◌}
 use native.Mathlib.Omega.{arith}
 use lib.ListN.{length}
-use Rattle.codec.specs.Codec.{width}
+use Rattle.label_codec.specs.Codec.{width}
 use Rattle.alias_entry.specs.Entry.{abbreviation_size, name_size, value_size}
 use Rattle.alias_entry.proofs.EntryLaws.{entry_long, fitting}
 use Rattle.alias_entry.proofs.bytes.entry_size.Goals as goal

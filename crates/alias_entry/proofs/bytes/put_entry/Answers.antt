@@ -5,7 +5,7 @@ use mathlib.Core.Path.{◌≡◌}
 use native.Mathlib.Omega.{arith}
 use lib.ListN.{length}
 use Rattle.octets.proofs.ByteLaws.{appended_put, both_put, second_fits}
-use Rattle.codec.specs.Codec.{width}
+use Rattle.label_codec.specs.Codec.{width}
 use Rattle.alias_entry.specs.Entry.{abbreviation_size, entry_bytes, name_size, value_bytes}
 use Rattle.alias_entry.proofs.EntryLaws.{fitting, room_for_name, room_for_value}
 use Rattle.alias_entry.proofs.bytes.put_entry.Goals as goal

@@ -1,7 +1,7 @@
 -- Each arm has told the class: a hierarchy and a category that fit are one byte; a label has its own bytes. There is room for them.
 use native.Mathlib.Omega.{arith}
 use Rattle.octets.proofs.ByteLaws.{appended_put}
-use Rattle.codec.specs.Codec.{label_code}
+use Rattle.label_codec.specs.Codec.{label_code}
 use Rattle.alias_entry.specs.Entry.{value_bytes}
 use Rattle.alias_entry.proofs.EntryLaws.{category_fits, hierarchy_fits}
 use Rattle.alias_entry.proofs.bytes.put_value.Goals as goal

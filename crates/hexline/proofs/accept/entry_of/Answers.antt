@@ -1,5 +1,5 @@
 use mathlib.Core.Path.{refl, sym, ◌∙◌}
-use Rattle.codec.specs.Codec.{width}
+use Rattle.label_codec.specs.Codec.{width}
 use Rattle.alias_entry.specs.Entry.{valid_of, zero_entry}
 use Rattle.hexline.specs.Line.{entry_form, entry_in}
 use Rattle.hexline.proofs.LineLaws.{body_granted, body_refused}

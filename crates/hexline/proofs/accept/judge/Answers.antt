@@ -2,9 +2,9 @@
 use mathlib.Core.Path.{sym, ◌∙◌}
 use borrow.Author.Rules.{rules}
 use Prim.Native.Nat.{◌<◌}
-use Rattle.codec.specs.Body.{byte_at}
+use Rattle.label_codec.specs.Body.{byte_at}
 use Rattle.hexline.proofs.AcceptLaws.{body_judged}
-use Rattle.codec.specs.Codec.{width}
+use Rattle.label_codec.specs.Codec.{width}
 use Rattle.hexline.proofs.accept.judge.Goals as goal
 
 pub formed-requires : goal.formed-requires

@@ -2,7 +2,7 @@ use Prim.Native.Nat.{◌+◌, ◌-◌}
 use lib.ListN.{length}
 use Rattle.common.proofs.IndexLaws.{Filled}
 use Rattle.frame.specs.Frame.{body_of}
-use Rattle.codec.specs.Body.{byte_at}
+use Rattle.label_codec.specs.Body.{byte_at}
 use Rattle.hexline.proofs.parts.bytes_from.Given as goal
 
 abbrev pub invariant-loop-k : goal.invariant-loop-k

@@ -1,5 +1,5 @@
 use borrow.Author.Tests.{eq-eqb, ne_eqb}
-use Rattle.codec.specs.Body.{label_at}
+use Rattle.label_codec.specs.Body.{label_at}
 use Rattle.alias_entry.specs.Entry.{entry_from, label_from, layout_of}
 use Rattle.hexline.specs.Line.{standing_in}
 use Rattle.hexline.proofs.parts.hierarchy.Goals as goal

@@ -4,10 +4,10 @@ use Prim.Native.Nat.{ℕ, ◌+◌}
 use borrow.Author.Tests.{eq-eqb, ne_eqb}
 use Rattle.common.specs.Index.{tabulate}
 use Rattle.frame.specs.Frame.{body_of}
-use Rattle.codec.specs.Body.{byte_at, label_at, label_size, line_words}
+use Rattle.label_codec.specs.Body.{byte_at, label_at, label_size, line_words}
 use Rattle.alias_entry.specs.Entry.{entry_from, label_from, layout_of}
 use Rattle.hexline.specs.Line.{standing_in}
-use Rattle.codec.proofs.BodyLoops.{copied_at, moved_label}
+use Rattle.label_codec.proofs.BodyLoops.{copied_at, moved_label}
 use Rattle.hexline.proofs.parts.label.Goals as goal
 
 pub returns-then-byte-eq3 : goal.returns-then-byte-eq3
