@@ -14,7 +14,6 @@ use Rattle.label.specs.declared.Label.{Label}
 use Rattle.label.specs.declared.caller.Caller.{Caller}
 use Rattle.label.specs.Example.{example_of}
 use Rattle.range.specs.Range
-use Rattle.range.specs.declared.Range.{Range}
 use Rattle.frame.specs.Frame.{body_of, bytes_of, framed_of, is_digit, spelled_of, sum_of, digit_value}
 use Rattle.octets.specs.Bytes.{ascii, index_of, same_bytes, split}
 use Rattle.alias_entry.specs.Entry as entries

@@ -1,8 +1,6 @@
 use mathlib.Core.Bool.{and-false}
-use Prim.Native.Nat.{◌≤◌}
 use native.Mathlib.Omega.{arith}
 use Rattle.alias.specs.Lines.{entries_by}
-use Rattle.text.specs.Internal.Measure.{max_label}
 use Rattle.text.specs.Write.{all_named}
 use Rattle.text.proofs.PartLaws.{low_counts, whole_counts}
 use Rattle.text.proofs.WriteLaws.{counted, counts, missed, misses}

@@ -1,7 +1,6 @@
 -- The categories below c are put (`PutBelow`); each turn puts the next one (`put_next`), and where there is none, all are put (`put_last`, `put_every`).
 use borrow.Author.Rules.{rules}
 use mathlib.Core.Path.{◌≡◌, sym, ap, ◌∙◌}
-use Prim.Native.Nat.{◌-◌}
 use native.Mathlib.Omega.{arith}
 use lib.ListN.{length}
 use Rattle.label.specs.Words.{found_category_of, words}
