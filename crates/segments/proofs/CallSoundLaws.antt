@@ -6,7 +6,6 @@ use Prim.Native.Nat.{ℕ, ◌+◌, ◌-◌, ◌≤◌}
 use native.Mathlib.Omega.{arith}
 use borrow.Author.Tests.{leb-true}
 use lib.Dec.{leb}
-use Rattle.label.specs.Label
 use Rattle.label.specs.declared.Label.{Label}
 use Rattle.common.proofs.BoolLaws.{first_true, second_true}
 use Rattle.range.specs.Tuple

@@ -1,6 +1,6 @@
 -- For contracts of functions that are not public: what the state has for a call, the checks that every call starts with, and outcomes that
 -- show no label.
-use Rattle.std.specs.Prelude.{Bool, true, ◌≡◌, ◌-◌, ◌<◌}
+use Rattle.std.specs.Prelude.{Bool, true, ◌≡◌, ◌<◌}
 use Rattle.std.proofs.Math.Option.{Option, none, some}
 use Rattle.common.specs.Answer as answers
 use Rattle.common.specs.declared.errno.Errno.{Errno}

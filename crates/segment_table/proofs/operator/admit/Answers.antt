@@ -1,7 +1,7 @@
 use mathlib.Core.Bool.{Bool, true, false, not, ◌&&◌, and_assoc}
 use mathlib.Core.Path.{◌≡◌, sym, ap, ◌∙◌}
 use Prim.Native.Nat.{◌<◌}
-use borrow.Author.Tests.{ltb-true, not-false}
+use borrow.Author.Tests.{ltb-true}
 use lib.Dec.{leb, ltb}
 use Rattle.common.specs.declared.errno.Errno.TheVariants.{Busy, Invalid}
 use Rattle.common.proofs.BoolLaws.{three_true}

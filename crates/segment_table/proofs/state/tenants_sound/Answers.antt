@@ -1,7 +1,5 @@
 use mathlib.Core.Path.{sym, ◌∙◌}
-use Prim.Native.Nat.{◌-◌}
 use Rattle.common.proofs.IndexLaws.{test_all, test_next, test_none, test_stop}
-use Rattle.segment_table.specs.Sound.{tenant_sound}
 use Rattle.segment_table.proofs.state.tenants_sound.Goals as goal
 
 pub loop-i-init : goal.loop-i-init
