@@ -1,4 +1,4 @@
-use Rattle.std.proofs.Common.{◌≡◌, ◌-◌, ◌+◌, ◌<◌, ◌&&◌, ℕ, Bool, true, false, ltb, suc, sym, ◌∙◌, refl, arith}
+use Rattle.std.proofs.Common.{◌≡◌, ◌-◌, ◌<◌, ◌&&◌, ℕ, Bool, true, false, ltb, suc, sym, ◌∙◌, refl, arith}
 use borrow.Author.Tests.{ltb-true}
 use Rattle.input.specs.Input.{Steps, most_lines}
 use Rattle.input.proofs.InputLaws.{step_more}
