@@ -4,17 +4,17 @@ use mathlib.Core.Option.{Option, some}
 use mathlib.Core.Path.{◌≡◌, refl, sym, ap, ap₂, ◌∙◌}
 use Prim.Native.Nat.{ℕ, ◌<◌, ◌≤◌}
 use borrow.Author.Tests.{lt-ltb}
-use lib.Dec.{ltb}
+use lib.Dec.{lit<, ltb}
 use Rattle.common.specs.Answer.{Answer, and_then, granted, is_granted, refused, refused_by, require}
 use Rattle.label.specs.declared.Label.{Label}
 use Rattle.common.specs.declared.errno.Errno.{Errno}
 use Rattle.common.specs.declared.errno.Errno.TheVariants.{Invalid}
 use Rattle.common.proofs.AnswerLaws.{grant_passed, require_then}
 use Rattle.common.proofs.BoolLaws.{both, first_true, not_so}
-use Rattle.segments.specs.Calls.{CallEffect, Decides, access_of, applied, call_of, call_row, call_valid, cleared, decision_on, effect_on, slot_for, slot_valid, step_of}
+use Rattle.segments.specs.Calls.{CallEffect, Decides, access_of, applied, call_of, call_row, call_valid, changed_slot, cleared, decision_on, effect_on, slot_for, slot_valid, step_of}
 use Rattle.segments.specs.Internal.CallParts.{Started, first_checks_of, named_segment, named_valid, refused_with}
 use Rattle.segment_table.specs.Replies.{Answers, Grant, Results, done, is_refusal, reply_of}
-use Rattle.segment_table.specs.Segments.{ceiling_at, segment_at, tenant_total, with_segment}
+use Rattle.segment_table.specs.Segments.{ceiling_at, segment_at, slot_total, tenant_total, with_segment}
 use Rattle.segment_table.specs.Slots.{pages_of}
 use Rattle.segment_table.specs.Sound.{sound}
 use Rattle.segments.specs.declared.Action.{Action}
@@ -27,7 +27,7 @@ use Rattle.segment_table.specs.declared.Segment.{Segment}
 use Rattle.segment_table.specs.declared.SegmentTable.{SegmentTable}
 use Rattle.segment_table.specs.declared.Slot.{Slot}
 use Rattle.segment_table.specs.declared.TenantId.{TenantId}
-use Rattle.segments.proofs.CallsLaws.{valid_numbers, valid_tenant}
+use Rattle.segments.proofs.CallsLaws.{granted_passed, valid_numbers, valid_slot, valid_tenant}
 use Rattle.segment_table.proofs.SoundLaws.{sound_parts}
 
 -- ---- changes
@@ -124,6 +124,15 @@ module _ (s : SegmentTable) (c : Call) (w : Started s c) where
 -- ---- a change that is what the call does
 
 module _ (s : SegmentTable) (c : Call) {x : Change} (d : Decides s c x) where
+  pub decides_slot : x.slot.0 < slot_total
+  decides_slot = rw d.slot (go (decision_on s c) refl)
+    where
+      go : (y : Answer CallEffect) → decision_on s c ≡ y → (changed_slot y).0 < slot_total
+      go (granted z) e =
+          let r = granted_passed s c.tenant c.label c.action z e in
+          valid_slot s c.tenant c.label c.action z.slot r.is_valid r.slot_is
+      go (refused n detail) e = lit< tt
+
   -- made to the state, it gives the call's outcome
   pub decides_results : Results (applied s x) (step_of s c)
   unfolding step_of

@@ -2,6 +2,7 @@
 use mathlib.Core.Bool.{Bool, true, false, cond, ◌&&◌, and-true}
 use mathlib.Core.List.{List, ◌++◌, append_assoc}
 use mathlib.Core.Path.{◌≡◌, refl}
+use mathlib.Core.Option.{none, some}
 use Prim.Native.Nat.{ℕ, ◌+◌, ◌≤◌}
 use native.Mathlib.Omega.{arith}
 use lib.ListN.{length, length-append}
@@ -69,6 +70,15 @@ module _ (es : List Entry) (style : Style) (x : Range) where
 
 -- ---- a label in its form
 
+-- what is put in the alias form: the name of the label where there is one, else the definition form
+pub alias_text : (es : List Entry) (v : Variant) (l : Label) {k : ℕ} → last_entry_for es WholeLabel l ≡ some k → text_in es Alias v l ≡ name_for es v WholeLabel l
+unfolding text_in named
+alias_text es v l e = rw e
+
+pub definition_instead : (es : List Entry) (v : Variant) (l : Label) → last_entry_for es WholeLabel l ≡ none → text_in es Alias v l ≡ definition_text es v l
+unfolding text_in named
+definition_instead es v l e = rw e
+
 -- what is put, or fits, by another account of the same text
 pub put_same : {out after text same : List ℕ} {at past : ℕ} → same ≡ text → Put out at text past after → Put out at same past after
 put_same e h = rw e h
@@ -101,10 +111,10 @@ module _ (es : List Entry) (v : Variant) (l : Label) {form : Form} where
     alias_missing t e h = rw (a, missed t e) h
 
     module _ {r : FoundEntry} (f : found_entry_of r ≡ last_entry_for es WholeLabel l) where
-      pub alias_text : {k : ℕ} → r ≡ At k → text_in es form v l ≡ written_name v (entry_at es k)
+      pub alias_found : {k : ℕ} → r ≡ At k → text_in es form v l ≡ written_name v (entry_at es k)
       unfolding text_in named name_for
-      alias_text e = rw (a, ← f, e)
+      alias_found e = rw (a, ← f, e)
 
-      pub definition_instead : r ≡ Nothing → text_in es form v l ≡ definition_text es v l
+      pub definition_put : r ≡ Nothing → text_in es form v l ≡ definition_text es v l
       unfolding text_in named
-      definition_instead e = rw (a, ← f, e)
+      definition_put e = rw (a, ← f, e)
