@@ -1,6 +1,6 @@
 #!/usr/bin/env python3
 """Spells the names that the crates' own definitions, lemmas and fields have in snake case: `labelSize` and `every-at` become `label_size` and
-`every_at`. It was run once, after the kit's script, in the commit that brought the repository to this Rattle; docs/PORT.md says more.
+`every_at`. It was run once, after the toolchain's own script, in the commit that brought the repository to this Rattle; docs/PORT.md says more.
 
 usage: tools/snake_names.py     at the top of the repository
 
@@ -107,7 +107,7 @@ def main():
     library = set().union(*(imported(read(p), own) for p in files("crates", ".antt")))
     plain = {snake(w) for w in words if CAMEL.fullmatch(w)} | library
     known = {w for p in files("crates", ".antt") if not p.endswith("/Proof.antt") for w in DECLARED.findall(code(read(p)))}
-    # The kit's script had given the lemma `framed-of` the words of the definition `framedOf`.
+    # The toolchain's script had given the lemma `framed-of` the words of the definition `framedOf`.
     words.add("framed_of")
     TAKEN.add("framed_of")
     plain |= known
