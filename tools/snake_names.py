@@ -31,7 +31,8 @@ def snake(word):
         return NAMED[word]
     if word in TAKEN:
         return word.replace("-", "_") + "_lem"
-    word = re.sub(r"([a-z0-9])([A-Z])", lambda m: m[1] + "_" + m[2].lower(), word) if CAMEL.fullmatch(word) else word
+    if CAMEL.fullmatch(word):
+        word = re.sub(r"(?<=[a-z0-9])([A-Z])|(?<=[A-Z])([A-Z])(?=[a-z])", lambda m: "_" + m[0].lower(), word)
     return word.replace("-", "_")
 
 

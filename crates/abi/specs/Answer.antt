@@ -90,7 +90,7 @@ tuple_answer x = with_tuple (bare_answer x) (answers.value_or core_tuples.empty_
 -- an entry's numbers; zeros, which name nothing, beside a refusal
 abbrev pub entry_beside : answers.Answer core_entry.Entry → form.CEntry
 entry_beside (answers.granted e) = Entry.encoded_of e
-entry_beside (answers.refused n detail) = Entry.zero_cEntry
+entry_beside (answers.refused n detail) = Entry.zero_c_entry
 
 abbrev pub entry_answer : answers.Answer core_entry.Entry → CEntryAnswer
 entry_answer x = record { answer = bare_answer x; entry = entry_beside x }

@@ -23,8 +23,8 @@ abbrev pub encoded_of : core_entry.Entry → CEntry
 encoded_of e = record { names = value_class e.value; number = value_number e.value; label = e.label; name = e.name; abbreviation = e.abbreviation }
 
 -- the entry of zeros, which names nothing: what stands beside a refusal
-abbrev pub zero_cEntry : CEntry
-zero_cEntry = record {
+abbrev pub zero_c_entry : CEntry
+zero_c_entry = record {
   names = 0;
   number = 0;
   label = Label.zero_label;

@@ -1,7 +1,7 @@
 // Alias entries: what an entry names is a number of its own, 1 a hierarchy, 2 a category, 3 a label.
 ghost use Rattle.std.specs.Prelude.{◌≡◌};
 ghost use Rattle.alias_entry.specs.Entry.{value_by_class, value_class};
-ghost use Rattle.abi.specs.Entry.{decoded_of, encoded_of, formed_of, value_number, zero_cEntry};
+ghost use Rattle.abi.specs.Entry.{decoded_of, encoded_of, formed_of, value_number, zero_c_entry};
 
 use alias_entry::{Abbreviation, Name, Value};
 use label::Label;
@@ -87,7 +87,7 @@ pub fn encode(e: alias_entry::Entry) -> CEntry
 
 // The entry of zeros: it names nothing.
 pub fn zero() -> CEntry
-    ensures { result ≡ zero_cEntry }
+    ensures { result ≡ zero_c_entry }
 {
     let none = alias_entry::zero();
     let label = none.label;

@@ -163,3 +163,10 @@ module _ (es : List Entry) (good : Good es) where
     pub range_read : (text : List ℕ) → Reads (RangeInSight s) (read_range_text es s text)
     unfolding read_range_text
     range_read text = reads_require (caller_valid s) (λ e. reads_require (begins_with low_marker text) (λ e. reads_ends (drop (length low_marker) text)))
+
+  -- what is granted, said of an answer at hand
+  pub label_sight : (s : Caller) (text : List ℕ) (l : Label) → read_label_text es s text ≡ granted l → InSight s l
+  label_sight s text l h = reads_grant l (label_read s text) h
+
+  pub range_sight : (s : Caller) (text : List ℕ) (x : Range) → read_range_text es s text ≡ granted x → RangeInSight s x
+  range_sight s text x h = reads_grant x (range_read s text) h
