@@ -1,4 +1,0 @@
-use Rattle.segments.proofs.calls.refused.Goals as goal
-
-pub returns : goal.returns
-returns c = rw (c.zero_segment.ensures, c.no_label.ensures)
