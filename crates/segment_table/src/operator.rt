@@ -52,8 +52,9 @@ fn clearance_valid(t: Tuple) -> bool
     }
 }
 
-// Gives a tenant another record, if the pool has room for its ceiling in place of the old one.
-fn set_record(table: SegmentTable, tenant: TenantId, x: Tenant) -> CallOutcome
+// Gives a tenant another record, if the pool has room for its ceiling in place of the old one. The record is set in the state that was passed: one
+// more of the state would not fit the stack that a function of the library takes at most.
+fn set_record(mut table: SegmentTable, tenant: TenantId, x: Tenant) -> CallOutcome
     requires table_value { sound table ≡ true }
     requires tenant_lt_tenant_total { tenant.0 < tenant_total }
     ensures { Results result (leaving table (with_tenant table tenant x) (pool_answer table tenant x.ceiling)) }
@@ -62,8 +63,8 @@ fn set_record(table: SegmentTable, tenant: TenantId, x: Tenant) -> CallOutcome
     if !slots::fits(slots::pool_left(table), old, x.ceiling) {
         return unlabeled(table, Reply::Refused(Errno::NoMem));
     }
-    let next = state::with_tenant(table, tenant, x);
-    unlabeled(next, Reply::Done)
+    table.tenants[tenant.0 as usize] = x;
+    unlabeled(table, Reply::Done)
 }
 
 // Admits a tenant, with a ceiling on its pages and a clearance.

@@ -2,7 +2,7 @@
 ghost use Rattle.std.specs.Prelude.{◌≡◌, ◌<◌};
 ghost use Rattle.common.specs.Answer.{granted, number_answer_of, require};
 ghost use Rattle.segment_table.specs.Internal.SoundParts.{ceilings_kept, segment_sound, slots_sound, tenants_sound};
-ghost use Rattle.segment_table.specs.Segments.{pages_valid, tenant_total, with_segment, with_tenant, zero_segment};
+ghost use Rattle.segment_table.specs.Segments.{pages_valid, tenant_total, with_segment, zero_segment};
 ghost use Rattle.segment_table.specs.Slots.{pages_of};
 ghost use Rattle.segment_table.specs.Sound as rules;
 
@@ -172,16 +172,6 @@ pub fn zero_segment() -> Segment
         pages: 0,
         version: 0,
     }
-}
-
-// The state with another record for t.
-pub(crate) fn with_tenant(s: SegmentTable, t: TenantId, x: Tenant) -> SegmentTable
-    requires { t.0 < tenant_total }
-    ensures { result ≡ with_tenant s t x }
-{
-    let mut next = s;
-    next.tenants[t.0 as usize] = x;
-    next
 }
 
 // The state with another segment in p, if there is such a slot.

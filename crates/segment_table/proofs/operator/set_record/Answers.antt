@@ -5,13 +5,11 @@ use Prim.Native.Nat.{ℕ, ◌+◌, ◌-◌}
 use lib.Dec.{leb}
 use Rattle.common.specs.declared.errno.Errno.TheVariants.{NoMem}
 use Rattle.common.proofs.AnswerLaws.{passed, stopped}
-use Rattle.segment_table.specs.Internal.TableParts.{unlabeled}
 use Rattle.segment_table.specs.Limits.{fits_in}
 use Rattle.segment_table.specs.Replies.{done}
 use Rattle.segment_table.specs.Segments.{ceiling_at}
 use Rattle.segment_table.specs.Slots.{ceilings_of}
 use Rattle.segment_table.specs.declared.Reply.TheVariants.{Done}
-use Rattle.segment_table.specs.declared.SegmentTable.{SegmentTable}
 use Rattle.segment_table.proofs.LimitLaws.{fits_exact}
 use Rattle.segment_table.proofs.ResultsLaws.{results_granted, results_refused}
 use Rattle.segment_table.proofs.SlotsLaws.{ceiling_among}
@@ -32,5 +30,5 @@ returns-then-not-fits c = results_refused _ _ _ _ NoMem c.unlabeled.ensures (sto
 
 pub returns : goal.returns
 returns c =
-    results_granted _ _ _ _ Done done (c.unlabeled-2.ensures ∙ ap (λ (s : SegmentTable). unlabeled s Done) c.with_tenant-next.ensures)
+    results_granted _ _ _ _ Done done c.unlabeled-2.ensures
     (passed _ 12 _ (sym (room (goal.at.returns c).After-fits) ∙ c.if-not-fits.false)) refl refl
