@@ -1,11 +1,10 @@
 -- The test says that the byte of presence and the ranges that are there fit (`tuple_long`); they are put one after the other.
 use borrow.Author.Rules.{rules}
-use mathlib.Core.Bool.{true, ◌&&◌}
+use mathlib.Core.Bool.{◌&&◌}
 use mathlib.Core.List.{List, ◌∷◌}
 use mathlib.Core.Path.{◌≡◌, sym, ap, ap₂, ◌∙◌}
-use Prim.Native.Nat.{ℕ, ◌+◌, ◌≤◌}
+use Prim.Native.Nat.{ℕ}
 use native.Mathlib.Omega.{arith}
-use lib.Dec.{leb}
 use lib.ListN.{length}
 use Rattle.common.proofs.BoolLaws.{first_true}
 use Rattle.label.specs.Region.{regions}

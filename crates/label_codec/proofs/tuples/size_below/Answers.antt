@@ -4,7 +4,6 @@ use native.Mathlib.Nat.{mul-le-mul_right}
 use native.Mathlib.Omega.{arith}
 use Rattle.label_codec.proofs.tuples.size_below.Goals as goal
 
--- TO MEND
 -- at most eight ranges
 small : (c : goal.After-range_size) → c.present_below.result * c.range_size.result ≤ 8 * c.range_size.result
 small c = mul-le-mul_right c.range_size.result (omega (arith, c.present_below.ensures.upper_bound, c.requires))

@@ -2,13 +2,13 @@
 use borrow.Author.Rules.{rules}
 use mathlib.Core.List.{List}
 use mathlib.Core.Path.{refl, ap, ap₂, ◌∙◌}
-use Prim.Native.Nat.{ℕ, ◌+◌, ◌-◌}
+use Prim.Native.Nat.{ℕ, ◌+◌}
 use lib.ListN.{drop}
 use Rattle.common.proofs.IndexLaws.{fill_all, fill_next, fill_none}
 use Rattle.range.specs.Tuple.{tuple_of}
 use Rattle.label_codec.specs.Body.{byte_at}
 use Rattle.label_codec.specs.Codec.{width}
-use Rattle.label_codec.specs.Tuples.{region_at, tuple_at}
+use Rattle.label_codec.specs.Tuples.{tuple_at}
 use Rattle.label_codec.proofs.BodyLoops.{rest_same, same_first, same_later}
 use Rattle.label_codec.proofs.TupleBytesLaws.{same_tuple}
 use Rattle.label_codec.proofs.tuples.tuple_at.Goals as goal

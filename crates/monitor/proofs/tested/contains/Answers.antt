@@ -1,8 +1,6 @@
 use mathlib.Core.Path.{◌≡◌, sym, ◌∙◌}
-use Prim.Native.Nat.{ℕ}
 use native.Mathlib.Omega.{arith}
 use Rattle.label.proofs.RegionLaws.{region_within}
-use Rattle.range.specs.Tuple.{contains_at, contains_of, region_range_at}
 use Rattle.range.proofs.TupleLaws.{contains_by_region}
 use Rattle.monitor.proofs.tested.contains.Goals as goal
 

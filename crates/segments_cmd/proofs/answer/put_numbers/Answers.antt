@@ -1,4 +1,4 @@
-use Rattle.std.proofs.Common.{arith, rules}
+use Rattle.std.proofs.Common.{rules}
 use Rattle.octets.proofs.ByteLaws.{appended_put, then_put}
 use Rattle.segments_cmd.specs.Answer.{shown_numbers}
 use Rattle.segments_cmd.proofs.answer.put_numbers.Goals as goal
