@@ -1,12 +1,12 @@
 -- A change that is made to a state is the call that decided it, and a refused call hands back the very state that was passed.
-use mathlib.Core.Bool.{or-false}
-use mathlib.Core.Option.{Option}
+use Rattle.std.specs.Prelude.{Option, Result, Ok, Err, IfOk}
+use Rattle.common.specs.declared.errno.Errno.{Errno}
 use mathlib.Core.Path.{◌≡◌, refl, ◌∙◌}
 use Prim.Native.Nat.{ℕ, ◌<◌}
 use borrow.Author.Tests.{lt-leb}
 use Rattle.common.specs.Answer.{refused}
 use Rattle.segments.specs.Calls.{Decides, applied, step_of}
-use Rattle.segment_table.specs.Replies.{is_refusal, leaving}
+use Rattle.segment_table.specs.Replies.{leaving}
 use Rattle.segment_table.specs.Segments.{slot_total}
 use Rattle.segments.specs.declared.Call.{Call}
 use Rattle.segments.specs.declared.Change.{Change}
@@ -17,11 +17,17 @@ use Rattle.abi.specs.Outcome as outcomes
 use Rattle.abi.specs.declared.outcome.COutcome.{COutcome}
 use Rattle.abi.proofs.AnswerLaws.{call_answered}
 
-pub applied_back : (s : SegmentTable) (c : Change) → c.slot.0 < slot_total → outcomes.applied_to s c ≡ outcomes.handed_back (applied s c)
-applied_back s c l = rw (lt-leb slot_total c.slot.0 l, or-false (is_refusal c.answer.reply))
+pub applied_back : (s : SegmentTable) (x : Result Change Errno) → IfOk x (λ (c : Change). c.slot.0 < slot_total) → outcomes.applied_to s x ≡ outcomes.handed_back (applied s x)
+applied_back s (Ok c) l = rw (lt-leb slot_total c.slot.0 l)
+applied_back s (Err e) l = refl
 
-pub call_applied : (s : SegmentTable) {c : Call} {x : Change} {o : COutcome} → Decides s c x → (x.slot.0 < slot_total → o ≡ outcomes.handed_back (applied s x)) → o ≡ outcomes.step_outcome (step_of s c)
-call_applied s d h = h (decides_slot _ _ d) ∙ call_answered (decides_results _ _ d)
+pub call_applied : (s : SegmentTable) (c : Call) (x : Result Change Errno) {o : COutcome} → Decides s c x
+    → (IfOk x (λ (c : Change). c.slot.0 < slot_total) → o ≡ outcomes.handed_back (applied s x)) → o ≡ outcomes.step_outcome (step_of s c)
+call_applied s c x d h = h (in_slot x d) ∙ call_answered (decides_results s c x d)
+  where
+    in_slot : (x : Result Change Errno) → Decides s c x → IfOk x (λ (y : Change). y.slot.0 < slot_total)
+    in_slot (Ok y) d = decides_slot s c d
+    in_slot (Err e) d = tt
 
 -- every number of it: of a tenant's call, and of an operator's
 pub call_refused_keeps : (s : SegmentTable) (c : Call) (n : ℕ) (detail : Option ℕ) → (step_of s c).answer ≡ refused n detail → (outcomes.step_outcome (step_of s c)).state ≡ s

@@ -1,21 +1,19 @@
 -- Answers as C has them: a grant and a refusal are told apart by `refusal`, and a refusal that carries one more number by `carries`.
-use Rattle.std.specs.Prelude.{Bool, List, ◌≡◌, ℕ, length}
-use Rattle.std.proofs.Math.Option.{Option, none, some}
+use Rattle.std.specs.Prelude.{Bool, List, ◌≡◌, ℕ, length, Option, None, Some, Result}
 use Rattle.common.specs.Answer as answers
-use Rattle.common.specs.Buffer.{buffer_of, length_of, written_of}
+use Rattle.common.specs.Buffer.{buffer_of, length_of}
 use Rattle.common.specs.Errno.{detail_of, errno_number}
 use Rattle.label.specs.Label
 use Rattle.label.specs.Words.{categories}
 use Rattle.label.specs.declared.Label.{Label}
-use Rattle.common.specs.declared.answer.Outcome.{Outcome}
-use Rattle.common.specs.declared.answer.Outcome.TheVariants.{Granted, Refused}
 use Rattle.common.specs.declared.errno.Errno.{Errno}
 use Rattle.range.specs.Range
 use Rattle.range.specs.Tuple as core_tuples
 use Rattle.range.specs.declared.Range.{Range}
 use Rattle.range.specs.declared.tuple.Tuple as core_tuple
 use Rattle.alias_entry.specs.declared.Entry as core_entry
-use Rattle.text.specs.Write.{Shown, status_or, text_of}
+use Rattle.alias.specs.declared.LineStarts.{LineStarts}
+use Rattle.text.specs.Write.{Shown, length_written, status_or, status_written, text_of}
 use Rattle.text.specs.declared.RangeWritten as core_written
 use Rattle.abi.specs.Entry
 use Rattle.abi.specs.Flag
@@ -23,8 +21,8 @@ use Rattle.abi.specs.declared.answer.CAnswer.{CAnswer}
 use Rattle.abi.specs.declared.answer.CEntryAnswer.{CEntryAnswer}
 use Rattle.abi.specs.declared.answer.CLabelAnswer.{CLabelAnswer}
 use Rattle.abi.specs.declared.answer.CRangeAnswer.{CRangeAnswer}
-use Rattle.abi.specs.declared.answer.CRangeWritten.{CRangeWritten}
 use Rattle.abi.specs.declared.answer.CTupleAnswer.{CTupleAnswer}
+use Rattle.abi.specs.declared.answer.CRangeWritten.{CRangeWritten}
 use Rattle.abi.specs.declared.entry.CEntry as form
 
 -- a grant has no refusal's number
@@ -33,8 +31,8 @@ grant value = record { refusal = 0; carries = 0; value = value }
 
 -- a refusal, with the one more number that it may carry
 abbrev pub refusal : ℕ → Option ℕ → CAnswer
-refusal n none = record { refusal = n; carries = 0; value = 0 }
-refusal n (some more) = record { refusal = n; carries = 1; value = more }
+refusal n None = record { refusal = n; carries = 0; value = 0 }
+refusal n (Some more) = record { refusal = n; carries = 1; value = more }
 
 abbrev pub refusal_by : Errno → CAnswer
 refusal_by e = refusal (errno_number e) (detail_of e)
@@ -60,8 +58,8 @@ test_answer x = numbered Flag.encoded_of x
 
 -- the category that is next, or, where there is none, how many categories there are
 abbrev pub next_number : Option ℕ → ℕ
-next_number none = categories
-next_number (some c) = c
+next_number None = categories
+next_number (Some c) = c
 
 -- an answer that stands beside what is answered
 abbrev pub bare_answer : {A : Type 0} → answers.Answer A → CAnswer
@@ -105,11 +103,11 @@ pub record CRangeWrittenTo (r : CRangeWritten) (x : answers.Answer Shown) (befor
   pub written : CWrittenTo r.answer (text_of x) before after
   pub status : r.status ≡ status_or (answers.is_granted (length_of (text_of x) (length before))) x
 
--- ---- what the enum Outcome says, with the number beside it, and a range that was written. For functions that are not exported
+-- what a table's check answers: how many lines it has
+abbrev pub line_count : LineStarts → ℕ
+line_count lines = lines.count
 
-abbrev pub outcome_answer : Outcome → ℕ → CAnswer
-outcome_answer Granted value = grant value
-outcome_answer (Refused e) value = refusal_by e
+-- ---- what the code says of a range that was written. For functions that are not exported
 
-abbrev pub range_written : core_written.RangeWritten → CRangeWritten
-range_written w = record { answer = number_answer (written_of w.written); status = w.status }
+abbrev pub range_written : Result core_written.RangeWritten Errno → CRangeWritten
+range_written r = record { answer = number_answer (answers.answer_of (length_written r)); status = status_written r }

@@ -1,13 +1,13 @@
 -- What a call on a state hands back to C.
-use Rattle.std.specs.Prelude.{cond, ◌||◌, ℕ, leb}
+use Rattle.std.specs.Prelude.{cond, ℕ, leb, Result, Ok, Err}
 use Rattle.common.specs.Answer as answers
-use Rattle.label.specs.declared.Label.{Label}
-use Rattle.segment_table.specs.Replies.{Grant, Step, done, is_refusal, opened, shown}
+use Rattle.common.specs.declared.errno.Errno.{Errno}
+use Rattle.segment_table.specs.Replies.{Step}
+use Rattle.segment_table.specs.declared.Reply.{Reply as Grant}
+use Rattle.segment_table.specs.declared.Reply.TheVariants.{Done as done, Opened as opened, Shown as shown}
 use Rattle.segment_table.specs.Segments as core
 use Rattle.segments.specs.declared.Change.{Change}
 use Rattle.segment_table.specs.declared.CallOutcome as core_outcome
-use Rattle.segment_table.specs.declared.Reply.{Reply}
-use Rattle.segment_table.specs.declared.Reply.TheVariants.{Done, Opened, Shown, Refused}
 use Rattle.segment_table.specs.declared.Segment.{Segment}
 use Rattle.segment_table.specs.declared.SegmentTable.{SegmentTable}
 use Rattle.abi.specs.Answer.{grant, numbered, refusal_by}
@@ -37,23 +37,10 @@ step_outcome x = outcome x.table (numbered grant_number x.answer) (shown_of x.an
 
 -- ---- what the code's outcome says. For functions that are not exported
 
-abbrev pub reply_answer : Reply → CAnswer
-reply_answer Done = grant 0
-reply_answer (Opened p) = grant p.0
-reply_answer (Shown x) = grant 0
-reply_answer (Refused e) = refusal_by e
-
-abbrev pub segment_beside : Reply → Label → Segment
-segment_beside Done l = core.zero_segment
-segment_beside (Opened p) l = core.zero_segment
-segment_beside (Shown x) l = core.segment_of l x.pages x.version
-segment_beside (Refused e) l = core.zero_segment
-
 abbrev pub handed_back : core_outcome.CallOutcome → COutcome
-handed_back o = outcome o.table (reply_answer o.answer.reply) (segment_beside o.answer.reply o.answer.label)
+handed_back o = outcome o.table (numbered grant_number (answers.answer_of o.answer)) (shown_of (answers.answer_of o.answer))
 
 -- what a call hands back that makes this change, if it is no refusal and there is such a slot
-abbrev pub applied_to : SegmentTable → Change → COutcome
-applied_to s c =
-    outcome (cond (is_refusal c.answer.reply || leb core.slot_total c.slot.0) s (core.with_segment s c.slot c.segment)) (reply_answer c.answer.reply)
-    (segment_beside c.answer.reply c.answer.label)
+abbrev pub applied_to : SegmentTable → Result Change Errno → COutcome
+applied_to s (Ok c) = outcome (cond (leb core.slot_total c.slot.0) s (core.with_segment s c.slot c.segment)) (grant (grant_number c.reply)) (shown_of (answers.granted c.reply))
+applied_to s (Err e) = outcome s (refusal_by e) core.zero_segment

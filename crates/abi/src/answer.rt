@@ -1,25 +1,26 @@
 // Answers. A grant and a refusal are told apart by `refusal`, which no grant has and no refusal lacks, and a refusal that carries one more number
 // from one that does not by `carries`.
-ghost use Rattle.std.specs.Prelude.{◌≡◌};
-ghost use Rattle.common.specs.Answer.{number_answer_of, outcome_of, test_of};
-ghost use Rattle.common.specs.Buffer.{written_of};
-ghost use Rattle.common.specs.Errno.{carried_of};
-ghost use Rattle.label.specs.Label.{next_answer_of};
-ghost use Rattle.hexline.specs.Line.{kind_answer_of};
-ghost use Rattle.monitor.specs.Monitor.{decision_of};
-ghost use Rattle.abi.specs.Answer.{entry_answer, grant, next_number, number_answer, numbered, outcome_answer, range_written, refusal, refusal_by, test_answer, with_label, with_range, with_tuple};
+ghost use Rattle.std.specs.Prelude.{ℕ, ◌≡◌};
+ghost use Rattle.common.specs.Answer.{answer_by, answer_of};
+ghost use Rattle.label.specs.Region.{region_number};
+ghost use Rattle.hexline.specs.Line.{kind_number};
+ghost use Rattle.monitor.specs.Monitor as monitors;
+ghost use Rattle.abi.specs.Answer.{bare_answer, entry_answer, grant, label_answer, line_count, next_number, number_answer, numbered, range_answer, range_written, refusal_by, same, tuple_answer};
+ghost use Rattle.abi.specs.Flag.{encoded_of};
 
 use crate::entry;
 use crate::entry::CEntry;
-use common::answer::{Number, Outcome, Test, Written};
-use common::errno;
-use common::errno::{Carried, Errno};
+use alias::LineStarts;
+use alias_entry::Entry;
+use common::errno::Errno;
 use hexline::Kind;
+use label::Label;
+use label::region::Region;
 use label::words::WORDS;
-use label::{Label, Next};
-use monitor::Decision;
-use range::Range;
+use monitor::Grant;
 use range::tuple::Tuple;
+use range::{Range, tuple};
+use text::RangeWritten;
 
 // A refusal's number, or 0 for a grant; whether a refusal carries one more number, 1 or 0; and the number that a grant answers or a refusal
 // carries, else 0.
@@ -31,6 +32,7 @@ pub struct CAnswer {
     pub value: u64,
 }
 
+// An answer with the value that is granted; beside a refusal stand zeros. There is a struct for each type: what C is handed has no type parameters.
 #[repr(C)]
 #[derive(Clone, Copy)]
 pub struct CLabelAnswer {
@@ -67,6 +69,89 @@ pub struct CRangeWritten {
     pub status: u64,
 }
 
+// What a grant answers where C has a number for it.
+pub trait Numbered {
+    ghost number_of: { Self → ℕ };
+
+    fn number(self) -> u64
+        ensures { result ≡ number_of self };
+}
+
+// Nothing more: 0.
+impl Numbered for () {
+    ghost number_of = { λ u. 0 };
+
+    fn number(self) -> u64 {
+        0
+    }
+}
+
+impl Numbered for bool {
+    ghost number_of = { encoded_of };
+
+    fn number(self) -> u64 {
+        if self { 1 } else { 0 }
+    }
+}
+
+impl Numbered for u64 {
+    ghost number_of = { same };
+
+    fn number(self) -> u64 {
+        self
+    }
+}
+
+impl Numbered for usize {
+    ghost number_of = { same };
+
+    fn number(self) -> u64 {
+        self as u64
+    }
+}
+
+impl Numbered for Region {
+    ghost number_of = { region_number };
+
+    fn number(self) -> u64 {
+        self as u64
+    }
+}
+
+// The category that is next; where there is none, the number of categories, which is none of them.
+impl Numbered for Option<u64> {
+    ghost number_of = { next_number };
+
+    fn number(self) -> u64 {
+        self.unwrap_or((WORDS * 64) as u64)
+    }
+}
+
+impl Numbered for Kind {
+    ghost number_of = { kind_number };
+
+    fn number(self) -> u64 {
+        self as u64
+    }
+}
+
+impl Numbered for Grant {
+    ghost number_of = { monitors.grant_number };
+
+    fn number(self) -> u64 {
+        self as u64
+    }
+}
+
+// How many lines a table has.
+impl Numbered for LineStarts {
+    ghost number_of = { line_count };
+
+    fn number(self) -> u64 {
+        self.count as u64
+    }
+}
+
 pub fn granted(value: u64) -> CAnswer
     ensures { result ≡ grant value }
 {
@@ -77,153 +162,101 @@ pub fn granted(value: u64) -> CAnswer
     }
 }
 
-// A refusal of a number, and of what it carries.
-fn refusal_of(number: u8, c: Carried) -> CAnswer
-    ensures { result ≡ refusal number (carried_of c) }
+pub fn refused(e: Errno) -> CAnswer
+    ensures { result ≡ refusal_by e }
 {
-    match c {
-        Carried::Number(n) => CAnswer {
-            refusal: number as u32,
+    match e.detail() {
+        Some(n) => CAnswer {
+            refusal: e.number() as u32,
             carries: 1,
             value: n as u64,
         },
-        Carried::Nothing => CAnswer {
-            refusal: number as u32,
+        None => CAnswer {
+            refusal: e.number() as u32,
             carries: 0,
             value: 0,
         },
     }
 }
 
-pub fn refused(e: Errno) -> CAnswer
-    ensures { result ≡ refusal_by e }
+// An answer that C has as a number. The second clause says the same of the number that the definitions answer.
+pub fn of<T: Numbered>(r: Result<T, Errno>) -> CAnswer
+    ensures value { result ≡ numbered T.number_of (answer_of r) }
+    ensures number { result ≡ number_answer (answer_by T.number_of r) }
 {
-    refusal_of(errno::number(e), errno::detail(e))
+    match r {
+        Ok(x) => granted(x.number()),
+        Err(e) => refused(e),
+    }
 }
 
-pub fn of_test(t: Test) -> CAnswer
-    ensures { result ≡ test_answer (test_of t) }
+// The answer that stands beside what is granted.
+fn bare<T: Copy>(r: Result<T, Errno>) -> CAnswer
+    ensures { result ≡ bare_answer (answer_of r) }
 {
-    match t {
-        Test::Holds(b) => {
-            if b {
-                return granted(1);
-            }
-            granted(0)
+    match r {
+        Ok(_) => granted(0),
+        Err(e) => refused(e),
+    }
+}
+
+impl From<Result<Label, Errno>> for CLabelAnswer {
+    ghost from_gives = { λ r x. x ≡ label_answer (answer_of r) };
+
+    fn from(r: Result<Label, Errno>) -> CLabelAnswer {
+        CLabelAnswer {
+            answer: bare(r),
+            label: r.unwrap_or(label::zero()),
         }
-        Test::Refused(e) => refused(e),
     }
 }
 
-pub fn of_number(n: Number) -> CAnswer
-    ensures { result ≡ number_answer (number_answer_of n) }
-{
-    match n {
-        Number::Value(v) => granted(v),
-        Number::Refused(e) => refused(e),
+impl From<Result<Range, Errno>> for CRangeAnswer {
+    ghost from_gives = { λ r x. x ≡ range_answer (answer_of r) };
+
+    fn from(r: Result<Range, Errno>) -> CRangeAnswer {
+        CRangeAnswer {
+            answer: bare(r),
+            range: r.unwrap_or(range::zero()),
+        }
     }
 }
 
-// The least category at or above a number; where there is none, the number of categories, which is none of them.
-pub fn of_next(n: Next) -> CAnswer
-    ensures { result ≡ numbered next_number (next_answer_of n) }
-{
-    match n {
-        Next::Category(c) => granted(c),
-        Next::Nothing => granted((WORDS * 64) as u64),
-        Next::Refused(e) => refused(e),
+impl From<Result<Tuple, Errno>> for CTupleAnswer {
+    ghost from_gives = { λ r x. x ≡ tuple_answer (answer_of r) };
+
+    fn from(r: Result<Tuple, Errno>) -> CTupleAnswer {
+        CTupleAnswer {
+            answer: bare(r),
+            tuple: r.unwrap_or(tuple::empty()),
+        }
     }
 }
 
-pub fn of_written(w: Written) -> CAnswer
-    ensures { result ≡ number_answer (written_of w) }
-{
-    match w {
-        Written::Length(n) => granted(n as u64),
-        Written::Refused(e) => refused(e),
+impl From<Result<Entry, Errno>> for CEntryAnswer {
+    ghost from_gives = { λ r x. x ≡ entry_answer (answer_of r) };
+
+    fn from(r: Result<Entry, Errno>) -> CEntryAnswer {
+        CEntryAnswer {
+            answer: bare(r),
+            entry: r.map_or(entry::zero(), CEntry::from),
+        }
     }
 }
 
-pub fn of_kind(k: Kind) -> CAnswer
-    ensures { result ≡ number_answer (kind_answer_of k) }
-{
-    match k {
-        Kind::OfLabel => granted(1),
-        Kind::OfRange => granted(2),
-        Kind::OfTuple => granted(3),
-        Kind::OfEntry => granted(4),
-        Kind::Refused(e) => refused(e),
-    }
-}
+impl From<Result<RangeWritten, Errno>> for CRangeWritten {
+    ghost from_gives = { λ r x. x ≡ range_written r };
 
-pub fn of_decision(d: Decision) -> CAnswer
-    ensures { result ≡ number_answer (decision_of d) }
-{
-    match d {
-        Decision::Granted => granted(0),
-        Decision::Privileged => granted(1),
-        Decision::Refused(e) => refused(e),
-    }
-}
-
-// An outcome that answers no number, or the number that stands beside it.
-pub fn of_outcome(o: Outcome, value: u64) -> CAnswer
-    ensures { result ≡ outcome_answer o value }
-{
-    match o {
-        Outcome::Granted => granted(value),
-        Outcome::Refused(e) => refused(e),
-    }
-}
-
-pub fn of_label(o: Outcome, label: Label) -> CLabelAnswer
-    ensures { result ≡ with_label (outcome_answer o 0) label }
-{
-    CLabelAnswer {
-        answer: of_outcome(o, 0),
-        label,
-    }
-}
-
-pub fn of_range(o: Outcome, range: Range) -> CRangeAnswer
-    ensures { result ≡ with_range (outcome_answer o 0) range }
-{
-    CRangeAnswer {
-        answer: of_outcome(o, 0),
-        range,
-    }
-}
-
-pub fn of_tuple(o: Outcome, t: Tuple) -> CTupleAnswer
-    ensures { result ≡ with_tuple (outcome_answer o 0) t }
-{
-    CTupleAnswer {
-        answer: of_outcome(o, 0),
-        tuple: t,
-    }
-}
-
-pub fn of_entry(o: Outcome, e: alias_entry::Entry) -> CEntryAnswer
-    ensures { result ≡ entry_answer (outcome_of o e) }
-{
-    match o {
-        Outcome::Granted => CEntryAnswer {
-            answer: granted(0),
-            entry: entry::encode(e),
-        },
-        Outcome::Refused(x) => CEntryAnswer {
-            answer: refused(x),
-            entry: entry::zero(),
-        },
-    }
-}
-
-pub fn of_range_written(w: text::RangeWritten) -> CRangeWritten
-    ensures { result ≡ range_written w }
-{
-    let written = w.written;
-    CRangeWritten {
-        answer: of_written(written),
-        status: w.status as u64,
+    fn from(r: Result<RangeWritten, Errno>) -> CRangeWritten {
+        match r {
+            Ok(w) => CRangeWritten {
+                answer: granted(w.length as u64),
+                status: w.status as u64,
+            },
+            Err(e) => CRangeWritten {
+                answer: refused(e),
+                status: 0,
+            },
+        }
     }
 }

@@ -1,8 +1,12 @@
 // Who asks, of a text and of the monitor.
 ghost use Rattle.std.specs.Prelude.{◌≡◌};
+ghost use Rattle.common.specs.Answer.{answer_of, granted, require};
 ghost use Rattle.abi.specs.Caller.{caller_formed, caller_of};
 
+use crate::flag;
+use common::errno::Errno;
 use label::Label;
+use label::caller::Caller;
 
 #[repr(C)]
 #[derive(Clone, Copy)]
@@ -11,18 +15,15 @@ pub struct CCaller {
     pub read_override: u64,
 }
 
-pub fn formed(c: CCaller) -> bool
-    ensures { result ≡ caller_formed c }
-{
-    c.read_override <= 1
-}
+impl TryFrom<CCaller> for Caller {
+    type Error = Errno;
 
-pub fn decode(c: CCaller) -> label::caller::Caller
-    ensures { result ≡ caller_of c }
-{
-    let label = c.label;
-    label::caller::Caller {
-        label,
-        read_override: c.read_override == 1,
+    ghost try_from_gives = { λ c r. answer_of r ≡ require (caller_formed c) 22 (granted (caller_of c)) };
+
+    fn try_from(c: CCaller) -> Result<Caller, Errno> {
+        Ok(Caller {
+            label: c.label,
+            read_override: flag::decode(c.read_override)?,
+        })
     }
 }

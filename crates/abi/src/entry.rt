@@ -1,9 +1,11 @@
 // Alias entries: what an entry names is a number of its own, 1 a hierarchy, 2 a category, 3 a label.
 ghost use Rattle.std.specs.Prelude.{◌≡◌};
-ghost use Rattle.alias_entry.specs.Entry.{value_by_class, value_class};
+ghost use Rattle.common.specs.Answer.{answer_of, granted, require};
 ghost use Rattle.abi.specs.Entry.{decoded_of, encoded_of, formed_of, value_number, zero_c_entry};
 
-use alias_entry::{Abbreviation, Name, Value};
+use alias_entry::bytes::value_from;
+use alias_entry::{Abbreviation, Entry, Name, Value};
+use common::errno::Errno;
 use label::Label;
 
 #[repr(C)]
@@ -16,49 +18,27 @@ pub struct CEntry {
     pub abbreviation: Abbreviation,
 }
 
-// Whether an entry names what can be named: a label has no number.
-pub fn formed(e: CEntry) -> bool
-    ensures { result ≡ formed_of e }
-{
-    (e.names == 1) | (e.names == 2) | ((e.names == 3) & (e.number == 0))
-}
+// An entry names what can be named: a label has no number.
+impl TryFrom<CEntry> for Entry {
+    type Error = Errno;
 
-fn value(names: u64, number: u64) -> Value
-    ensures { result ≡ value_by_class names number }
-{
-    if names == 1 {
-        return Value::Hierarchy(number);
-    }
-    if names == 2 {
-        return Value::Category(number);
-    }
-    Value::WholeLabel
-}
+    ghost try_from_gives = { λ e r. answer_of r ≡ require (formed_of e) 22 (granted (decoded_of e)) };
 
-pub fn decode(e: CEntry) -> alias_entry::Entry
-    ensures { result ≡ decoded_of e }
-{
-    let label = e.label;
-    let name = e.name;
-    let abbreviation = e.abbreviation;
-    alias_entry::Entry {
-        value: value(e.names, e.number),
-        label,
-        name,
-        abbreviation,
+    #[tactic(auto, unfolding(crate::specs::Entry::formed_of))]
+    fn try_from(e: CEntry) -> Result<Entry, Errno> {
+        match (e.names, e.number) {
+            (1, _) | (2, _) | (3, 0) => Ok(Entry {
+                value: value_from(e.names, e.number),
+                label: e.label,
+                name: e.name,
+                abbreviation: e.abbreviation,
+            }),
+            _ => Err(Errno::Invalid),
+        }
     }
 }
 
-fn class(v: Value) -> u64
-    ensures { result ≡ value_class v }
-{
-    match v {
-        Value::Hierarchy(_) => 1,
-        Value::Category(_) => 2,
-        Value::WholeLabel => 3,
-    }
-}
-
+// The number of what an entry names.
 fn number(v: Value) -> u64
     ensures { result ≡ value_number v }
 {
@@ -69,19 +49,17 @@ fn number(v: Value) -> u64
     }
 }
 
-pub fn encode(e: alias_entry::Entry) -> CEntry
-    ensures { result ≡ encoded_of e }
-{
-    let v = e.value;
-    let label = e.label;
-    let name = e.name;
-    let abbreviation = e.abbreviation;
-    CEntry {
-        names: class(v),
-        number: number(v),
-        label,
-        name,
-        abbreviation,
+impl From<Entry> for CEntry {
+    ghost from_gives = { λ e r. r ≡ encoded_of e };
+
+    fn from(e: Entry) -> CEntry {
+        CEntry {
+            names: e.value.class() as u64,
+            number: number(e.value),
+            label: e.label,
+            name: e.name,
+            abbreviation: e.abbreviation,
+        }
     }
 }
 
@@ -90,14 +68,11 @@ pub fn zero() -> CEntry
     ensures { result ≡ zero_c_entry }
 {
     let none = alias_entry::zero();
-    let label = none.label;
-    let name = none.name;
-    let abbreviation = none.abbreviation;
     CEntry {
         names: 0,
         number: 0,
-        label,
-        name,
-        abbreviation,
+        label: none.label,
+        name: none.name,
+        abbreviation: none.abbreviation,
     }
 }

@@ -1,12 +1,14 @@
 // What a call on a state hands back.
-ghost use Rattle.std.specs.Prelude.{◌≡◌, ◌<◌};
+ghost use Rattle.std.specs.Prelude.{◌≡◌, ◌<◌, IfOk};
+ghost use Rattle.common.specs.Answer.{answer_of};
 ghost use Rattle.segment_table.specs.Segments.{slot_total};
 ghost use Rattle.segments.specs.Calls.{applied};
-ghost use Rattle.abi.specs.Outcome.{applied_to, handed_back, reply_answer, segment_beside};
+ghost use Rattle.abi.specs.Answer.{numbered};
+ghost use Rattle.abi.specs.Outcome.{applied_to, grant_number, handed_back, outcome, shown_of};
 
 use crate::answer;
-use crate::answer::CAnswer;
-use label::Label;
+use crate::answer::{CAnswer, Numbered};
+use common::errno::Errno;
 use segment_table::state::{with_segment, zero_segment};
 use segment_table::{Reply, Segment, SegmentTable};
 use segments::Change;
@@ -20,29 +22,35 @@ pub struct COutcome {
     pub shown: Segment,
 }
 
-fn reply(r: Reply) -> CAnswer
-    ensures { result ≡ reply_answer r }
-{
-    match r {
-        Reply::Done => answer::granted(0),
-        Reply::Opened(p) => answer::granted(p.0),
-        Reply::Shown(_) => answer::granted(0),
-        Reply::Refused(e) => answer::refused(e),
+// An open answers its slot; the others have no number to answer.
+impl Numbered for Reply {
+    ghost number_of = { grant_number };
+
+    fn number(self) -> u64 {
+        match self {
+            Reply::Opened(p) => p.0,
+            Reply::Done | Reply::Shown(_) => 0,
+        }
     }
 }
 
-fn shown(r: Reply, label: Label) -> Segment
-    ensures { result ≡ segment_beside r label }
+fn shown(r: Result<Reply, Errno>) -> Segment
+    ensures { result ≡ shown_of (answer_of r) }
 {
     match r {
-        Reply::Shown(x) => Segment {
-            label,
-            pages: x.pages,
-            version: x.version,
-        },
-        Reply::Done => zero_segment(),
-        Reply::Opened(_) => zero_segment(),
-        Reply::Refused(_) => zero_segment(),
+        Ok(Reply::Shown(x)) => x,
+        _ => zero_segment(),
+    }
+}
+
+// A state with what is answered.
+fn beside(state: SegmentTable, r: Result<Reply, Errno>) -> COutcome
+    ensures { result ≡ outcome state (numbered grant_number (answer_of r)) (shown_of (answer_of r)) }
+{
+    COutcome {
+        state,
+        answer: answer::of(r),
+        shown: shown(r),
     }
 }
 
@@ -50,34 +58,17 @@ fn shown(r: Reply, label: Label) -> Segment
 pub fn hand_back(o: segment_table::CallOutcome) -> COutcome
     ensures { result ≡ handed_back o }
 {
-    let a = o.answer;
-    let r = a.reply;
-    let state = o.table;
-    COutcome {
-        state,
-        answer: reply(r),
-        shown: shown(r, a.label),
-    }
+    beside(o.table, o.answer)
 }
 
 // What a call hands back that changes the state so; no slot that is not there is changed.
-pub fn apply(state: SegmentTable, change: Change) -> COutcome
+pub fn apply(state: SegmentTable, change: Result<Change, Errno>) -> COutcome
     ensures applied { result ≡ applied_to state change }
-    ensures slot_in_range { change.slot.0 < slot_total → result ≡ handed_back (applied state change) }
+    ensures slot_in_range { IfOk change (λ c. c.slot.0 < slot_total) → result ≡ handed_back (applied state change) }
     ensures handed_back { result ≡ handed_back (applied state change) }
 {
-    let a = change.answer;
-    let r = a.reply;
-    if segment_table::refuses(r) {
-        return COutcome {
-            state,
-            answer: reply(r),
-            shown: shown(r, a.label),
-        };
-    }
-    COutcome {
-        state: with_segment(state, change.slot, change.segment),
-        answer: reply(r),
-        shown: shown(r, a.label),
+    match change {
+        Ok(c) => beside(with_segment(state, c.slot, c.segment), Ok(c.reply)),
+        Err(e) => beside(state, Err(e)),
     }
 }

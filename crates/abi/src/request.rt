@@ -1,9 +1,12 @@
 // What the monitor is asked about: the subject and the object.
 ghost use Rattle.std.specs.Prelude.{◌≡◌};
+ghost use Rattle.common.specs.Answer.{answer_of, granted, require};
 ghost use Rattle.abi.specs.Request.{credentials_formed, credentials_of, object_formed, object_of};
 
+use crate::flag;
+use common::errno::Errno;
 use label::Label;
-use monitor::{Presence, Privileges, numbers};
+use monitor::{Credentials, Object, Presence, Privileges, numbers};
 use range::Range;
 use range::tuple::Tuple;
 
@@ -29,52 +32,42 @@ pub struct CObject {
     pub tuple: Tuple,
 }
 
-pub fn credentials_formed(c: CCredentials) -> bool
-    ensures { result ≡ credentials_formed c }
-{
-    (c.read_override <= 1) & (c.write_override <= 1) & (c.relabel <= 1)
-}
+impl TryFrom<CCredentials> for Credentials {
+    type Error = Errno;
 
-pub fn decode_credentials(c: CCredentials) -> monitor::Credentials
-    ensures { result ≡ credentials_of c }
-{
-    let label = c.label;
-    let range = c.range;
-    monitor::Credentials {
-        label,
-        range,
-        privileges: Privileges {
-            read: c.read_override == 1,
-            write: c.write_override == 1,
-            relabel: c.relabel == 1,
-        },
+    ghost try_from_gives = { λ c r. answer_of r ≡ require (credentials_formed c) 22 (granted (credentials_of c)) };
+
+    fn try_from(c: CCredentials) -> Result<Credentials, Errno> {
+        let privileges = Privileges {
+            read: flag::decode(c.read_override)?,
+            write: flag::decode(c.write_override)?,
+            relabel: flag::decode(c.relabel)?,
+        };
+        Ok(Credentials {
+            label: c.label,
+            range: c.range,
+            privileges,
+        })
     }
 }
 
-// Whether the class, the kind of a file, and the flags are some that there are.
-pub fn object_formed(o: CObject) -> bool
-    ensures { result ≡ object_formed o }
-{
-    let asked = numbers::type_of(o.class, o.kind);
-    asked.named & (o.has_label <= 1) & (o.has_tuple <= 1)
-}
+impl TryFrom<CObject> for Object {
+    type Error = Errno;
 
-pub fn decode_object(o: CObject) -> monitor::Object
-    ensures { result ≡ object_of o }
-{
-    let label = o.label;
-    let tuple = o.tuple;
-    let t = numbers::type_of(o.class, o.kind);
-    let class = t.class;
-    let kind = t.kind;
-    monitor::Object {
-        class,
-        kind,
-        present: Presence {
-            label: o.has_label == 1,
-            tuple: o.has_tuple == 1,
-        },
-        label,
-        tuple,
+    ghost try_from_gives = { λ o r. answer_of r ≡ require (object_formed o) 22 (granted (object_of o)) };
+
+    fn try_from(o: CObject) -> Result<Object, Errno> {
+        let kind_of_object = numbers::type_of(o.class, o.kind).ok_or(Errno::Invalid)?;
+        let present = Presence {
+            label: flag::decode(o.has_label)?,
+            tuple: flag::decode(o.has_tuple)?,
+        };
+        Ok(Object {
+            class: kind_of_object.class,
+            kind: kind_of_object.kind,
+            present,
+            label: o.label,
+            tuple: o.tuple,
+        })
     }
 }

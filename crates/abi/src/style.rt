@@ -1,8 +1,10 @@
 // How a text is written.
 ghost use Rattle.std.specs.Prelude.{◌≡◌};
+ghost use Rattle.common.specs.Answer.{answer_of, granted, require};
 ghost use Rattle.abi.specs.Style.{formed_of, style_of};
 
-use text::numbers;
+use common::errno::Errno;
+use text::{Style, numbers};
 
 // Form: 0 definition, 1 alias. Variant: 0 names, 1 abbreviations.
 #[repr(C)]
@@ -12,16 +14,12 @@ pub struct CStyle {
     pub variant: u64,
 }
 
-pub fn formed(s: CStyle) -> bool
-    ensures { result ≡ formed_of s }
-{
-    let asked = numbers::style_of(s.form, s.variant);
-    asked.named
-}
+impl TryFrom<CStyle> for Style {
+    type Error = Errno;
 
-pub fn decode(s: CStyle) -> text::Style
-    ensures { result ≡ style_of s }
-{
-    let x = numbers::style_of(s.form, s.variant);
-    x.style
+    ghost try_from_gives = { λ s r. answer_of r ≡ require (formed_of s) 22 (granted (style_of s)) };
+
+    fn try_from(s: CStyle) -> Result<Style, Errno> {
+        numbers::style_of(s.form, s.variant).ok_or(Errno::Invalid)
+    }
 }

@@ -1,58 +1,49 @@
 -- The laws of the hashes of names: names that are the same have the same hash.
-use mathlib.Core.Bool.{Bool, true, false, cond, not, ◌&&◌, ◌||◌, true≢false}
-use mathlib.Core.List.{List, ◌∷◌}
+use mathlib.Core.Bool.{Bool, true, false, cond, ◌&&◌, ◌||◌, true≢false}
+use mathlib.Core.List.{List, [], ◌∷◌}
 use mathlib.Core.Logic.{⊎_elim}
-use mathlib.Core.Option.{none}
-use mathlib.Core.Path.{◌≡◌, refl, sym, ap, ◌∙◌}
-use Prim.Native.Nat.{ℕ, ◌+◌, ◌/◌, ◌%◌, ◌^◌, ◌≤◌, ◌<◌}
+use Rattle.std.specs.List.{fold, list_any, zip}
+use Rattle.std.proofs.lemmas.Slice.Zip.{get_or-zip, length-zip}
+use Rattle.std.specs.Option.{IfSome, is_some}
+use Rattle.std.specs.Prelude.{Option, None, Some}
+use mathlib.Core.Path.{◌≡◌, refl, sym, ap, ◌∙◌, subst}
+use Prim.Native.Nat.{ℕ, ◌+◌, ◌/◌, ◌%◌, ◌^◌, ◌<◌}
 use native.Mathlib.Nat.{add-zero, one-mul, zero-add}
-use native.Mathlib.Numerals.{add-one}
 use native.Mathlib.Omega.{arith}
 use lib.Bits.{bit_or}
 use lib.Dec.{eqb, leb}
-use lib.ListN.{drop, get_or, length, set, take, drop_of_length-le, length-set}
+use lib.ListN.{get_or, length, set, take, length-set}
 use lib.Pow.{shl-shr}
-use lib.Seq.{drop-cons, get_or-set_other, get_or-set_same, get_or-take}
+use lib.Seq.{get_or-set_other, get_or-set_same, get_or-take, length-take-le}
 use borrow.Author.Count.{below_more}
 use borrow.Author.Tests.{eq-eqb, eqb-true, leb-false, lt-leb}
-use Rattle.common.specs.Index.{some_below, every, first_from, tabulate}
+use Rattle.common.specs.Index.{some_below, first_from, tabulate}
 use Rattle.label.specs.Words.{bit}
 use Rattle.label.proofs.BitLaws.{bit_or_lem}
 use Rattle.common.proofs.BoolLaws.{both, either, first_true, neither, not_so, or_first, or_second, second_true}
-use Rattle.common.proofs.IndexLaws.{Filled, every_all, fill_next, fill_none, tabulate_at, tabulate_same}
+use Rattle.common.proofs.IndexLaws.{fill_next, tabulate_at, tabulate_same}
 use Rattle.common.proofs.SearchLaws.{none_of, pass, same_or_not}
 use Rattle.octets.specs.Bytes.{same_bytes}
 use Rattle.octets.proofs.ByteLaws.{same_is}
 use Rattle.alias_entry.specs.Entry.{abbreviation_bytes, name_bytes}
 use Rattle.alias_entry.specs.declared.Entry.{Entry}
-use Rattle.alias.specs.Internal.Hash.{Hashes, HashesKept, HashesOf, Filtered, NoneCollide, NoneWithin, folded_hash, in_filter, hash_from, hash_of, hashed_count, filter_words, with_hash, collide, collide_at, collides_before, name_hash, next_hash, other_bytes, other_hash, repeats_within}
+use Rattle.alias.specs.declared.filter.Filter.{Filter}
+use Rattle.alias.specs.declared.hash.Hashes.{Hashes}
+use Rattle.alias.specs.declared.hash.LineHashes.{LineHashes}
+use Rattle.alias.specs.Internal.Hash.{HashesKept, HashesOf, Filtered, NoneCollide, in_filter, hash_from, hash_of, hashed_count, filter_words, with_hash, collide, collide_at, collides_before, name_hash, next_hash, other_bytes, other_hash, repeats_within}
 use Rattle.alias.specs.Lines.{entry_at, max_lines}
 use Rattle.alias.specs.Lookup.{called_of}
 use Rattle.alias.specs.Table.{repeats_at, shares_of}
 use Rattle.alias.specs.Internal.Walk.{first_repeat}
 use Rattle.alias.proofs.LookupLaws.{shares_at}
+use Rattle.alias.proofs.ChainLaws.{some_element, some_none}
 
--- ---- the hash of bytes, from the front
+-- ---- the hash of bytes
 
--- the first i bytes have that hash
-pub record HashSoFar (xs : List ℕ) (hash i : ℕ) : Type 0 where
-  pub within : i ≤ length xs
-  pub rest : hash_of xs ≡ folded_hash (hash_from hash (drop i xs))
-
-module _ (xs : List ℕ) where
-  pub hash_start : HashSoFar xs (length xs) 0
-  unfolding hash_of
-  hash_start = record { within = omega arith; rest = refl }
-
-  pub hash_next : {hash i x : ℕ} → HashSoFar xs hash i → i < length xs → x ≡ get_or xs i 0 → HashSoFar xs (next_hash hash x) (i + 1)
-  unfolding hash_from
-  hash_next {hash} {i} {x} h l e =
-      let r : drop i xs ≡ x ∷ drop (i + 1) xs = rw (drop-cons xs i 0 l, e, add-one) in
-      record { within = omega arith; rest = h.rest ∙ ap (λ (ys : List ℕ). folded_hash (hash_from hash ys)) r }
-
-  pub hash_end : {hash i : ℕ} → HashSoFar xs hash i → length xs ≤ i → folded_hash hash ≡ hash_of xs
-  unfolding hash_from
-  hash_end {hash} {i} h l = sym (h.rest ∙ ap (λ (ys : List ℕ). folded_hash (hash_from hash ys)) (drop_of_length-le xs l))
+pub hash_folded : (hash : ℕ) (xs : List ℕ) → fold next_hash hash xs ≡ hash_from hash xs
+unfolding hash_from
+hash_folded hash [] = refl
+hash_folded hash (x ∷ xs) = hash_folded (next_hash hash x) xs
 
 -- ---- an entry's other name
 
@@ -90,104 +81,91 @@ module _ (e : Entry) {n a : List ℕ} (p : n ≡ name_bytes e) (q : a ≡ abbrev
   other_by true = ap hash_of (sym q)
   other_by false = ap hash_of (sym p)
 
-  pub hashes_of : {name other : ℕ} {unclear : Bool} → name ≡ hash_of n → other ≡ cond (leb 1 (length a)) (hash_of a) name → unclear ≡ (eqb (length n) (length a) && eqb name other)
-      → HashesOf e name other unclear
+  pub hashes_of : {h : LineHashes} → h.name ≡ hash_of n → h.other ≡ cond (leb 1 (length a)) (hash_of a) h.name → h.unclear ≡ (eqb (length n) (length a) && eqb h.name h.other) → HashesOf e h
   unfolding other_bytes
-  hashes_of {name} {other} {unclear} f g h =
+  hashes_of {h = l} f g h =
       record {
         name_is = f ∙ ap hash_of p;
         other_is = other_is;
         within = λ u. not_so (repeats_within e) (λ s. true≢false (sym (opens (same_is (name_bytes e) (abbreviation_bytes e) s)) ∙ sym h ∙ u));
       }
     where
-      other_is : other ≡ hash_of (other_bytes e)
+      other_is : l.other ≡ hash_of (other_bytes e)
       other_is = g ∙ ap (λ (k : ℕ). cond (leb 1 (length a)) (hash_of a) k) f ∙ sym (other_by (leb 1 (length a))) ∙ ap (λ (xs : List ℕ). hash_of (cond (leb 1 (length xs)) (abbreviation_bytes e) (name_bytes e))) q
 
       same : name_bytes e ≡ abbreviation_bytes e → (b : Bool) → cond b (abbreviation_bytes e) (name_bytes e) ≡ name_bytes e
       same s true = sym s
       same s false = refl
 
-      opens : name_bytes e ≡ abbreviation_bytes e → (eqb (length n) (length a) && eqb name other) ≡ true
+      opens : name_bytes e ≡ abbreviation_bytes e → (eqb (length n) (length a) && eqb l.name l.other) ≡ true
       opens s =
           both (eq-eqb (length n) (length a) (ap length (p ∙ s ∙ sym q)))
-          (eq-eqb name other (f ∙ ap hash_of (p ∙ sym (same s (leb 1 (length (abbreviation_bytes e))))) ∙ sym other_is))
+          (eq-eqb l.name l.other (f ∙ ap hash_of (p ∙ sym (same s (leb 1 (length (abbreviation_bytes e))))) ∙ sym other_is))
 
--- ---- a loop that asks whether f holds at some number
-
-module _ (f : ℕ → Bool) where
-  some_none : (n : ℕ) → ((i : ℕ) → i < n → f i ≡ false) → some_below f n ≡ false
-  some_none n h = ap not (every_all (λ i. not (f i)) n (λ i l. ap not (h i l)))
-
-  pub some_start : false ≡ some_below f 0
-  unfolding every
-  some_start = refl
-
-  pub some_next : (n : ℕ) → (some_below f n || f n) ≡ some_below f (n + 1)
-  unfolding every
-  some_next n = rw add-one (pick (every (λ i. not (f i)) n) (f n))
-    where
-      pick : (p q : Bool) → (not p || q) ≡ not (p && not q)
-      pick true true = refl
-      pick true false = refl
-      pick false q = refl
+-- the hashes of what is an entry only where there are hashes
+pub hashes_if : {e f : Entry} (o : Option LineHashes) → (is_some o ≡ true → e ≡ f) → IfSome o (λ h. HashesOf e h) → IfSome o (λ h. HashesOf f h)
+hashes_if None h x = tt
+hashes_if (Some l) h x = subst (λ (e : Entry). HashesOf e l) (h refl) x
 
 -- ---- the lists of hashes
 
--- a loop that keeps the hashes of entries has those of the first k
-pub record Keeping (es : List Entry) (names others : List ℕ) (unclear : Bool) (k : ℕ) : Type 0 where
-  pub name : Filled (name_hash es) max_lines names k
-  pub other : Filled (other_hash es) max_lines others k
-  pub within : unclear ≡ false → NoneWithin es k
+pub keep_none : (es : List Entry) (h : Hashes) → HashesKept es 0 h
+unfolding tabulate
+keep_none es h = record { name = refl; other = refl; within = λ u k l. absurd (omega arith) }
 
-pub keep_start : (es : List Entry) (names others : List ℕ) → length names ≡ max_lines → length others ≡ max_lines → Keeping es names others false 0
-keep_start es names others e f = record { name = fill_none e; other = fill_none f; within = λ u k l. absurd (omega arith) }
-
-pub keep_next : {es : List Entry} {names others : List ℕ} {unclear : Bool} {k x y : ℕ} {v : Bool} → Keeping es names others unclear k → k < max_lines
-    → HashesOf (entry_at es k) x y v → Keeping es (set names k x) (set others k y) (unclear || v) (k + 1)
-keep_next {unclear = unclear} {v = v} h l e =
+pub keep_one : {es : List Entry} {h : Hashes} {k : ℕ} {l : LineHashes} → length h.names ≡ max_lines → length h.others ≡ max_lines → k < max_lines → HashesKept es k h → HashesOf (entry_at es k) l
+    → HashesKept es (k + 1) (record { names = set h.names k l.name; others = set h.others k l.other; unclear = h.unclear || l.unclear })
+keep_one {es} {h} {k} {l} m n b x e =
     record {
-      name = fill_next h.name l e.name_is;
-      other = fill_next h.other l e.other_is;
-      within = λ u. let d = neither unclear v u in below_more _ _ (h.within d.0) (e.within d.1);
+      name = (fill_next (record { upto = omega arith; long = m; front = x.name }) b e.name_is).front;
+      other = (fill_next (record { upto = omega arith; long = n; front = x.other }) b e.other_is).front;
+      within = λ u. let d = neither h.unclear l.unclear u in below_more _ _ (x.within d.0) (e.within d.1);
     }
-
-pub keep_end : {es : List Entry} {names others : List ℕ} {unclear : Bool} {k : ℕ} → Keeping es names others unclear k → HashesKept es k names others unclear
-keep_end h = record { hashes = record { name = h.name.front; other = h.other.front }; within = h.within }
 
 -- they are those of other entries that are the same up to there
-pub kept_same : (es fs : List Entry) (n : ℕ) {names others : List ℕ} {unclear : Bool} → ((k : ℕ) → k < n → entry_at es k ≡ entry_at fs k) → HashesKept es n names others unclear
-    → HashesKept fs n names others unclear
+pub kept_same : (es fs : List Entry) (n : ℕ) {t : Hashes} → ((k : ℕ) → k < n → entry_at es k ≡ entry_at fs k) → HashesKept es n t → HashesKept fs n t
 kept_same es fs n h x =
     record {
-      hashes = record {
-        name = x.hashes.name ∙ tabulate_same (name_hash es) (name_hash fs) n (λ k l. ap (λ (e : Entry). hash_of (name_bytes e)) (h k l));
-        other = x.hashes.other ∙ tabulate_same (other_hash es) (other_hash fs) n (λ k l. ap (λ (e : Entry). hash_of (other_bytes e)) (h k l));
-      };
+      name = x.name ∙ tabulate_same (name_hash es) (name_hash fs) n (λ k l. ap (λ (e : Entry). hash_of (name_bytes e)) (h k l));
+      other = x.other ∙ tabulate_same (other_hash es) (other_hash fs) n (λ k l. ap (λ (e : Entry). hash_of (other_bytes e)) (h k l));
       within = λ u k l. ap repeats_within (sym (h k l)) ∙ x.within u k l;
     }
+
+-- the pairs of hashes of the entries before entry k
+pub some_pair : (h : Hashes) (k : ℕ) → length h.names ≡ max_lines → length h.others ≡ max_lines → k < max_lines
+    → list_any (λ (p : ℕ × ℕ). collide p.0 p.1 (get_or h.names k 0) (get_or h.others k 0)) (zip (take k h.names) (take k h.others)) ≡ some_below (collide_at h k) k
+some_pair h k m n l =
+    let c = get_or h.names k 0 in
+    let d = get_or h.others k 0 in
+    let e = length-take-le k h.names (omega arith) in
+    let f = length-take-le k h.others (omega arith) in
+    let z = length-zip (take k h.names) (take k h.others) in
+    some_element (λ (p : ℕ × ℕ). collide p.0 p.1 c d) (collide_at h k) (zip (take k h.names) (take k h.others)) k (0, 0) (omega arith)
+    (λ i a. ap (λ (p : ℕ × ℕ). collide p.0 p.1 c d) (get_or-zip (take k h.names) (take k h.others) i (0, 0) (omega arith) (omega arith))
+    ∙ ap (λ (x : ℕ). collide x (get_or (take k h.others) i 0) c d) (get_or-take k h.names i 0 a) ∙ ap (λ (x : ℕ). collide (get_or h.names i 0) x c d) (get_or-take k h.others i 0 a))
 
 -- a hash in a list of hashes
 hash_at : (f : ℕ → ℕ) (n k : ℕ) (xs : List ℕ) → take n xs ≡ tabulate f n → k < n → get_or xs k 0 ≡ f k
 hash_at f n k xs e h = sym (get_or-take n xs k 0 h) ∙ ap (λ (ys : List ℕ). get_or ys k 0) e ∙ tabulate_at f n k 0 h
 
-module _ {es : List Entry} (n : ℕ) {names others : List ℕ} (h : Hashes es (hashed_count n) names others) (k : ℕ) (l : k < n) where
-  meeting : (j : ℕ) → j < k → k < max_lines → shares_at es k j ≡ true → collide_at names others k j ≡ true
+module _ {es : List Entry} (n : ℕ) {t : Hashes} (h : HashesKept es (hashed_count n) t) (k : ℕ) (l : k < n) where
+  meeting : (j : ℕ) → j < k → k < max_lines → shares_at es k j ≡ true → collide_at t k j ≡ true
   meeting j m f e =
       rw (
-        hash_at (name_hash es) (hashed_count n) j names h.name (omega arith),
-        hash_at (other_hash es) (hashed_count n) j others h.other (omega arith),
-        hash_at (name_hash es) (hashed_count n) k names h.name (omega arith),
-        hash_at (other_hash es) (hashed_count n) k others h.other (omega arith),
+        hash_at (name_hash es) (hashed_count n) j t.names h.name (omega arith),
+        hash_at (other_hash es) (hashed_count n) j t.others h.other (omega arith),
+        hash_at (name_hash es) (hashed_count n) k t.names h.name (omega arith),
+        hash_at (other_hash es) (hashed_count n) k t.others h.other (omega arith),
       )
       (shared_hashes (entry_at es j) (entry_at es k) e)
 
   -- an entry that may have no name in common with an earlier one, by its hashes, has none
-  pub no_collision : collides_before names others k ≡ false → some_below (shares_at es k) k ≡ false
+  pub no_collision : collides_before t k ≡ false → some_below (shares_at es k) k ≡ false
   unfolding collides_before
   no_collision e =
       let d = neither (leb max_lines k) _ e in
       let f = leb-false max_lines k d.0 in
-      some_none (shares_at es k) k (λ j m. not_so (shares_at es k j) (λ s. true≢false (sym (meeting j m f s) ∙ none_of (collide_at names others k) k j d.1 m)))
+      some_none (shares_at es k) k (λ j m. not_so (shares_at es k j) (λ s. true≢false (sym (meeting j m f s) ∙ none_of (collide_at t k) k j d.1 m)))
 
 -- ---- marks
 
@@ -195,10 +173,10 @@ power_bit : (s : ℕ) → bit (2 ^ s) s ≡ true
 unfolding bit
 power_bit s = ap (λ (z : ℕ). eqb (z % 2) 1) (ap (λ (z : ℕ). z / 2 ^ s) (sym (one-mul (2 ^ s))) ∙ shl-shr 1 s)
 
-module _ (filter : List ℕ) (size : length filter ≡ filter_words) where
+module _ (f : Filter) (size : length f.words ≡ filter_words) where
   -- a bit stays set
-  filter_kept : (hash other : ℕ) → in_filter filter hash ≡ true → in_filter (with_hash filter other) hash ≡ true
-  filter_kept hash other h = ⊎_elim same (λ u. ap (λ (w : ℕ). bit w (hash % 64)) (get_or-set_other filter j i (bit_or x y) 0 u) ∙ h) (same_or_not i j)
+  filter_kept : (hash other : ℕ) → in_filter f hash ≡ true → in_filter (with_hash f other) hash ≡ true
+  filter_kept hash other h = ⊎_elim same (λ u. ap (λ (w : ℕ). bit w (hash % 64)) (get_or-set_other f.words j i (bit_or x y) 0 u) ∙ h) (same_or_not i j)
     where
       i : ℕ
       i = hash / 64 % filter_words
@@ -207,79 +185,73 @@ module _ (filter : List ℕ) (size : length filter ≡ filter_words) where
       j = other / 64 % filter_words
 
       x : ℕ
-      x = get_or filter j 0
+      x = get_or f.words j 0
 
       y : ℕ
       y = 2 ^ (other % 64)
 
-      same : i ≡ j → bit (get_or (set filter j (bit_or x y)) i 0) (hash % 64) ≡ true
+      same : i ≡ j → bit (get_or (set f.words j (bit_or x y)) i 0) (hash % 64) ≡ true
       same u =
-          ap (λ (n : ℕ). bit (get_or (set filter j (bit_or x y)) n 0) (hash % 64)) u ∙ ap (λ (w : ℕ). bit w (hash % 64)) (get_or-set_same filter j (bit_or x y) 0 (omega (arith, size)))
-          ∙ bit_or_lem x y (hash % 64) ∙ or_first (bit y (hash % 64)) (ap (λ (n : ℕ). bit (get_or filter n 0) (hash % 64)) (sym u) ∙ h)
+          ap (λ (n : ℕ). bit (get_or (set f.words j (bit_or x y)) n 0) (hash % 64)) u ∙ ap (λ (w : ℕ). bit w (hash % 64)) (get_or-set_same f.words j (bit_or x y) 0 (omega (arith, size)))
+          ∙ bit_or_lem x y (hash % 64) ∙ or_first (bit y (hash % 64)) (ap (λ (n : ℕ). bit (get_or f.words n 0) (hash % 64)) (sym u) ∙ h)
 
-  filter_set : (hash : ℕ) → in_filter (with_hash filter hash) hash ≡ true
+  filter_set : (hash : ℕ) → in_filter (with_hash f hash) hash ≡ true
   filter_set hash =
       let i = hash / 64 % filter_words in
-      let x = get_or filter i 0 in
+      let x = get_or f.words i 0 in
       let y = 2 ^ (hash % 64) in
-      ap (λ (w : ℕ). bit w (hash % 64)) (get_or-set_same filter i (bit_or x y) 0 (omega (arith, size))) ∙ bit_or_lem x y (hash % 64) ∙ or_second (bit x (hash % 64)) (power_bit (hash % 64))
+      ap (λ (w : ℕ). bit w (hash % 64)) (get_or-set_same f.words i (bit_or x y) 0 (omega (arith, size))) ∙ bit_or_lem x y (hash % 64) ∙ or_second (bit x (hash % 64)) (power_bit (hash % 64))
 
-  filter_size : (hash : ℕ) → length (with_hash filter hash) ≡ filter_words
-  filter_size hash = length-set filter (hash / 64 % filter_words) _ ∙ size
+  filter_size : (hash : ℕ) → length (with_hash f hash).words ≡ filter_words
+  filter_size hash = length-set f.words (hash / 64 % filter_words) _ ∙ size
 
-pub filter_none : (names others filter : List ℕ) → length filter ≡ filter_words → Filtered names others 0 filter
-filter_none names others filter e = record { size = e; name = λ j l. absurd (omega arith); other = λ j l. absurd (omega arith) }
-
-module _ {names others filter : List ℕ} {k : ℕ} (h : Filtered names others k filter) where
-  filter_both : Filtered names others (k + 1) (with_hash (with_hash filter (get_or names k 0)) (get_or others k 0))
+module _ {t : Hashes} {f : Filter} {k : ℕ} (h : Filtered t k f) where
+  filter_both : Filtered t (k + 1) (with_hash (with_hash f (get_or t.names k 0)) (get_or t.others k 0))
   filter_both =
       record {
-        size = filter_size first size (get_or others k 0);
-        name = below_more _ _ (λ j l. kept (get_or names j 0) (h.name j l)) (filter_kept first size (get_or names k 0) (get_or others k 0) (filter_set filter h.size (get_or names k 0)));
-        other = below_more _ _ (λ j l. kept (get_or others j 0) (h.other j l)) (filter_set first size (get_or others k 0));
+        size = filter_size first size (get_or t.others k 0);
+        name = below_more _ _ (λ j l. kept (get_or t.names j 0) (h.name j l)) (filter_kept first size (get_or t.names k 0) (get_or t.others k 0) (filter_set f h.size (get_or t.names k 0)));
+        other = below_more _ _ (λ j l. kept (get_or t.others j 0) (h.other j l)) (filter_set first size (get_or t.others k 0));
       }
     where
-      first : List ℕ
-      first = with_hash filter (get_or names k 0)
+      first : Filter
+      first = with_hash f (get_or t.names k 0)
 
-      size : length first ≡ filter_words
-      size = filter_size filter h.size (get_or names k 0)
+      size : length first.words ≡ filter_words
+      size = filter_size f h.size (get_or t.names k 0)
 
-      kept : (hash : ℕ) → in_filter filter hash ≡ true → in_filter (with_hash first (get_or others k 0)) hash ≡ true
-      kept hash m = filter_kept first size hash (get_or others k 0) (filter_kept filter h.size hash (get_or names k 0) m)
+      kept : (hash : ℕ) → in_filter f hash ≡ true → in_filter (with_hash first (get_or t.others k 0)) hash ≡ true
+      kept hash m = filter_kept first size hash (get_or t.others k 0) (filter_kept f h.size hash (get_or t.names k 0) m)
 
-  pub filter_next : {first second : List ℕ} → first ≡ with_hash filter (get_or names k 0) → second ≡ with_hash first (get_or others k 0) → Filtered names others (k + 1) second
-  filter_next e f = rw (f, e) filter_both
+  pub filter_next : {first second : Filter} → first ≡ with_hash f (get_or t.names k 0) → second ≡ with_hash first (get_or t.others k 0) → Filtered t (k + 1) second
+  filter_next e g = rw (g, e) filter_both
 
   -- a hash whose bit is not set is none of the earlier ones
-  apart : (hash c : ℕ) → in_filter filter hash ≡ true → in_filter filter c ≡ false → eqb hash c ≡ false
-  apart hash c m z = not_so (eqb hash c) (λ e. true≢false (sym m ∙ ap (in_filter filter) (eqb-true hash c e) ∙ z))
+  apart : (hash c : ℕ) → in_filter f hash ≡ true → in_filter f c ≡ false → eqb hash c ≡ false
+  apart hash c m z = not_so (eqb hash c) (λ e. true≢false (sym m ∙ ap (in_filter f) (eqb-true hash c e) ∙ z))
 
-  pub not_in_filter : k < max_lines → (in_filter filter (get_or names k 0) || in_filter filter (get_or others k 0)) ≡ false → collides_before names others k ≡ false
+  pub not_in_filter : k < max_lines → in_filter f (get_or t.names k 0) ≡ false → in_filter f (get_or t.others k 0) ≡ false → collides_before t k ≡ false
   unfolding collides_before
-  not_in_filter l e =
-      let d = neither (in_filter filter (get_or names k 0)) (in_filter filter (get_or others k 0)) e in
+  not_in_filter l d e =
       rw (lt-leb max_lines k l)
-      (some_none (collide_at names others k) k
-      (λ j m. rw (apart _ _ (h.name j m) d.0, apart _ _ (h.other j m) d.0, apart _ _ (h.name j m) d.1, apart _ _ (h.other j m) d.1)))
+      (some_none (collide_at t k) k
+      (λ j m. rw (apart _ _ (h.name j m) d, apart _ _ (h.other j m) d, apart _ _ (h.name j m) e, apart _ _ (h.other j m) e)))
 
--- such a loop over n entries has the hashes of the first k in the filter, and none of these collides with an earlier one
-pub record Filtering (names others : List ℕ) (n : ℕ) (filter : List ℕ) (k : ℕ) : Type 0 where
-  pub upto : k ≤ n
-  pub hashes : Filtered names others k filter
-  pub clear : NoneCollide names others k
+-- a loop over n entries has the hashes of the first k in the filter, and none of these collides with an earlier one
+pub record Filtering (t : Hashes) (f : Filter) (k : ℕ) : Type 0 where
+  pub hashes : Filtered t k f
+  pub clear : NoneCollide t k
 
 -- ---- where the hashes leave nothing open, no entry repeats a name
 
-collides_small : (names others : List ℕ) (k : ℕ) → collides_before names others k ≡ false → k < max_lines
+collides_small : (t : Hashes) (k : ℕ) → collides_before t k ≡ false → k < max_lines
 unfolding collides_before
-collides_small names others k e = leb-false max_lines k (neither (leb max_lines k) _ e).0
+collides_small t k e = leb-false max_lines k (neither (leb max_lines k) _ e).0
 
-pub none_collide : (es : List Entry) (n : ℕ) {names others : List ℕ} {unclear : Bool} → length es ≡ n → HashesKept es (hashed_count n) names others unclear → unclear ≡ false → NoneCollide names others n
-    → none ≡ first_repeat es
+pub none_collide : (es : List Entry) (n : ℕ) {t : Hashes} → length es ≡ n → HashesKept es (hashed_count n) t → t.unclear ≡ false → NoneCollide t n → None ≡ first_repeat es
 unfolding first_repeat repeats_at first_from
-none_collide es n {names} {others} e h u m =
+none_collide es n {t} e h u m =
     sym (ap (first_from (repeats_at es) 0) e ∙ ap (first_from (repeats_at es) 0) (sym (add-zero n)) ∙ pass (repeats_at es) 0 n 0 (λ j l. ap (repeats_at es) (zero-add j) ∙ clear j l))
   where
     clear : (k : ℕ) → k < n → repeats_at es k ≡ false
-    clear k l = let f = collides_small names others k (m k l) in rw (h.within u k (omega arith)) (no_collision n h.hashes k l (m k l))
+    clear k l = let f = collides_small t k (m k l) in rw (h.within u k (omega arith)) (no_collision n h k l (m k l))

@@ -1,3 +1,4 @@
+pub mod ChainLaws
 pub mod HashLaws
 pub mod LinesLaws
 pub mod LookupLaws

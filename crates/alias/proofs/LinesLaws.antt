@@ -1,18 +1,96 @@
 -- The laws of the starts of lines: that cutting by them gives the lines back.
-use mathlib.Core.List.{List, []}
+use mathlib.Core.Bool.{Bool, true, false}
+use mathlib.Core.List.{List, [], ◌∷◌}
 use mathlib.Core.Logic.{⊎_elim}
-use mathlib.Core.Path.{◌≡◌, refl, sym, ◌∙◌}
-use Prim.Native.Nat.{ℕ, zero, suc, ◌+◌, ◌-◌, ◌≤◌, ◌<◌}
+use mathlib.Core.Path.{◌≡◌, refl, sym, ap, ◌∙◌, subst}
+use Prim.Native.Nat.{ℕ, zero, suc, ◌+◌, ◌-◌, ◌*◌, ◌/◌, ◌≤◌, ◌<◌}
 use native.Mathlib.Omega.{arith}
-use lib.ListN.{get_or, length, replicate, set, take, length-set, length-take}
-use lib.Seq.{get_or-set_other, get_or-set_same, get_or-take, length-take-le, take-length}
-use borrow.Author.Tests.{le-leb, lt-leb}
-use Rattle.common.proofs.IndexLaws.{le_or_lt, tabulate_at, tabulate_is, tabulate_length, tabulate_one}
+use lib.ListN.{drop, get_or, length, set, take, length-append, length-set, length-take}
+use lib.Seq.{drop-append_seam, drop-drop, get_or-set_other, get_or-set_same, get_or-take, length-take-le, take-length}
+use borrow.Author.Tests.{eqb-false, le-leb, lt-leb}
+use Rattle.common.proofs.IndexLaws.{le_or_lt, tabulate_at, tabulate_is, tabulate_length, tabulate_same}
 use Rattle.common.proofs.SearchLaws.{same_or_not}
+use denote.Param.Members.{Mut, Called}
+use denote.Ref.{Bor}
+use lib.Dec.{eqb}
+use Rattle.std.specs.Iterator.{FindsPosition, Yields}
+use Rattle.std.specs.Option.{MatchOption, unwrap_or}
+use Rattle.std.specs.Prelude.{Option, None, Some}
+use Rattle.std.specs.Slice.Iter.{chunks_exact_rest, chunks_exact_size, chunks_exact_steps}
+use Rattle.std.specs.declared.slice.ChunksExact.{ChunksExact}
+use Rattle.std.specs.List.{FoldsTo}
+use Rattle.std.specs.List.{list_any}
+use Rattle.common.proofs.BoolLaws.{neither}
+use Rattle.octets.specs.Bytes.{index_of, lf}
+use Rattle.octets.proofs.ByteLaws.{Without, index_append, index_without, without_cons}
 use Rattle.octets.specs.Lines.{bytes_before, line_at, lines_of}
 use Rattle.octets.specs.Internal.Lines.{line_end}
 use Rattle.octets.proofs.LineLaws.{before_take, line_here, lines_end}
+use Rattle.alias.specs.Internal.Walk.{no_lines}
 use Rattle.alias.specs.Lines.{indexed_of, line_start, lines_by, max_lines, part_at}
+
+-- ---- bytes among which there is no LF
+
+pub none_met : (xs : List ℕ) → list_any (λ x. eqb x lf) xs ≡ false → index_of lf xs ≡ length xs
+none_met xs h = index_without lf xs (without xs h)
+  where
+    without : (ys : List ℕ) → list_any (λ x. eqb x lf) ys ≡ false → Without lf ys
+    without [] h = λ k l e. absurd (omega arith)
+    without (y ∷ ys) h = let d = neither (eqb y lf) (list_any (λ x. eqb x lf) ys) h in without_cons lf y ys (eqb-false y lf d.0) (without ys d.1)
+
+-- ---- a search of chunks of bytes for one that has an LF
+
+-- there is no LF before an index
+abbrev pub Skipped : List ℕ → ℕ → Type 0
+Skipped bytes i = (i ≤ length bytes) × (index_of lf bytes ≡ i + index_of lf (drop i bytes))
+
+module _ {F : Type 0} {g : Mut F (Bor (List ℕ) × Unit {0}) Bool} (t : F) (h : (x : Bor (List ℕ)) (q : F) → Called g t (x, tt) false q → (q ≡ t) × (index_of lf x.now ≡ length x.now)) where
+  -- from s on, the search passed over n chunks, and went on to w
+  record Passed (s w : ChunksExact ℕ) (n : ℕ) : Type 0 where
+    size : chunks_exact_size w ≡ 16
+    long : n * 16 + length (chunks_exact_rest w) ≡ length (chunks_exact_rest s)
+    rest : chunks_exact_rest w ≡ drop (n * 16) (chunks_exact_rest s)
+    later : index_of lf (chunks_exact_rest s) ≡ n * 16 + index_of lf (chunks_exact_rest w)
+
+  passed : (xs : List (Bor (List ℕ))) (s w : ChunksExact ℕ) (p j : F) → p ≡ t → chunks_exact_size s ≡ 16 → Yields chunks_exact_steps s xs w → FoldsTo (λ p x q. Called g p (x, tt) false q) p xs j
+      → Passed s w (length xs)
+  passed [] s w p j e z y l =
+      let a = ap chunks_exact_rest y in
+      record { size = sym (ap chunks_exact_size y) ∙ z; long = omega (arith, ap length a); rest = sym a; later = ap (index_of lf) a ∙ omega arith }
+  passed (x ∷ xs) s w p j e z y l =
+      let b = h x l.0 (subst (λ (q : F). Called g q (x, tt) false l.0) e l.1) in
+      let r = passed xs y.0 w l.0 j b.0 (y.1.0 ∙ z) y.2 l.2 in
+      let k : length x.now ≡ 16 = y.1.1.1 ∙ z in
+      let m : length (chunks_exact_rest s) ≡ 16 + length (chunks_exact_rest y.0) = ap length y.1.1.0 ∙ length-append x.now (chunks_exact_rest y.0) ∙ omega arith in
+      let u = r.long in
+      let v = r.later in
+      record {
+        size = r.size;
+        long = omega arith;
+        rest = r.rest ∙ ap (drop (length xs * 16)) (sym (rw (y.1.1.0, ← k) (drop-append_seam x.now (chunks_exact_rest y.0)))) ∙ drop-drop (length xs * 16) 16 (chunks_exact_rest s) ∙ ap (λ (i : ℕ). drop i (chunks_exact_rest s)) (omega arith);
+        later = ap (index_of lf) y.1.1.0 ∙ index_append lf x.now (chunks_exact_rest y.0) b.1 ∙ omega arith;
+      }
+
+  pub chunks_skipped : (s u : ChunksExact ℕ) (r : Option ℕ) → chunks_exact_size s ≡ 16 → FindsPosition chunks_exact_steps g s t r u
+      → Skipped (chunks_exact_rest s) (unwrap_or r (length (chunks_exact_rest s) / 16) * 16)
+  chunks_skipped s u r z d = told d.1 r (passed d.0 s w t d.2 refl z d.3.1 d.4) d.3.2 d.5
+    where
+      w : ChunksExact ℕ
+      w = d.3.0
+
+      m : ℕ
+      m = length d.0
+
+      n : ℕ
+      n = length (chunks_exact_rest s) / 16
+
+      skipped : Passed s w m → Skipped (chunks_exact_rest s) (m * 16)
+      skipped p = (omega (arith, p.long), p.later ∙ ap (λ (ys : List ℕ). m * 16 + index_of lf ys) p.rest)
+
+      told : (o : Option (Bor (List ℕ))) (r : Option ℕ) → Passed s w m → chunks_exact_steps w o u → MatchOption o (r ≡ None) (λ x. (r ≡ Some m) × ((q : F) × Called g d.2 (x, tt) true q))
+          → Skipped (chunks_exact_rest s) (unwrap_or r n * 16)
+      told None r p l k = let a : n ≡ m = omega (arith, l.1.0, p.size, p.long) in rw (k, a) (skipped p)
+      told (Some x) r p l k = rw k.0 (skipped p)
 
 -- ---- the starts of lines
 
@@ -28,9 +106,9 @@ start_out ls k h = rw (lt-leb k (length ls) h)
 start_of_first : (ls : List (List ℕ)) (m k : ℕ) → k ≤ m → m ≤ length ls → line_start (take m ls) k ≡ bytes_before ls k
 start_of_first ls m k h l = let e = length-take-le m ls l in start_in (take m ls) k (omega arith) ∙ before_take ls m k h
 
-pub starts_none : replicate (max_lines + 1) 0 ≡ (indexed_of []).starts
+pub starts_none : no_lines.starts ≡ (indexed_of []).starts
 unfolding line_start bytes_before
-starts_none = tabulate_one (line_start []) (max_lines + 1) 0 (λ i l. go i)
+starts_none = tabulate_same (λ k. 0) (line_start []) (max_lines + 1) (λ i l. sym (go i))
   where
     go : (i : ℕ) → line_start [] i ≡ 0
     go zero = refl

@@ -1,20 +1,21 @@
 -- What the loops over a table's lines and over the bytes of names need of the definitions.
-use mathlib.Core.Bool.{Bool, false, true, cond, ◌&&◌, ◌||◌}
+use mathlib.Core.Bool.{Bool, false, true, ◌&&◌, ◌||◌}
 use mathlib.Core.List.{List, [], ◌∷◌}
-use mathlib.Core.Option.{some}
-use mathlib.Core.Path.{◌≡◌, refl, sym, ◌∙◌}
+use mathlib.Core.Path.{◌≡◌, refl, sym, ap, ◌∙◌}
 use Prim.Native.Nat.{ℕ, zero, suc, ◌+◌, ◌-◌, ◌≤◌, ◌<◌}
 use native.Mathlib.Nat.{sub-zero}
 use native.Mathlib.Omega.{arith}
-use denote.Enum.Declared.{tag_of}
-use lib.Dec.{leb}
-use lib.ListN.{drop, get_or, length, length-map, get_or-eq_default}
-use Rattle.common.specs.Index.{first_from, last_below}
+use lib.Dec.{eqb, leb}
+use lib.Seq.{ext_get_or}
+use borrow.Author.Tests.{eq-eqb, eqb-true, ne_eqb}
+use lib.ListN.{get_or, length, length-map, get_or-eq_default}
+use Rattle.common.specs.Index.{every, first_from, last_below}
 use Rattle.label.specs.declared.Label.{Label}
-use Rattle.common.proofs.IndexLaws.{tabulate_at, tabulate_length}
-use Rattle.common.proofs.SearchLaws.{search_hit, search_pass}
+use Rattle.common.proofs.IndexLaws.{every_all, every_at, tabulate_at, tabulate_length}
+use Rattle.common.proofs.BoolLaws.{both, first_true, same_truth, second_true}
+use Rattle.common.proofs.SearchLaws.{first_same}
 use Rattle.octets.specs.Bytes.{same_bytes}
-use Rattle.octets.proofs.ByteLaws.{lengths_differ, same_end, same_pass, same_stop}
+use Rattle.octets.proofs.ByteLaws.{same_is, same_self}
 use Rattle.frame.specs.Frame.{body_of}
 use Rattle.label_codec.specs.Body.{byte_at}
 use Rattle.alias_entry.specs.Entry.{abbreviation_bytes, name_bytes}
@@ -24,56 +25,42 @@ use Rattle.alias_entry.specs.declared.Entry.{Entry}
 use Rattle.alias_entry.specs.declared.bytes.Span.{Span}
 use Rattle.alias_entry.specs.declared.Value.{Value}
 use Rattle.alias_entry.specs.declared.Value.TheVariants.{Hierarchy, Category, WholeLabel}
-use Rattle.alias_entry.specs.contracts.Value.{the_type}
 use Rattle.hexline.proofs.StandingLaws.{abbreviation_stands, name_stands, span_at, span_length}
 use Rattle.octets.specs.Lines.{line_at}
-use Rattle.alias.specs.Lines.{entries_by, entries_of, entry_at, lines_by, part_at}
-use Rattle.alias.specs.Lookup.{called_of, same_value, stands_for}
+use Rattle.alias.specs.Lines.{entries_by, entries_of, entry_at, lines_by, part_at, table_entries}
+use Rattle.alias.specs.declared.lookup.Table.{Table}
+use Rattle.alias.specs.Lookup.{called_of, same_value}
+use Rattle.alias.specs.Internal.Names.{span_is}
 use Rattle.alias.specs.Table.{shares_of}
 
--- ---- the bytes at a span, compared with those of a list from the front
+-- ---- the bytes at a span, compared with those of a list
 
--- the first i bytes of each are the same
-pub record SameSoFar (bs : List ℕ) (s : Span) (ys : List ℕ) (i : ℕ) : Type 0 where
-  pub within : i ≤ s.length
-  pub rest : same_bytes (span_bytes bs s) ys ≡ same_bytes (drop i (span_bytes bs s)) (drop i ys)
+pub span_same : (bs : List ℕ) (s : Span) (f : ℕ → ℕ) (ys : List ℕ) → ((i : ℕ) → i < length ys → f i ≡ get_or ys i 0) → span_is bs s f (length ys) ≡ same_bytes (span_bytes bs s) ys
+unfolding span_is
+span_same bs s f ys h = same_truth (span_is bs s f (length ys)) (same_bytes xs ys) there back
+  where
+    xs : List ℕ
+    xs = span_bytes bs s
 
-module _ (bs : List ℕ) (s : Span) (ys : List ℕ) where
-  pub spans_differ : (s.length ≡ length ys → ⊥) → false ≡ same_bytes (span_bytes bs s) ys
-  spans_differ h = sym (lengths_differ (span_bytes bs s) ys (λ e. h (sym (span_length bs s) ∙ e)))
+    size : length xs ≡ s.length
+    size = span_length bs s
 
-  -- the loop goes on, stops, or ends
-  module _ (n : s.length ≡ length ys) (i : ℕ) (h : SameSoFar bs s ys i) where
-    pub span_pass : {x y : ℕ} → i < s.length → x ≡ byte_at bs (s.at + i) → y ≡ get_or ys i 0 → x ≡ y → SameSoFar bs s ys (i + 1)
-    span_pass {x} {y} l p q e =
-        let m = span_length bs s in
-        record {
-          within = omega arith;
-          rest = h.rest ∙ same_pass (span_bytes bs s) ys i (omega arith) (omega arith) (span_at bs s i l ∙ sym p ∙ e ∙ q);
-        }
+    test : ℕ → Bool
+    test i = eqb (byte_at bs (s.at + i)) (f i)
 
-    pub span_stop : {x y : ℕ} → i < s.length → x ≡ byte_at bs (s.at + i) → y ≡ get_or ys i 0 → (x ≡ y → ⊥) → false ≡ same_bytes (span_bytes bs s) ys
-    span_stop {x} {y} l p q e =
-        let m = span_length bs s in
-        sym (h.rest ∙ same_stop (span_bytes bs s) ys i (omega arith) (omega arith) (λ k. e (p ∙ sym (span_at bs s i l) ∙ k ∙ sym q)))
+    there : span_is bs s f (length ys) ≡ true → same_bytes xs ys ≡ true
+    there e =
+        let n = eqb-true s.length (length ys) (first_true (eqb s.length (length ys)) (every test (length ys)) e) in
+        let l = second_true (eqb s.length (length ys)) (every test (length ys)) e in
+        let same : xs ≡ ys = ext_get_or 0 xs ys (size ∙ n) (λ i b. span_at bs s i (omega (arith, size)) ∙ eqb-true _ _ (every_at test (length ys) i l (omega (arith, size))) ∙ h i (omega (arith, size))) in
+        ap (same_bytes xs) (sym same) ∙ same_self xs
 
-    pub span_end : s.length ≤ i → true ≡ same_bytes (span_bytes bs s) ys
-    span_end l = let m = span_length bs s in sym (h.rest ∙ same_end (span_bytes bs s) ys i (omega arith) (omega arith))
-
--- the same of the bytes at two spans
-module _ (bs : List ℕ) (s : Span) (cs : List ℕ) (t : Span) where
-  pub alike_differ : (s.length ≡ t.length → ⊥) → false ≡ same_bytes (span_bytes bs s) (span_bytes cs t)
-  alike_differ h = spans_differ bs s (span_bytes cs t) (λ e. h (e ∙ span_length cs t))
-
-  module _ (n : s.length ≡ t.length) (i : ℕ) (h : SameSoFar bs s (span_bytes cs t) i) where
-    pub alike_pass : {x y : ℕ} → i < s.length → x ≡ byte_at bs (s.at + i) → y ≡ byte_at cs (t.at + i) → x ≡ y → SameSoFar bs s (span_bytes cs t) (i + 1)
-    alike_pass l p q e = span_pass bs s (span_bytes cs t) (n ∙ sym (span_length cs t)) i h l p (q ∙ sym (span_at cs t i (omega arith))) e
-
-    pub alike_stop : {x y : ℕ} → i < s.length → x ≡ byte_at bs (s.at + i) → y ≡ byte_at cs (t.at + i) → (x ≡ y → ⊥) → false ≡ same_bytes (span_bytes bs s) (span_bytes cs t)
-    alike_stop l p q e = span_stop bs s (span_bytes cs t) (n ∙ sym (span_length cs t)) i h l p (q ∙ sym (span_at cs t i (omega arith))) e
-
-    pub alike_end : s.length ≤ i → true ≡ same_bytes (span_bytes bs s) (span_bytes cs t)
-    alike_end l = span_end bs s (span_bytes cs t) (n ∙ sym (span_length cs t)) i h l
+    back : same_bytes xs ys ≡ true → span_is bs s f (length ys) ≡ true
+    back e =
+        let same = same_is xs ys e in
+        let n : s.length ≡ length ys = sym size ∙ ap length same in
+        both (eq-eqb s.length (length ys) n)
+        (every_all test (length ys) (λ i b. eq-eqb _ _ (sym (span_at bs s i (omega arith)) ∙ ap (λ (zs : List ℕ). get_or zs i 0) same ∙ sym (h i b))))
 
 -- ---- the names of the entry in a line
 
@@ -85,19 +72,25 @@ pub named_by : (p : List ℕ → Bool) (line : List ℕ) {n a : Span} {x y : Boo
 named_by p line {n} {a} {x} {y} e f g h =
     rw (g, h, e, f, name_stands line, abbreviation_stands line, span_length (body_of line) (abbreviation_in line))
 
--- ---- values of two classes are not the same
+-- ---- values that `==` tells apart, or does not
 
-pub other_class : (u v : Value) (l m : Label) → (tag_of the_type u ≡ tag_of the_type v → ⊥) → false ≡ same_value u l v m
+pub equal_values : (v : Value) (l m : Label) → (v ≡ WholeLabel → ⊥) → true ≡ same_value v l v m
 unfolding same_value
-other_class (Hierarchy h) (Hierarchy g) l m d = absurd (d refl)
-other_class (Hierarchy h) (Category c) l m d = refl
-other_class (Hierarchy h) WholeLabel l m d = refl
-other_class (Category c) (Hierarchy g) l m d = refl
-other_class (Category c) (Category e) l m d = absurd (d refl)
-other_class (Category c) WholeLabel l m d = refl
-other_class WholeLabel (Hierarchy g) l m d = refl
-other_class WholeLabel (Category e) l m d = refl
-other_class WholeLabel WholeLabel l m d = absurd (d refl)
+equal_values (Hierarchy h) l m d = sym (eq-eqb h h refl)
+equal_values (Category c) l m d = sym (eq-eqb c c refl)
+equal_values WholeLabel l m d = absurd (d refl)
+
+pub other_values : (u v : Value) (l m : Label) → (u ≡ v → ⊥) → false ≡ same_value u l v m
+unfolding same_value
+other_values (Hierarchy h) (Hierarchy g) l m d = sym (ne_eqb h g (λ e. d (ap Hierarchy e)))
+other_values (Hierarchy h) (Category c) l m d = refl
+other_values (Hierarchy h) WholeLabel l m d = refl
+other_values (Category c) (Hierarchy g) l m d = refl
+other_values (Category c) (Category e) l m d = sym (ne_eqb c e (λ q. d (ap Category q)))
+other_values (Category c) WholeLabel l m d = refl
+other_values WholeLabel (Hierarchy g) l m d = refl
+other_values WholeLabel (Category e) l m d = refl
+other_values WholeLabel WholeLabel l m d = absurd (d refl)
 
 -- ---- the lines of a table by their starts, and their entries
 
@@ -127,35 +120,40 @@ module _ (bytes starts : List ℕ) where
   pub entries_at : (k : ℕ) → k < length starts - 1 → entry_at (entries_by bytes starts) k ≡ standing_in (line_at (lines_by bytes starts) k)
   entries_at k h = let l = lines_length bytes starts in entry_of (lines_by bytes starts) k (omega arith)
 
-  -- what is made of an entry, by the line that it stands in
-  pub entry_test : {A : Type 0} (t : Entry → A) (k : ℕ) {line : List ℕ} {x : A} → k < length starts - 1 → line ≡ line_at (lines_by bytes starts) k → x ≡ t (standing_in line)
-      → t (entry_at (entries_by bytes starts) k) ≡ x
-  entry_test {A} t k {line} {x} h e f = rw (f, e, entries_at k h)
-
-  -- a search of the entries at entry k, by the test of its line: it ends there, or goes on
-  pub entry_step : (t : Entry → Bool) (k n : ℕ) {line : List ℕ} {x : Bool} (b : Bool) → k < length starts - 1 → k < n → line ≡ line_at (lines_by bytes starts) k
-      → x ≡ t (standing_in line) → x ≡ b
-      → first_from (λ j. t (entry_at (entries_by bytes starts) j)) k (n - k) ≡ cond b (some k) (first_from (λ j. t (entry_at (entries_by bytes starts) j)) (k + 1) (n - (k + 1)))
-  entry_step t k n true h l e f g = search_hit _ k n l (entry_test t k h e f ∙ g)
-  entry_step t k n false h l e f g = search_pass _ k n l (entry_test t k h e f ∙ g)
-
-  -- a search of the entries begins with all of them
-  pub search_start : (f : ℕ → Bool) {n : ℕ} → n ≡ length starts - 1 → first_from f 0 (length (entries_by bytes starts)) ≡ first_from f 0 (n - 0)
+  -- a search of all entries
+  pub search_start : (f : ℕ → Bool) {n : ℕ} → n ≡ length starts - 1 → first_from f 0 (n - 0) ≡ first_from f 0 (length (entries_by bytes starts))
   search_start f {n} e = rw (entries_length, ← e, sub-zero)
 
--- a search from the back at entry k: it ends there, or goes on
-pub last_step : (f : ℕ → Bool) (k : ℕ) (b : Bool) → f k ≡ b → last_below f (suc k) ≡ cond b (some k) (last_below f k)
+last_same : (f g : ℕ → Bool) (n : ℕ) → ((j : ℕ) → j < n → f j ≡ g j) → last_below f n ≡ last_below g n
 unfolding last_below
-last_step f k true e = rw e
-last_step f k false e = rw e
+last_same f g zero h = refl
+last_same f g (suc n) h = rw (h n (omega arith), last_same f g n (λ j a. h j (omega arith)))
+
+-- ---- searches of the entries of a table, by the lines that they stand in
+
+module _ (t : Table) (p : Entry → Bool) where
+  abbrev pub of_line : ℕ → Bool
+  of_line k = p (standing_in (line_at (lines_by t.bytes.now t.starts.now) k))
+
+  abbrev pub of_entry : ℕ → Bool
+  of_entry k = p (entry_at (table_entries t) k)
+
+  pub same_test : (k : ℕ) → k < length t.starts.now - 1 → of_line k ≡ of_entry k
+  same_test k h = sym (ap p (entries_at t.bytes.now t.starts.now k h))
+
+  pub first_entry : (k n : ℕ) → n ≡ length t.starts.now - 1 → first_from of_line k (n - k) ≡ first_from of_entry k (length (table_entries t) - k)
+  first_entry k n e = rw (entries_length t.bytes.now t.starts.now, ← e) (first_same of_line of_entry k (n - k) (λ j a b. same_test j (omega arith)))
+
+  pub find_entry : (n : ℕ) → n ≡ length t.starts.now - 1 → first_from of_line 0 (n - 0) ≡ first_from of_entry 0 (length (table_entries t))
+  find_entry n e = first_entry 0 n e ∙ ap (first_from of_entry 0) (sub-zero (length (table_entries t)))
+
+  pub last_entry : (n : ℕ) → n ≡ length t.starts.now - 1 → last_below of_line n ≡ last_below of_entry (length (table_entries t))
+  last_entry n e = rw (entries_length t.bytes.now t.starts.now, ← e) (last_same of_line of_entry n (λ j a. same_test j (omega arith)))
 
 -- ---- the tests of the searches
 
 abbrev pub called_at : List Entry → List ℕ → ℕ → Bool
 called_at es text k = called_of (entry_at es k) text
-
-abbrev pub stands_at : List Entry → Value → Label → ℕ → Bool
-stands_at es v l k = stands_for v l (entry_at es k)
 
 abbrev pub shares_at : List Entry → ℕ → ℕ → Bool
 shares_at es k j = shares_of (entry_at es j) (entry_at es k)

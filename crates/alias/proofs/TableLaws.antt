@@ -1,9 +1,9 @@
 -- The laws of a table that was tested: its lines are those that the starts give, its entries are good, and a text names one of them at most.
 --
-use mathlib.Core.Bool.{Bool, true, false, cond, true≢false}
+use mathlib.Core.Bool.{Bool, true, false, cond, not, true≢false}
 use mathlib.Core.List.{List, [], ◌∷◌, append-nil}
 use mathlib.Core.Logic.{◌⊎◌, inl, inr, ⊎_elim}
-use mathlib.Core.Option.{Option, none, some}
+use Rattle.std.specs.Prelude.{Option, None, Some}
 use mathlib.Core.Path.{◌≡◌, refl, sym, ap, ◌∙◌}
 use Prim.Native.Nat.{ℕ, ◌+◌, ◌≤◌, ◌<◌}
 use native.Mathlib.Nat.{eq-or-lt_of_le}
@@ -11,7 +11,7 @@ use native.Mathlib.Omega.{arith}
 use lib.Dec.{leb}
 use lib.ListN.{length, take, length-append, length-map, get_or-append}
 use lib.Seq.{get_or_at}
-use borrow.Author.Tests.{leb-false, not-false}
+use borrow.Author.Tests.{le-leb, leb-false, lt-leb, not-false}
 use Rattle.common.specs.Answer.{granted, is_granted}
 use Rattle.common.proofs.AnswerLaws.{grants_same}
 use Rattle.common.proofs.BoolLaws.{both, either, first_true, neither, or_first, or_second, second_true}
@@ -71,6 +71,19 @@ pub faulty_few : (k : ℕ) (line : List ℕ) → faulty_of k line ≡ false → 
 unfolding faulty_of
 faulty_few k line e = leb-false max_lines k (neither _ _ e).0
 
+-- which lines are
+pub faulty_late : (k : ℕ) (line : List ℕ) → max_lines ≤ k → faulty_of k line ≡ true
+unfolding faulty_of
+faulty_late k line l = rw (le-leb max_lines k l)
+
+pub faulty_unread : (k : ℕ) (line : List ℕ) → is_granted (read_entry_line line) ≡ false → faulty_of k line ≡ true
+unfolding faulty_of
+faulty_unread k line e = or_second (leb max_lines k) (ap not e)
+
+pub faulty_not : (k : ℕ) (line : List ℕ) → k < max_lines → is_granted (read_entry_line line) ≡ true → faulty_of k line ≡ false
+unfolding faulty_of
+faulty_not k line l e = rw (lt-leb max_lines k l, e)
+
 -- and is an entry
 faulty_read : (k : ℕ) (line : List ℕ) → faulty_of k line ≡ false → is_granted (read_entry_line line) ≡ true
 unfolding faulty_of
@@ -95,9 +108,9 @@ not_bad ls k e = neither (faulty_at ls k) (repeats_at (entries_of ls) k) e
 
 -- ---- a table that is granted has no bad line, and its lines are what is granted
 
-verdict_none : (o : Option ℕ) (x y : LineStarts) → verdict_of o y ≡ granted x → (o ≡ none) × (x ≡ y)
-verdict_none none x y e = (refl, sym (grants_same y x e))
-verdict_none (some k) x y e = absurd (true≢false (sym (ap is_granted e)))
+verdict_none : (o : Option ℕ) (x y : LineStarts) → verdict_of o y ≡ granted x → (o ≡ None) × (x ≡ y)
+verdict_none None x y e = (refl, sym (grants_same y x e))
+verdict_none (Some k) x y e = absurd (true≢false (sym (ap is_granted e)))
 
 none_bad : (more : Bool) (bytes : List ℕ) (x : LineStarts) → check_table more bytes ≡ granted x
     → (x ≡ indexed_of (lines_of bytes)) × ((k : ℕ) → k < length (judged_lines more bytes) → bad_at (judged_lines more bytes) k ≡ false)

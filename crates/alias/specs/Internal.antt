@@ -1,3 +1,4 @@
 -- Definitions that only the contracts of functions that are not public cite: no promise rests on them.
 pub mod Hash
+pub mod Names
 pub mod Walk

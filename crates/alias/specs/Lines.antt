@@ -6,6 +6,7 @@ use Rattle.alias_entry.specs.Entry.{zero_entry}
 use Rattle.hexline.specs.Line.{standing_in}
 use Rattle.alias_entry.specs.declared.Entry.{Entry}
 use Rattle.alias.specs.declared.LineStarts.{LineStarts}
+use Rattle.alias.specs.declared.lookup.Table.{Table}
 
 -- a table has 0 to 512 lines
 abbrev pub max_lines : ℕ
@@ -27,10 +28,6 @@ line_start ls k = cond (leb k (length ls)) (bytes_before ls k) 0
 abbrev pub indexed_of : List (List ℕ) → LineStarts
 indexed_of ls = record { count = length ls; starts = tabulate (line_start ls) (max_lines + 1) }
 
--- what stands beside a refusal
-abbrev pub no_lines : LineStarts
-no_lines = record { count = 0; starts = tabulate (λ k. 0) (max_lines + 1) }
-
 -- ---- the lines of a table by their starts, of which there is one more than lines
 
 -- the bytes from the one start up to the next
@@ -43,3 +40,7 @@ lines_by bytes starts = tabulate (part_at bytes starts) (length starts - 1)
 
 abbrev pub entries_by : List ℕ → List ℕ → List Entry
 entries_by bytes starts = entries_of (lines_by bytes starts)
+
+-- the entries of a table that is handed over with its starts
+abbrev pub table_entries : Table → List Entry
+table_entries t = entries_by t.bytes.now t.starts.now

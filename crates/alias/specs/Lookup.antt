@@ -1,6 +1,5 @@
 -- Document 01, "Names and text": the entry for a name, and the entries for a hierarchy, a category or a label.
-use Rattle.std.specs.Prelude.{Bool, false, ◌&&◌, ◌||◌, List, ℕ, ◌-◌, eqb, leb, length}
-use Rattle.std.proofs.Math.Option.{Option, none, some}
+use Rattle.std.specs.Prelude.{Bool, false, ◌&&◌, ◌||◌, List, ℕ, ◌-◌, eqb, leb, length, Option}
 use Rattle.common.specs.Index.{first_from, last_below}
 use Rattle.label.specs.Label
 use Rattle.label.specs.declared.Label.{Label}
@@ -10,13 +9,6 @@ use Rattle.alias_entry.specs.declared.Entry.{Entry}
 use Rattle.alias_entry.specs.declared.Value.{Value}
 use Rattle.alias_entry.specs.declared.Value.TheVariants.{Hierarchy, Category, WholeLabel}
 use Rattle.alias.specs.Lines.{entry_at}
-use Rattle.alias.specs.declared.FoundEntry.{FoundEntry}
-use Rattle.alias.specs.declared.FoundEntry.TheVariants.{At, Nothing}
-
--- what the enum Found says
-abbrev pub found_entry_of : FoundEntry → Option ℕ
-found_entry_of (At k) = some k
-found_entry_of Nothing = none
 
 -- whether an entry has a name for its value: its name, or its abbreviation where that is not empty
 unfoldable pub called_of : Entry → List ℕ → Bool

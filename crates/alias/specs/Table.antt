@@ -1,6 +1,5 @@
 -- Document 01, "Names and text": which tables are good.
-use Rattle.std.specs.Prelude.{Bool, cond, not, ◌&&◌, ◌||◌, List, [], ◌∷◌, ◌++◌, ℕ, leb, length}
-use Rattle.std.proofs.Math.Option.{Option, none, some}
+use Rattle.std.specs.Prelude.{Bool, cond, not, ◌&&◌, ◌||◌, List, [], ◌∷◌, ◌++◌, ℕ, leb, length, Option, None, Some}
 use Rattle.common.specs.Answer.{Answer, granted, is_granted, refused}
 use Rattle.common.specs.Index.{some_below, first_from}
 use Rattle.octets.specs.Bytes.{same_bytes}
@@ -29,8 +28,8 @@ unfoldable pub judged_lines : Bool → List ℕ → List (List ℕ)
 judged_lines more bytes = lines_of bytes ++ cond more ([] ∷ []) []
 
 abbrev pub verdict_of : Option ℕ → LineStarts → Answer LineStarts
-verdict_of none lines = granted lines
-verdict_of (some k) lines = refused 22 (some k)
+verdict_of None lines = granted lines
+verdict_of (Some k) lines = refused 22 (Some k)
 
 -- what the test of a table answers: where its lines begin, or 22 with the number of its first bad line
 unfoldable pub check_table : Bool → List ℕ → Answer LineStarts

@@ -2,65 +2,71 @@
 ghost use Rattle.std.specs.Prelude.{◌≡◌, false, ◌<◌, ◌/◌, ◌%◌};
 ghost use Rattle.alias.specs.Internal.Hash.{Filtered, NoneCollide, in_filter, filter_words, with_hash, collides_before};
 ghost use Rattle.alias.specs.Lines.{max_lines};
+ghost use Rattle.alias.specs.declared.hash.Hashes.{Hashes};
 
 use crate::MAX_LINES;
-use crate::hash::collides_before;
+use crate::hash::Hashes;
 
 const FILTER_WORDS: usize = 256;
 
+#[derive(Drop)]
+struct Filter {
+    words: [u64; FILTER_WORDS],
+}
+
 // The word that has the bit of a hash.
-fn filter_word(hash: u32) -> usize
+fn word_of(hash: u32) -> usize
     ensures { result ≡ hash / 64 % filter_words }
 {
-    (hash / 64 % FILTER_WORDS as u32) as usize
+    (hash / 64) as usize % FILTER_WORDS
 }
 
-fn in_filter(filter: &[u64; FILTER_WORDS], hash: u32) -> bool
-    ensures { result ≡ in_filter filter.now hash }
-{
-    let w = filter[filter_word(hash)];
-    (w >> (hash % 64)) % 2 == 1
-}
+impl Filter {
+    // The filter of no hash.
+    fn new() -> Filter
+        ensures { (h : Hashes) → Filtered h 0 result }
+    {
+        Filter {
+            words: [0; FILTER_WORDS],
+        }
+    }
 
-fn insert(filter: &mut [u64; FILTER_WORDS], hash: u32)
-    ensures { filter.new ≡ with_hash filter.old hash }
-{
-    let i = filter_word(hash);
-    filter[i] = filter[i] | (1 << (hash % 64));
+    fn contains(&self, hash: u32) -> bool
+        ensures { result ≡ in_filter self.now hash }
+    {
+        (self.words[word_of(hash)] >> (hash % 64)) % 2 == 1
+    }
+
+    fn insert(&mut self, hash: u32)
+        ensures { self.new ≡ with_hash self.old hash }
+    {
+        self.words[word_of(hash)] |= 1 << (hash % 64);
+    }
 }
 
 // Whether entry k, by its hashes, may have a name in common with an earlier entry, where the hashes of these are in the filter.
-fn collides(
-    names: &[u32; MAX_LINES],
-    others: &[u32; MAX_LINES],
-    filter: &[u64; FILTER_WORDS],
-    k: usize,
-) -> bool
-    requires { (k < max_lines) × Filtered names.now others.now k filter.now }
-    ensures { result ≡ collides_before names.now others.now k }
+fn collides(hashes: &Hashes, filter: &Filter, k: usize) -> bool
+    requires { (k < max_lines) × Filtered hashes.now k filter.now }
+    ensures { result ≡ collides_before hashes.now k }
 {
-    if !(in_filter(filter, names[k]) | in_filter(filter, others[k])) {
-        return false;
-    }
-    collides_before(names, others, k)
+    (filter.contains(hashes.names[k]) | filter.contains(hashes.others[k]))
+        && hashes.collides_before(k)
 }
 
 // Whether one of n entries, by its hashes, may have a name in common with an earlier one.
-pub(crate) fn some_collide(names: &[u32; MAX_LINES], others: &[u32; MAX_LINES], n: usize) -> bool
-    ensures { result ≡ false → NoneCollide names.now others.now n }
+pub(crate) fn some_collide(hashes: &Hashes, n: usize) -> bool
+    ensures { result ≡ false → NoneCollide hashes.now n }
 {
     if MAX_LINES < n {
         return true;
     }
-    let mut filter = [0u64; FILTER_WORDS];
-    let mut k = 0;
-    while k < n {
-        if collides(names, others, &filter, k) {
+    let mut filter = Filter::new();
+    for k in 0..n {
+        if collides(hashes, &filter, k) {
             return true;
         }
-        insert(&mut filter, names[k]);
-        insert(&mut filter, others[k]);
-        k += 1;
+        filter.insert(hashes.names[k]);
+        filter.insert(hashes.others[k]);
     }
     false
 }

@@ -1,12 +1,13 @@
 // Hashes of the names in a table: names that have different hashes differ.
-ghost use Rattle.std.specs.Prelude.{◌≡◌, true, cond, leb, length};
+ghost use Rattle.std.specs.Prelude.{◌≡◌, ◌+◌, ◌<◌, List, IfSome, cond, is_some, leb, length};
 ghost use Rattle.common.specs.Answer.{is_granted};
 ghost use Rattle.hexline.specs.Accept.{accepted_body};
 ghost use Rattle.label_codec.specs.Body.{line_words};
 ghost use Rattle.alias_entry.specs.Entry.{abbreviation_bytes, name_bytes};
 ghost use Rattle.hexline.specs.Line.{entry_in, read_entry_line, standing_in};
 ghost use Rattle.alias_entry.specs.declared.Entry.{Entry};
-ghost use Rattle.alias.specs.Internal.Hash.{HashesOf, folded_hash, hash_of, collides_before};
+ghost use Rattle.alias.specs.Internal.Hash.{HashesKept, HashesOf, folded_hash, hash_of, collides_before};
+ghost use Rattle.alias.specs.Lines.{entry_at, max_lines};
 
 use crate::MAX_LINES;
 use alias_entry::bytes::layout_in;
@@ -21,12 +22,20 @@ const MULTIPLIER: u64 = 65491;
 
 const FOLDED_MODULUS: u64 = 4294967296;
 
-// Whether a line is accepted; then the hashes of the name and of the other name of its entry, and whether its name may be its abbreviation too.
+// The hashes of the name and of the other name of an entry, and whether its name may be its abbreviation too.
 #[derive(Clone, Copy)]
 pub(crate) struct LineHashes {
-    pub accepted: bool,
-    pub name: u32,
-    pub other: u32,
+    name: u32,
+    other: u32,
+    unclear: bool,
+}
+
+// The hashes of the names and of the other names of a table's entries, and whether one of these may have its name as its abbreviation too. They lie
+// in two arrays (no heap), so that a loop compares several of one kind at a time.
+#[derive(Drop)]
+pub(crate) struct Hashes {
+    pub names: [u32; MAX_LINES],
+    pub others: [u32; MAX_LINES],
     pub unclear: bool,
 }
 
@@ -41,89 +50,97 @@ fn folded(hash: u64) -> u32
 fn hash_of(bytes: &[u8]) -> u32
     ensures { result ≡ hash_of bytes.now }
 {
-    let mut hash = bytes.len() as u64;
-    let mut i = 0;
-    while i < bytes.len() {
-        hash = hash % MODULUS * MULTIPLIER + bytes[i] as u64;
-        i += 1;
-    }
-    folded(hash)
+    let size = bytes.len() as u64;
+    folded(
+        bytes.iter().fold(size, |hash, b| {
+            hash % MODULUS * MULTIPLIER + u64::from(*b)
+        }),
+    )
 }
 
 // The hash of an entry's other name, from its abbreviation and the hash of its name.
 fn other_hash(abbreviation: &[u8], name: u32) -> u32
     ensures { result ≡ cond (leb 1 (length abbreviation.now)) (hash_of abbreviation.now) name }
 {
-    if 1 <= abbreviation.len() {
-        return hash_of(abbreviation);
+    if abbreviation.is_empty() {
+        name
+    } else {
+        hash_of(abbreviation)
     }
-    name
 }
 
 // The hashes of an entry with these texts.
 fn text_hashes(name: &[u8], abbreviation: &[u8]) -> LineHashes
-    ensures accepted_value { result.accepted ≡ true }
-    ensures hashes_of { (e : Entry) → name.now ≡ name_bytes e → abbreviation.now ≡ abbreviation_bytes e → HashesOf e result.name result.other result.unclear }
+    ensures { (e : Entry) → name.now ≡ name_bytes e → abbreviation.now ≡ abbreviation_bytes e → HashesOf e result }
 {
     let hash = hash_of(name);
     let other = other_hash(abbreviation, hash);
     LineHashes {
-        accepted: true,
         name: hash,
         other,
         unclear: (name.len() == abbreviation.len()) & (hash == other),
     }
 }
 
-// Whether a body is that of an accepted line of kind 04, and the hashes of its entry.
-fn body_hashes(body: &[u8]) -> LineHashes
-    ensures accepted_value { result.accepted ≡ accepted_body body.now }
-    ensures hashes_of { result.accepted ≡ true → HashesOf (entry_in line_words body.now) result.name result.other result.unclear }
+// The hashes of the entry that a body is of, where it is that of an accepted line of kind 04.
+fn body_hashes(body: &[u8]) -> Option<LineHashes>
+    ensures accepted { is_some result ≡ accepted_body body.now }
+    ensures hashes_of { IfSome result (λ h. HashesOf (entry_in line_words body.now) h) }
 {
     if !accept::accepts(body) {
-        return LineHashes {
-            accepted: false,
-            name: 0,
-            other: 0,
-            unclear: false,
-        };
+        return None;
     }
     let p = layout_in(body, LINE_WORDS);
-    let n = p.name;
-    let a = p.abbreviation;
-    text_hashes(
-        octets::front(octets::rest(body, n.at), n.length),
-        octets::front(octets::rest(body, a.at), a.length),
-    )
+    Some(text_hashes(p.name.bytes(body), p.abbreviation.bytes(body)))
 }
 
 // The same of a line: it is decoded once, and judged by the bytes of its body.
-pub(crate) fn line_hashes(line: &[u8]) -> LineHashes
-    ensures accepted_value { result.accepted ≡ is_granted (read_entry_line line.now) }
-    ensures hashes_of { result.accepted ≡ true → HashesOf (standing_in line.now) result.name result.other result.unclear }
+pub(crate) fn line_hashes(line: &[u8]) -> Option<LineHashes>
+    ensures accepted { is_some result ≡ is_granted (read_entry_line line.now) }
+    ensures hashes_of { IfSome result (λ h. HashesOf (standing_in line.now) h) }
 {
     let mut bytes = [0u8; ENTRY_BODY];
     let n = frame::decode(line, &mut bytes);
     body_hashes(octets::front(&bytes, n))
 }
 
-// Whether entry k, by its hashes, may have a name in common with an earlier entry. The loop has no early exit, so that it can take several hashes at
-// a time.
-pub(crate) fn collides_before(names: &[u32; MAX_LINES], others: &[u32; MAX_LINES], k: usize) -> bool
-    ensures { result ≡ collides_before names.now others.now k }
-{
-    if MAX_LINES <= k {
-        return true;
+impl Hashes {
+    // Those of no entry.
+    pub(crate) fn new() -> Hashes
+        ensures { (es : List Entry) → HashesKept es 0 result }
+    {
+        Hashes {
+            names: [0; MAX_LINES],
+            others: [0; MAX_LINES],
+            unclear: false,
+        }
     }
-    let c = names[k];
-    let d = others[k];
-    let mut collides = false;
-    let mut j = 0;
-    while j < k {
-        let a = names[j];
-        let b = others[j];
-        collides = collides | (((a == c) | (b == c)) | ((a == d) | (b == d)));
-        j += 1;
+
+    // Keeps those of entry k.
+    pub(crate) fn keep(&mut self, k: usize, entry: LineHashes)
+        requires { k < max_lines }
+        ensures { (es : List Entry) → HashesKept es k self.old → HashesOf (entry_at es k) entry → HashesKept es (k + 1) self.new }
+    {
+        self.names[k] = entry.name;
+        self.others[k] = entry.other;
+        self.unclear = self.unclear | entry.unclear;
     }
-    collides
+
+    // Whether entry k, by its hashes, may have a name in common with an earlier entry. The loop has no early exit, so that it can take several hashes
+    // at a time.
+    pub(crate) fn collides_before(&self, k: usize) -> bool
+        ensures { result ≡ collides_before self.now k }
+    {
+        if MAX_LINES <= k {
+            return true;
+        }
+        let c = self.names[k];
+        let d = self.others[k];
+        self.names[..k]
+            .iter()
+            .zip(&self.others[..k])
+            .fold(false, |met, (&a, &b)| {
+                met | (((a == c) | (b == c)) | ((a == d) | (b == d)))
+            })
+    }
 }

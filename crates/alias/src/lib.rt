@@ -9,13 +9,15 @@ pub mod lookup;
 mod names;
 mod repeats;
 
-ghost use Rattle.std.proofs.Math.Option.{some};
-ghost use Rattle.common.specs.Answer.{Answered, refused};
-ghost use Rattle.alias.specs.Lines.{no_lines};
+ghost use Rattle.std.specs.Prelude.{◌≡◌, ◌+◌, ◌<◌, leb, take};
+ghost use Rattle.common.specs.Answer.{answer_of};
+ghost use Rattle.alias.specs.Internal.Walk.{more_lines, no_lines};
+ghost use Rattle.alias.specs.Lines.{max_lines};
 ghost use Rattle.alias.specs.Table.{check_table};
 
+use crate::hash::Hashes;
 use crate::lines::walk;
-use common::answer::Outcome;
+use crate::lookup::Table;
 use common::errno::Errno;
 
 pub const MAX_LINES: usize = 512;
@@ -23,65 +25,63 @@ pub const MAX_LINES: usize = 512;
 // One start for each line, and one past the last.
 pub const MAX_STARTS: usize = 513;
 
-// Where the lines of a table begin: line k from starts[k] up to starts[k + 1]. Starts past these are zeros.
+// Where the lines of a table begin: line k from starts[k] up to starts[k + 1]. Starts past these are zeros. There is no heap, so they lie in an array
+// with their count.
 #[derive(Clone, Copy)]
 pub struct LineStarts {
     pub count: usize,
     pub starts: [usize; MAX_STARTS],
 }
 
-// The lines stand beside the outcome; beside a refusal there are none.
-#[derive(Clone, Copy)]
-pub struct TableAnswer {
-    pub outcome: Outcome,
-    pub lines: LineStarts,
-}
+impl LineStarts {
+    // Those of no line.
+    fn new() -> LineStarts
+        ensures { result ≡ no_lines }
+    {
+        LineStarts {
+            count: 0,
+            starts: [0; MAX_STARTS],
+        }
+    }
 
-// The number of an entry.
-#[derive(Clone, Copy)]
-pub enum FoundEntry {
-    At(usize),
-    Nothing,
-}
+    // Whether there is room for no line more.
+    fn is_full(&self) -> bool
+        ensures { result ≡ leb max_lines self.now.count }
+    {
+        MAX_LINES <= self.count
+    }
 
-// The answer for a table whose first bad line has that number.
-fn bad(line: usize) -> TableAnswer
-    ensures { Answered result.outcome result.lines no_lines (refused 22 (some line)) }
-{
-    let lines = LineStarts {
-        count: 0,
-        starts: [0usize; MAX_STARTS],
-    };
-    TableAnswer {
-        outcome: Outcome::Refused(Errno::BadLine(line)),
-        lines,
+    // Adds a line that ends at an index.
+    fn push(&mut self, end: usize)
+        requires { self.old.count < max_lines }
+        ensures { self.new ≡ more_lines self.old end }
+    {
+        self.count += 1;
+        self.starts[self.count] = end;
+    }
+
+    // The table of these lines, whose bytes are lent.
+    pub fn table<'a>(&'a self, bytes: &'a [u8]) -> Table<'a>
+        ensures bytes_value { result.bytes.now ≡ bytes.now }
+        ensures starts_value { result.starts.now ≡ take (self.now.count + 1) self.now.starts }
+    {
+        Table {
+            bytes,
+            starts: &self.starts[..self.count.min(MAX_LINES) + 1],
+        }
     }
 }
 
 // Tests a table: `more` says that it is cut off, and more follows. A line is judged by itself, then against those before it.
-pub fn check(table: &[u8], more: bool) -> TableAnswer
-    ensures { Answered result.outcome result.lines no_lines (check_table more table.now) }
+pub fn check(table: &[u8], more: bool) -> Result<LineStarts, Errno>
+    ensures { answer_of result ≡ check_table more table.now }
 {
-    let mut lines = LineStarts {
-        count: 0,
-        starts: [0usize; MAX_STARTS],
-    };
-    let mut names = [0u32; MAX_LINES];
-    let mut others = [0u32; MAX_LINES];
-    let w = walk(table, more, &mut lines.starts, &mut names, &mut others);
-    lines.count = w.count;
-    let starts = lookup::starts_to(&lines.starts, w.count);
-    let repeat = repeats::first(table, starts, &names, &others, w.unclear);
-    match repeat {
-        FoundEntry::At(k) => bad(k),
-        FoundEntry::Nothing => {
-            if w.stopped {
-                return bad(w.count);
-            }
-            TableAnswer {
-                outcome: Outcome::Granted,
-                lines,
-            }
-        }
+    let mut lines = LineStarts::new();
+    let mut hashes = Hashes::new();
+    let walked = walk(table, more, &mut lines, &mut hashes);
+    if let Some(k) = repeats::first(lines.table(table), &hashes) {
+        return Err(Errno::BadLine(k));
     }
+    walked?;
+    Ok(lines)
 }

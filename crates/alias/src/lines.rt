@@ -1,24 +1,17 @@
 // The lines of a table: where they begin, and which of them are bad by themselves.
-ghost use Rattle.std.specs.Prelude.{◌≡◌, false, ◌+◌, ◌<◌, ◌≤◌, drop, length, replicate};
+ghost use Rattle.std.specs.Prelude.{◌≡◌, true, false, ◌+◌, ◌<◌, ◌≤◌, drop, length, MatchResult};
+ghost use Rattle.common.specs.declared.errno.Errno.TheVariants.{BadLine};
 ghost use Rattle.octets.specs.Bytes.{index_of, lf};
 ghost use Rattle.alias.specs.Internal.Hash.{HashesKept};
 ghost use Rattle.octets.specs.Lines.{lines_of};
-ghost use Rattle.alias.specs.Lines.{entries_of, max_lines};
+ghost use Rattle.alias.specs.Lines.{entries_of};
 ghost use Rattle.octets.specs.Internal.Lines.{line_end};
-ghost use Rattle.alias.specs.Internal.Walk.{Walks, lines_from};
+ghost use Rattle.alias.specs.Internal.Walk.{Walks, no_lines};
 
-use crate::hash::line_hashes;
-use crate::{MAX_LINES, MAX_STARTS};
+use crate::LineStarts;
+use crate::hash::{Hashes, line_hashes};
+use common::errno::Errno;
 use octets::LF;
-
-// How many lines there are before the first that is bad by itself, whether there is one, and whether an entry among those before it may have its
-// name as its abbreviation too.
-#[derive(Clone, Copy)]
-pub(crate) struct Walked {
-    pub count: usize,
-    pub stopped: bool,
-    pub unclear: bool,
-}
 
 // How many bytes are tested together.
 const CHUNK: usize = 16;
@@ -27,27 +20,15 @@ const CHUNK: usize = 16;
 fn has_lf(bytes: &[u8]) -> bool
     ensures { result ≡ false → index_of lf bytes.now ≡ length bytes.now }
 {
-    let mut met = false;
-    let mut i = 0;
-    while i < bytes.len() {
-        met = met | (bytes[i] == LF);
-        i += 1;
-    }
-    met
+    bytes.iter().fold(false, |met, b| met | (*b == LF))
 }
 
 // An index before which there is no LF, and from which on there are fewer than CHUNK bytes, or one among the next CHUNK.
 fn skip_chunks(bytes: &[u8]) -> usize
     ensures { (result ≤ length bytes.now) × (index_of lf bytes.now ≡ result + index_of lf (drop result bytes.now)) }
 {
-    let mut i = 0;
-    while i + CHUNK <= bytes.len() {
-        if has_lf(&bytes[i..i + CHUNK]) {
-            return i;
-        }
-        i += CHUNK;
-    }
-    i
+    let n = bytes.len() / CHUNK;
+    bytes.chunks_exact(CHUNK).position(has_lf).unwrap_or(n) * CHUNK
 }
 
 // Past the LF of the line that begins at an index, or the end of the table where it does not end.
@@ -64,42 +45,31 @@ fn line_end(table: &[u8], at: usize) -> usize
     table.len()
 }
 
-// Walks the lines up to the first that is bad by itself. Where the table is cut off, that is at the latest the one after the last. The hashes of the
-// entries before it are kept.
+// Walks the lines up to the first that is bad by itself, which it answers. Where the table is cut off, that is at the latest the one after the last.
+// The starts of the lines before it are kept, and the hashes of their entries.
 pub(crate) fn walk(
     table: &[u8],
     more: bool,
-    starts: &mut [usize; MAX_STARTS],
-    names: &mut [u32; MAX_LINES],
-    others: &mut [u32; MAX_LINES],
-) -> Walked
-    requires { (starts.old ≡ replicate (max_lines + 1) 0) × (length names.old ≡ max_lines) × (length others.old ≡ max_lines) }
-    ensures walks { Walks more table.now (lines_from result.count starts.new) result.stopped }
-    ensures hashes_kept { HashesKept (entries_of (lines_of table.now)) result.count names.new others.new result.unclear }
+    lines: &mut LineStarts,
+    hashes: &mut Hashes,
+) -> Result<(), Errno>
+    requires { lines.old ≡ no_lines }
+    ensures walks { MatchResult result (λ _. Walks more table.now lines.new false) (λ e. (e ≡ BadLine lines.new.count) × Walks more table.now lines.new true) }
+    ensures hashes_kept { HashesKept (entries_of (lines_of table.now)) lines.new.count hashes.new }
 {
-    let mut unclear = false;
-    let mut count = 0;
+    // Lines differ in length, and it is the index at which one begins that is kept.
     let mut at = 0;
     while at < table.len() {
         let next = line_end(table, at);
-        let hashes = line_hashes(&table[at..next]);
-        if (MAX_LINES <= count) | !hashes.accepted {
-            return Walked {
-                count,
-                stopped: true,
-                unclear,
-            };
+        match line_hashes(&table[at..next]) {
+            Some(entry) if !lines.is_full() => hashes.keep(lines.count, entry),
+            _ => return Err(Errno::BadLine(lines.count)),
         }
-        names[count] = hashes.name;
-        others[count] = hashes.other;
-        unclear = unclear | hashes.unclear;
-        count += 1;
-        starts[count] = next;
+        lines.push(next);
         at = next;
     }
-    Walked {
-        count,
-        stopped: more,
-        unclear,
+    if more {
+        return Err(Errno::BadLine(lines.count));
     }
+    Ok(())
 }

@@ -1,5 +1,5 @@
 // Names of entries, compared where they stand in their lines.
-ghost use Rattle.std.specs.Prelude.{◌≡◌, ◌+◌, ◌<◌};
+ghost use Rattle.std.specs.Prelude.{◌≡◌, Bool, List, ℕ, ◌+◌, ◌<◌};
 ghost use Rattle.frame.specs.Frame.{body_of};
 ghost use Rattle.alias_entry.specs.Entry.{abbreviation_bytes, name_bytes};
 ghost use Rattle.alias_entry.specs.Internal.Spans.{span_bytes};
@@ -7,56 +7,59 @@ ghost use Rattle.hexline.specs.Line.{standing_in};
 ghost use Rattle.label.specs.Label as labels;
 ghost use Rattle.octets.specs.Bytes.{same_bytes};
 ghost use Rattle.alias.specs.Lookup.{called_of, stands_for};
+ghost use Rattle.alias.specs.Internal.Names.{name_is, span_is};
 ghost use Rattle.alias.specs.Table.{shares_of};
+ghost use Rattle.alias_entry.specs.declared.bytes.Span.{Span};
 
 use alias_entry::Value;
 use alias_entry::bytes::Span;
 use hexline::parts;
-use label::{Label, components};
+use label::Label;
 
-// Whether a line's body has a text at a span. The length is compared first.
+// Whether the bytes of a line's body at a span are n others, which a function gives by their index. The length is compared first, then the first
+// byte.
+fn matches<F: Fn(usize) -> u8>(line: &[u8], s: Span, n: usize, other: F) -> bool
+    ghost f: { ℕ → ℕ }
+    requires in_line { s.at + s.length < 1024 }
+    requires callable { (i : ℕ) → i < n → F.pre other i }
+    requires gives { (i : ℕ) (b : ℕ) → F.post other i b → b ≡ f i }
+    ensures { result ≡ span_is (body_of line.now) s f n }
+{
+    s.length == n && (0..n).all(|i| frame::byte(line, s.at + i) == other(i))
+}
+
+// Whether a line's body has a text at a span.
 fn spells(line: &[u8], s: Span, text: &[u8]) -> bool
     requires { s.at + s.length < 1024 }
     ensures { result ≡ same_bytes (span_bytes (body_of line.now) s) text.now }
 {
-    if s.length != text.len() {
-        return false;
-    }
-    let mut i = 0;
-    while i < s.length {
-        if frame::byte(line, s.at + i) != text[i] {
-            return false;
-        }
-        i += 1;
-    }
-    true
+    matches(line, s, text.len(), |i| text[i])
 }
 
-// Whether two lines' bodies have the same bytes at two spans. The length is compared first, then the first byte.
+// Whether two lines' bodies have the same bytes at two spans.
 fn alike(a: &[u8], s: Span, b: &[u8], t: Span) -> bool
     requires { (s.at + s.length < 1024) × (t.at + t.length < 1024) }
     ensures { result ≡ same_bytes (span_bytes (body_of a.now) s) (span_bytes (body_of b.now) t) }
 {
-    if s.length != t.length {
-        return false;
-    }
-    let mut i = 0;
-    while i < s.length {
-        if frame::byte(a, s.at + i) != frame::byte(b, t.at + i) {
-            return false;
-        }
-        i += 1;
-    }
-    true
+    matches(a, s, t.length, |i| frame::byte(b, t.at + i))
 }
 
-// Whether a text is a name of the entry in a line: its name, or its abbreviation where that is not empty.
+// Whether a test holds of a name of the entry in a line: of its name, or of its abbreviation where that is not empty.
+fn some_name<F: Fn(Span) -> bool>(line: &[u8], test: F) -> bool
+    ghost p: { List ℕ → Bool }
+    requires callable { (s : Span) → s.at + s.length < 1024 → F.pre test s }
+    requires computes { (s : Span) (b : Bool) → F.post test s b → b ≡ p (span_bytes (body_of line.now) s) }
+    ensures { result ≡ name_is p (standing_in line.now) }
+{
+    let t = parts::texts(line);
+    test(t.name) | ((1 <= t.abbreviation.length) & test(t.abbreviation))
+}
+
+// Whether a text is a name of the entry in a line.
 pub(crate) fn called(line: &[u8], text: &[u8]) -> bool
     ensures { result ≡ called_of (standing_in line.now) text.now }
 {
-    let t = parts::texts(line);
-    let abbreviation = t.abbreviation;
-    spells(line, t.name, text) | ((1 <= abbreviation.length) & spells(line, abbreviation, text))
+    some_name(line, |s| spells(line, s, text))
 }
 
 // Whether the bytes of a line b at a span are a name of the entry in a line a.
@@ -64,18 +67,14 @@ fn called_as(a: &[u8], b: &[u8], t: Span) -> bool
     requires { t.at + t.length < 1024 }
     ensures { result ≡ called_of (standing_in a.now) (span_bytes (body_of b.now) t) }
 {
-    let u = parts::texts(a);
-    let abbreviation = u.abbreviation;
-    alike(a, u.name, b, t) | ((1 <= abbreviation.length) & alike(a, abbreviation, b, t))
+    some_name(a, move |s| alike(a, s, b, t))
 }
 
 // Whether the entries in two lines have a name in common.
 pub(crate) fn shares(a: &[u8], b: &[u8]) -> bool
     ensures { result ≡ shares_of (standing_in a.now) (standing_in b.now) }
 {
-    let t = parts::texts(b);
-    let abbreviation = t.abbreviation;
-    called_as(a, b, t.name) | ((1 <= abbreviation.length) & called_as(a, b, abbreviation))
+    some_name(b, |t| called_as(a, b, t))
 }
 
 // Whether the name of the entry in a line is its abbreviation too.
@@ -87,35 +86,15 @@ pub(crate) fn repeats_itself(line: &[u8]) -> bool
 }
 
 // Whether the label of the entry in a line is l. The hierarchy is compared first, where it stands.
-fn has_label(line: &[u8], l: Label) -> bool
-    ensures { result ≡ labels.equal_of (standing_in line.now).label l }
+fn has_label(line: &[u8], l: &Label) -> bool
+    ensures { result ≡ labels.equal_of (standing_in line.now).label l.now }
 {
-    if parts::hierarchy(line) != l.hierarchy {
-        return false;
-    }
-    let m = parts::label(line);
-    let x = m.categories;
-    let y = l.categories;
-    components::equal(m.hierarchy, x, l.hierarchy, y)
+    parts::hierarchy(line) == l.hierarchy && parts::label(line).equals(l)
 }
 
 // Whether the entry in a line stands for a value, which for a whole label is the label beside it.
-pub(crate) fn stands_for(line: &[u8], v: Value, l: Label) -> bool
-    ensures { result ≡ stands_for v l (standing_in line.now) }
+pub(crate) fn stands_for(line: &[u8], v: Value, l: &Label) -> bool
+    ensures { result ≡ stands_for v l.now (standing_in line.now) }
 {
-    let u = parts::value(line);
-    match u {
-        Value::Hierarchy(h) => match v {
-            Value::Hierarchy(g) => h == g,
-            _ => false,
-        },
-        Value::Category(c) => match v {
-            Value::Category(d) => c == d,
-            _ => false,
-        },
-        Value::WholeLabel => match v {
-            Value::WholeLabel => has_label(line, l),
-            _ => false,
-        },
-    }
+    parts::value(line) == v && (v != Value::WholeLabel || has_label(line, l))
 }

@@ -7,26 +7,40 @@ use Prim.Native.Nat.{ℕ, zero, suc, ◌+◌, ◌^◌, ◌≤◌, ◌<◌}
 use native.Mathlib.Nat.{add-zero}
 use native.Mathlib.Omega.{arith}
 use lib.Dec.{eqb, leb, ltb}
-use lib.ListN.{get_or, length, take, length-append, get_or-replicate, get_or-eq_default}
-use lib.Seq.{ext_get_or, get_or-take, length-take-le}
+use lib.ListN.{drop, get_or, length, replicate, take, length-append, length-take, get_or-replicate, get_or-eq_default}
+use lib.Seq.{ext_get_or, get_or-drop, get_or-take, length-take-le}
 use borrow.Author.Tests.{eqb-true, le-leb, le-ltb, leb-true, lt-ltb, ltb-true}
+use Rattle.std.specs.List.{fold, list_all}
 use Rattle.common.specs.Index.{every, tabulate}
 use Rattle.label.specs.Label
 use Rattle.label.specs.Words.{word_at, words}
 use Rattle.label.specs.declared.Label.{Label}
 use Rattle.common.proofs.BoolLaws.{both, first_true, second_true, three_true}
+use Rattle.common.proofs.ChainLaws.{every_element}
 use Rattle.common.proofs.IndexLaws.{every_at, le_or_lt, tabulate_at, tabulate_length, tabulate_same}
 use Rattle.label.proofs.LabelLaws.{equal_exact, valid_hierarchy}
 use Rattle.common.proofs.BytesLaws.{Bytes, cons_bytes}
 use Rattle.octets.proofs.ByteLaws.{first_fits}
 use Rattle.label_codec.specs.Body.{byte_at, label_at, label_size}
 use Rattle.alias_entry.specs.Codec.{entry_in_bytes, entry_code, entry_fits, value_fits}
-use Rattle.alias_entry.specs.Entry.{abbreviation_size, abbreviation_text, value_class, entry_bytes, entry_from, entry_of, is_letter, is_name_byte, label_from, layout_of, name_byte_at, name_byte_ok, name_of, name_size, name_text, text_byte, text_bytes, text_from, valid_of, value_bytes, value_by_class, value_ok, value_size}
+use Rattle.alias_entry.specs.Entry.{abbreviation_size, abbreviation_text, entry_bytes, entry_from, entry_of, is_letter, is_name_byte, label_from, layout_of, name_byte_at, name_byte_ok, name_of, name_size, name_text, text_byte, text_bytes, text_from, valid_of, value_by_class, value_bytes, value_class, value_ok, value_size}
 use Rattle.alias_entry.specs.declared.Entry.{Entry}
 use Rattle.alias_entry.specs.declared.Value.{Value}
 use Rattle.alias_entry.specs.declared.Value.TheVariants.{Hierarchy, Category, WholeLabel}
-use Rattle.label_codec.proofs.BodyLoops.{Same, same_first, same_label, same_later, valid_label_fits}
+use Rattle.label_codec.proofs.BodyLoops.{Same, padded, same_first, same_label, same_later, valid_label_fits}
 use Rattle.label_codec.proofs.BodyLaws.{Holds, Within, bytes_tabulate, label_back, label_bytes_lem, label_forth, label_length, label_typed, one_part, part, part_is, parts_join}
+
+-- ---- a loop over all bytes
+
+-- one that goes on where a test fails
+folded_all : (p : ℕ → Bool) (b : Bool) (xs : List ℕ) → fold (λ (t : Bool) (x : ℕ). t && p x) b xs ≡ (b && list_all p xs)
+folded_all p true [] = refl
+folded_all p false [] = refl
+folded_all p true (x ∷ xs) = folded_all p (p x) xs
+folded_all p false (x ∷ xs) = folded_all p false xs
+
+pub all_folded : (p : ℕ → Bool) (xs : List ℕ) → fold (λ (t : Bool) (x : ℕ). t && p x) true xs ≡ every (λ k. p (byte_at xs k)) (length xs)
+all_folded p xs = folded_all p true xs ∙ every_element p (λ k. p (byte_at xs k)) xs (length xs) 0 refl (λ i l. refl)
 
 -- ---- what a valid entry has
 
@@ -149,6 +163,19 @@ text_bytes_lem bs i n most small = bytes_tabulate (λ k. cond (ltb k n) (byte_at
     go : (b : Bool) {x : ℕ} → x < 256 → cond b x 0 < 256
     go true h = h
     go false h = omega arith
+
+-- the text at a span: what stands there, as much as an array holds, copied over zeros
+pub text_read : (most : ℕ) (bs : List ℕ) (i n : ℕ) {xs ts ys : List ℕ} → xs ≡ take n (drop i bs) → ts ≡ take most xs → ys ≡ ts
+    → ys ++ drop (length ts) (replicate most 0) ≡ text_from most bs i n
+unfolding text_from text_byte
+text_read most bs i n {xs} {ts} {ys} e f g =
+    padded ts most g (omega (arith, ap length f, length-take most xs))
+    ∙ tabulate_same (byte_at ts) (λ k. cond (ltb k n) (byte_at bs (i + k)) 0) most (λ k l. ap (λ (zs : List ℕ). byte_at zs k) f ∙ get_or-take most xs k 0 l ∙ ap (λ (zs : List ℕ). byte_at zs k) e ∙ at_index k)
+  where
+    at_index : (k : ℕ) → byte_at (take n (drop i bs)) k ≡ cond (ltb k n) (byte_at bs (i + k)) 0
+    at_index k =
+        ⊎_elim (λ l. get_or-eq_default (take n (drop i bs)) 0 {n = k} (omega (arith, length-take n (drop i bs))) ∙ sym (rw (le-ltb k n l)))
+        (λ l. get_or-take n (drop i bs) k 0 l ∙ get_or-drop i bs k 0 ∙ sym (rw (lt-ltb k n l))) (le_or_lt n k)
 
 -- each byte is one that may stand at its index
 name_at : (bs : List ℕ) (n : ℕ) → name_of bs n ≡ true → (k : ℕ) → k < length bs → name_byte_at bs n k ≡ true

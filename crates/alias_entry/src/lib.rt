@@ -3,15 +3,12 @@
 #![tactic(auto)]
 
 pub mod bytes;
-mod tested;
 
 ghost use Rattle.std.specs.Prelude.{◌≡◌, length};
 ghost use Rattle.common.specs.Index.{every};
 ghost use Rattle.label_codec.specs.Body.{byte_at};
-ghost use Rattle.alias_entry.specs.Entry.{TypedEntry, is_letter, is_name_byte, name_byte_at, name_byte_ok, name_of, text_ok, valid_of, value_ok, zero_entry};
+ghost use Rattle.alias_entry.specs.Entry.{TypedEntry, is_letter, is_name_byte, name_byte_at, name_byte_ok, name_of, text_ok, valid_of, value_class, value_ok, zero_entry};
 
-use crate::tested::is_zero;
-use common::answer::Outcome;
 use label::{Label, MAX_HIERARCHY};
 use label_codec::byte;
 
@@ -25,13 +22,40 @@ pub const NAME_BYTES: usize = MAX_NAME + 1;
 pub const ABBREVIATION_BYTES: usize = MAX_ABBREVIATION + 1;
 
 // What an alias stands for. A label stands beside it.
-#[derive(Clone, Copy)]
+#[derive(Clone, Copy, PartialEq, Eq)]
 pub enum Value {
     Hierarchy(u64),
     Category(u64),
     WholeLabel,
 }
 
+impl Value {
+    // The number of its class, as bytes have it.
+    pub fn class(self) -> u8
+        ensures { result ≡ value_class self }
+    {
+        match self {
+            Value::Hierarchy(_) => 1,
+            Value::Category(_) => 2,
+            Value::WholeLabel => 3,
+        }
+    }
+
+    // Whether the value of an entry with a label is valid.
+    #[tactic(auto, unfolding(crate::specs::Entry::value_ok, label::specs::Label::valid_of))]
+    fn is_valid(self, l: Label) -> bool
+        ensures { result ≡ value_ok self l }
+    {
+        match self {
+            Value::Hierarchy(h) => (h <= MAX_HIERARCHY) & l.is_zero(),
+            Value::Category(c) => (c < 256) & l.is_zero(),
+            Value::WholeLabel => label::valid(l),
+        }
+    }
+}
+
+// Two structs that differ in a size, since C has both by value in an entry, and no exported function may take a struct with a const parameter. What
+// is done with them takes the bytes and the length.
 #[repr(C)]
 #[derive(Clone, Copy)]
 pub struct Name {
@@ -54,113 +78,82 @@ pub struct Entry {
     pub abbreviation: Abbreviation,
 }
 
-// An entry that is answered stands beside its outcome; beside a refusal it is the entry of zeros.
-#[derive(Clone, Copy)]
-pub struct EntryAnswer {
-    pub outcome: Outcome,
-    pub entry: Entry,
-}
-
 // The entry of zeros.
 pub fn zero() -> Entry
     ensures { result ≡ zero_entry }
 {
-    let name = Name {
-        bytes: [0u8; NAME_BYTES],
-        length: 0,
-    };
-    let abbreviation = Abbreviation {
-        bytes: [0u8; ABBREVIATION_BYTES],
-        length: 0,
-    };
     Entry {
         value: Value::Hierarchy(0),
         label: label::zero(),
-        name,
-        abbreviation,
+        name: Name {
+            bytes: [0; NAME_BYTES],
+            length: 0,
+        },
+        abbreviation: Abbreviation {
+            bytes: [0; ABBREVIATION_BYTES],
+            length: 0,
+        },
     }
 }
 
+#[tactic(auto, unfolding(crate::specs::Entry::is_letter))]
 fn is_letter(c: u8) -> bool
     ensures { result ≡ is_letter c }
 {
-    ((65 <= c) & (c <= 90)) | ((97 <= c) & (c <= 122))
+    c.is_ascii_alphabetic()
 }
 
+#[tactic(auto, unfolding(crate::specs::Entry::is_name_byte))]
 fn is_name_byte(c: u8) -> bool
     ensures { result ≡ is_name_byte c }
 {
-    is_letter(c) | ((48 <= c) & (c <= 57)) | (c == 95) | (c == 45) | (c == 46)
+    is_letter(c) | c.is_ascii_digit() | (c == b'_') | (c == b'-') | (c == b'.')
 }
 
 // Whether c may stand at index i where a name has n bytes.
+#[tactic(auto, unfolding(crate::specs::Entry::name_byte_ok))]
 fn name_byte_ok(n: usize, i: usize, c: u8) -> bool
     ensures { result ≡ name_byte_ok n i c }
 {
-    if i < n {
-        return is_name_byte(c);
-    }
-    c == 0
+    if i < n { is_name_byte(c) } else { c == 0 }
 }
 
 fn all_name_bytes(bytes: &[u8], n: usize) -> bool
     ensures { result ≡ every (name_byte_at bytes.now n) (length bytes.now) }
 {
-    let mut i = 0;
-    while i < bytes.len() {
-        if !name_byte_ok(n, i, bytes[i]) {
-            return false;
-        }
-        i += 1;
-    }
-    true
+    bytes
+        .iter()
+        .enumerate()
+        .all(|(i, c)| name_byte_ok(n, i, *c))
 }
 
 // Whether the first n bytes are a name or nothing, and the rest are zeros, of which there is one at least.
+#[tactic(auto, unfolding(crate::specs::Entry::name_of))]
 fn is_name(bytes: &[u8], n: usize) -> bool
     ensures { result ≡ name_of bytes.now n }
 {
     (n < bytes.len()) & ((n == 0) | is_letter(byte(bytes, 0))) & all_name_bytes(bytes, n)
 }
 
-fn value_ok(v: Value, l: Label) -> bool
-    ensures { result ≡ value_ok v l }
-{
-    match v {
-        Value::Hierarchy(h) => (h <= MAX_HIERARCHY) & is_zero(l),
-        Value::Category(c) => (c < 256) & is_zero(l),
-        Value::WholeLabel => label::valid(l),
-    }
-}
-
+#[tactic(auto, unfolding(crate::specs::Entry::valid_of))]
 pub fn valid(e: Entry) -> bool
     ensures { result ≡ valid_of e }
 {
-    let v = e.value;
-    let name = e.name;
-    let abbreviation = e.abbreviation;
-    let n = name.bytes;
-    let a = abbreviation.bytes;
-    value_ok(v, e.label)
-        & (1 <= name.length)
-        & is_name(&n, name.length)
-        & is_name(&a, abbreviation.length)
+    e.value.is_valid(e.label)
+        & (1 <= e.name.length)
+        & is_name(&e.name.bytes, e.name.length)
+        & is_name(&e.abbreviation.bytes, e.abbreviation.length)
 }
 
-// Whether all bytes are name bytes. The loop has no early exit, so that it can take several bytes at a time.
+// Whether all bytes are name bytes. A fold has no early exit, so that it can take several bytes at a time.
 fn all_of_name(text: &[u8]) -> bool
     ensures { result ≡ every (λ k. is_name_byte (byte_at text.now k)) (length text.now) }
 {
-    let mut good = true;
-    let mut i = 0;
-    while i < text.len() {
-        good = good & is_name_byte(text[i]);
-        i += 1;
-    }
-    good
+    text.iter().fold(true, |good, c| good & is_name_byte(*c))
 }
 
 // Whether a text is a name or nothing.
+#[tactic(auto, unfolding(crate::specs::Entry::text_ok))]
 pub fn text_ok(text: &[u8]) -> bool
     ensures { result ≡ text_ok text.now }
 {

@@ -9,7 +9,7 @@ use lib.Seq.{drop-cons, set-append_seam}
 use borrow.Author.Tests.{le-leb, lt-leb}
 use Rattle.common.specs.Answer.{Answer, granted, refused_by}
 use Rattle.common.specs.Buffer.{WrittenTo, buffer_of, length_of, overlay}
-use Rattle.common.specs.declared.answer.Written.TheVariants.{Length, Refused}
+use Rattle.std.specs.Prelude.{Ok, Err}
 use Rattle.common.specs.declared.errno.Errno.{Errno}
 use Rattle.common.specs.declared.errno.Errno.TheVariants.{TooBig}
 
@@ -24,18 +24,18 @@ pub overlay_length : (text out : List ℕ) → length text ≤ length out → le
 overlay_length text out h = simp (length-append, length-drop) (omega arith)
 
 module _ (text : List ℕ) (x : Answer (List ℕ)) (before after : List ℕ) (e : x ≡ granted text) where
-  pub writes : (n : ℕ) → n ≡ length text → length text ≤ length before → after ≡ overlay text before → WrittenTo (Length n) x before after
+  pub writes : (n : ℕ) → n ≡ length text → length text ≤ length before → after ≡ overlay text before → WrittenTo (Ok n) x before after
   unfolding length_of buffer_of
   writes n h fits f =
       let t = le-leb (length text) (length before) fits in
       record { answer = rw (e, t, h); buffer = rw (e, t, f) }
 
-  pub too_short : (n : ℕ) → n ≡ length text → length before < length text → after ≡ before → WrittenTo (Refused (TooBig n)) x before after
+  pub too_short : (n : ℕ) → n ≡ length text → length before < length text → after ≡ before → WrittenTo (Err (TooBig n)) x before after
   unfolding length_of buffer_of
   too_short n h short f =
       let t = lt-leb (length text) (length before) short in
       record { answer = rw (e, t, h); buffer = rw (e, t, f) }
 
-pub writes_nothing : (r : Errno) (x : Answer (List ℕ)) (before after : List ℕ) → x ≡ refused_by r → after ≡ before → WrittenTo (Refused r) x before after
+pub writes_nothing : (r : Errno) (x : Answer (List ℕ)) (before after : List ℕ) → x ≡ refused_by r → after ≡ before → WrittenTo (Err r) x before after
 unfolding length_of buffer_of
 writes_nothing r x before after e f = record { answer = rw e; buffer = rw (e, f) }

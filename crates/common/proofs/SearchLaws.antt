@@ -1,7 +1,8 @@
 -- The laws of `some_below`, `first_from`, `last_below` and `sum_from`, and what a loop over the index needs of them.
 use mathlib.Core.Bool.{Bool, true, false, not, ◌&&◌, ◌||◌, and-true, true≢false}
 use mathlib.Core.Logic.{◌⊎◌, inl, inr, ⊎_elim}
-use mathlib.Core.Option.{Option, none, some, none-ne-some, some-ne-none}
+use Rattle.std.specs.Prelude.{Option, None, Some}
+use Rattle.std.proofs.lemmas.Option.{none-some}
 use mathlib.Core.Path.{◌≡◌, refl, sym, ap, ◌∙◌}
 use Prim.Native.Nat.{ℕ, zero, suc, ◌+◌, ◌-◌, ◌≤◌, ◌<◌, suc-le-suc}
 use native.Mathlib.Nat.{zero-lt-suc, eq-or-lt_of_le, add-zero, zero-add, suc-add}
@@ -61,7 +62,7 @@ module _ (f : ℕ → Bool) where
       ∙ pass (suc k) m n (λ j l. ap f (over k j) ∙ h (suc j) (suc-le-suc l))
       ∙ ap (λ (i : ℕ). first_from f i n) (over k m)
 
-  pub hit : (k n t : ℕ) → t < n → ((j : ℕ) → j < t → f (k + j) ≡ false) → f (k + t) ≡ true → first_from f k n ≡ some (k + t)
+  pub hit : (k n t : ℕ) → t < n → ((j : ℕ) → j < t → f (k + j) ≡ false) → f (k + t) ≡ true → first_from f k n ≡ Some (k + t)
   unfolding first_from
   hit k n t l h e =
       let r : n ≡ t + suc (n - suc t) = omega arith in
@@ -74,12 +75,12 @@ module _ (f : ℕ → Bool) where
     pub there : f m ≡ true
     pub none_before : (j : ℕ) → k ≤ j → j < m → f j ≡ false
 
-  pub first_least : (k n m : ℕ) → first_from f k n ≡ some m → Least k m × (m < k + n)
+  pub first_least : (k n m : ℕ) → first_from f k n ≡ Some m → Least k m × (m < k + n)
   unfolding first_from
-  first_least k zero m e = absurd (none-ne-some m e)
+  first_least k zero m e = absurd (none-some m e)
   first_least k (suc n) m e = go (f k) refl e (first_least (suc k) n m)
     where
-      go : (p : Bool) → f k ≡ p → first_or p k (first_from f (suc k) n) ≡ some m → (first_from f (suc k) n ≡ some m → Least (suc k) m × (m < suc k + n)) → Least k m × (m < k + suc n)
+      go : (p : Bool) → f k ≡ p → first_or p k (first_from f (suc k) n) ≡ Some m → (first_from f (suc k) n ≡ Some m → Least (suc k) m × (m < suc k + n)) → Least k m × (m < k + suc n)
       go true h g ih =
           let q : k ≡ m = cc in
           (record { above = omega arith; there = ap f (sym q) ∙ h; none_before = λ j a b. absurd (omega arith) }, omega arith)
@@ -89,13 +90,13 @@ module _ (f : ℕ → Bool) where
           let u = r.1 in
           (record { above = omega arith; there = r.0.there; none_before = λ j a b. ⊎_elim (λ u. ap f (sym u) ∙ h) (λ u. r.0.none_before j u b) (eq-or-lt_of_le a) }, omega arith)
 
-  pub first_none : (k n : ℕ) → first_from f k n ≡ none → (j : ℕ) → k ≤ j → j < k + n → f j ≡ false
+  pub first_none : (k n : ℕ) → first_from f k n ≡ None → (j : ℕ) → k ≤ j → j < k + n → f j ≡ false
   unfolding first_from
   first_none k zero e j a b = absurd (omega arith)
   first_none k (suc n) e j a b = go (f k) refl e (λ g u. first_none (suc k) n g j u (omega arith))
     where
-      go : (p : Bool) → f k ≡ p → first_or p k (first_from f (suc k) n) ≡ none → (first_from f (suc k) n ≡ none → suc k ≤ j → f j ≡ false) → f j ≡ false
-      go true h g ih = absurd (some-ne-none k g)
+      go : (p : Bool) → f k ≡ p → first_or p k (first_from f (suc k) n) ≡ None → (first_from f (suc k) n ≡ None → suc k ≤ j → f j ≡ false) → f j ≡ false
+      go true h g ih = absurd (none-some k (sym g))
       go false h g ih = ⊎_elim (λ u. ap f (sym u) ∙ h) (ih g) (eq-or-lt_of_le a)
 
 -- two tests that agree at each number that is searched
@@ -106,8 +107,8 @@ first_same f g k (suc n) h = rw (h k (omega arith) (omega arith), first_same f g
 
 -- what the one search finds, and if it finds nothing, what the other does
 abbrev pub or_else : Option ℕ → Option ℕ → Option ℕ
-or_else (some k) o = some k
-or_else none o = o
+or_else (Some k) o = Some k
+or_else None o = o
 
 -- a search by f or g, where f holds at none of the first m numbers: the first of these at which g holds, if there is one
 pub first_either : (f g : ℕ → Bool) (k m n : ℕ) → ((j : ℕ) → k ≤ j → j < k + m → f j ≡ false)
@@ -125,21 +126,21 @@ first_either f g k (suc m) n h =
 
 -- a search that is at k of n numbers: it stops, goes on, or ends
 module _ (f : ℕ → Bool) (k n : ℕ) where
-  pub search_hit : k < n → f k ≡ true → first_from f k (n - k) ≡ some k
+  pub search_hit : k < n → f k ≡ true → first_from f k (n - k) ≡ Some k
   unfolding first_from
   search_hit l e = let r : n - k ≡ suc (n - suc k) = omega arith in rw (r, e)
 
   pub search_pass : k < n → f k ≡ false → first_from f k (n - k) ≡ first_from f (k + 1) (n - (k + 1))
   search_pass l e = let r : n - k ≡ suc (n - (k + 1)) = omega arith in rw r (pass_one f k (n - (k + 1)) e ∙ rw add-one)
 
-  pub search_end : n ≤ k → first_from f k (n - k) ≡ none
+  pub search_end : n ≤ k → first_from f k (n - k) ≡ None
   unfolding first_from
   search_end l = let r : n - k ≡ 0 = omega arith in rw r
 
 -- ---- the last
 
 module _ (f : ℕ → Bool) where
-  pub last_hit : (k : ℕ) → f k ≡ true → last_below f (k + 1) ≡ some k
+  pub last_hit : (k : ℕ) → f k ≡ true → last_below f (k + 1) ≡ Some k
   unfolding last_below
   last_hit k e = rw (add-one, e)
 
@@ -150,12 +151,12 @@ module _ (f : ℕ → Bool) where
       ⊎_elim (λ e. ap (last_below f) (sym e)) (λ u. rw (h n (omega arith) (omega arith)) (last_pass k n (omega arith) (λ j a b. h j a (omega arith)))) (eq-or-lt_of_le l)
 
   -- it is below n, and f holds there
-  pub last_holds : (n k : ℕ) → last_below f n ≡ some k → (k < n) × (f k ≡ true)
+  pub last_holds : (n k : ℕ) → last_below f n ≡ Some k → (k < n) × (f k ≡ true)
   unfolding last_below
-  last_holds zero k e = absurd (none-ne-some k e)
+  last_holds zero k e = absurd (none-some k e)
   last_holds (suc n) k e = go (f n) refl e (last_holds n k)
     where
-      go : (p : Bool) → f n ≡ p → first_or p n (last_below f n) ≡ some k → (last_below f n ≡ some k → (k < n) × (f k ≡ true)) → (k < suc n) × (f k ≡ true)
+      go : (p : Bool) → f n ≡ p → first_or p n (last_below f n) ≡ Some k → (last_below f n ≡ Some k → (k < n) × (f k ≡ true)) → (k < suc n) × (f k ≡ true)
       go true h g ih = let q : n ≡ k = cc in (omega arith, ap f (sym q) ∙ h)
       go false h g ih = let r = ih g in let l = r.0 in (omega arith, r.1)
 

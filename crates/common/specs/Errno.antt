@@ -1,10 +1,7 @@
 -- Document 01, "Numbers handed back".
-use Rattle.std.proofs.Math.Option.{Option, none, some}
-use Rattle.std.specs.Prelude.{ℕ}
+use Rattle.std.specs.Prelude.{ℕ, Option, None, Some}
 use Rattle.common.specs.declared.errno.Errno.{Errno}
 use Rattle.common.specs.declared.errno.Errno.TheVariants.{Perm, NoEnt, TooBig, NoMem, Access, Busy, Invalid, BadLine, NoSpace, Domain}
-use Rattle.common.specs.declared.errno.Carried.{Carried}
-use Rattle.common.specs.declared.errno.Carried.TheVariants.{Number, Nothing}
 
 -- a refusal's number
 abbrev pub errno_number : Errno → ℕ
@@ -21,18 +18,13 @@ errno_number Domain = 33
 
 -- the one more number, which only 7 and the table's 22 carry
 abbrev pub detail_of : Errno → Option ℕ
-detail_of Perm = none
-detail_of NoEnt = none
-detail_of (TooBig length) = some length
-detail_of NoMem = none
-detail_of Access = none
-detail_of Busy = none
-detail_of Invalid = none
-detail_of (BadLine line) = some line
-detail_of NoSpace = none
-detail_of Domain = none
-
--- what the enum Carried says
-abbrev pub carried_of : Carried → Option ℕ
-carried_of (Number n) = some n
-carried_of Nothing = none
+detail_of Perm = None
+detail_of NoEnt = None
+detail_of (TooBig length) = Some length
+detail_of NoMem = None
+detail_of Access = None
+detail_of Busy = None
+detail_of Invalid = None
+detail_of (BadLine line) = Some line
+detail_of NoSpace = None
+detail_of Domain = None

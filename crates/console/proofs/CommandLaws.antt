@@ -1,53 +1,55 @@
 -- Fields and the numbers in them, as a loop over a line's body meets them; and the word of a command that was read.
-use mathlib.Core.Bool.{Bool, true, false, cond, true≢false}
+use mathlib.Core.Bool.{Bool, true, false, cond}
 use mathlib.Core.List.{List, [], ◌∷◌, ◌++◌, append_assoc, append-nil}
-use mathlib.Core.Option.{Option, none, some}
+use Rattle.std.specs.Prelude.{Option, None, Some}
+use Rattle.std.specs.List.{slice_split}
 use mathlib.Core.Path.{◌≡◌, refl, sym, ap, ◌∙◌}
 use Prim.Native.Nat.{ℕ, suc, ◌+◌, ◌-◌, ◌≤◌, ◌<◌}
 use native.Mathlib.Numerals.{add-one}
 use native.Mathlib.Omega.{arith}
-use lib.Dec.{leb}
-use lib.ListN.{drop, length, replicate, set, take, drop_of_length-le, length-append, length-take, take-append-drop}
+use lib.Dec.{eqb, leb}
+use lib.ListN.{drop, get_or, length, replicate, set, take, drop_of_length-le, length-append, length-take, take-append-drop}
 use lib.Seq.{drop-cons, drop-drop, drop-set-lt, length-take-le, take-suc-set, take-take}
 use borrow.Author.Tests.{eq-eqb, le-leb, lt-leb, ne_eqb}
-use Rattle.octets.specs.Bytes.{FirstIndex, blank, index_of, lf}
-use Rattle.octets.proofs.ByteLaws.{fields_from, index_le, split_first}
-use Rattle.console.specs.Command.{body_command_of, before_lf, command_of, cons_of, ended_of, invalid_command, most, field_number, numbers_of, of_numbers, with_numbers, command_word}
-use Rattle.console.specs.Internal.Numbers.{number_read_of}
+use Rattle.octets.specs.Bytes.{FirstIndex, blank, index_of, lf, other_fields, split}
+use Rattle.octets.proofs.ByteLaws.{index_le, split_first, split_is}
+use Rattle.console.specs.Command.{body_command_of, before_lf, command_of, cons_of, ended_of, most, field_number, numbers_of, of_numbers, with_numbers, command_word}
 use Rattle.console.specs.declared.command.Command.{Command}
-use Rattle.console.specs.declared.command.Number.{Number}
-use Rattle.console.specs.declared.command.Number.TheVariants.{Value, Bad}
-
--- the bytes before a byte that is looked for
-pub before_found : (b : ℕ) (xs : List ℕ) (r : ℕ) → FirstIndex b xs r → r ≡ length (take r xs)
-before_found b xs r f = sym (length-take-le r xs f.within)
 
 -- the numbers ns before others, if there are others
 abbrev pub after : List ℕ → Option (List ℕ) → Option (List ℕ)
-after ns none = none
-after ns (some ms) = some (ns ++ ms)
+after ns None = None
+after ns (Some ms) = Some (ns ++ ms)
 
 after_nil : (o : Option (List ℕ)) → after [] o ≡ o
-after_nil none = refl
-after_nil (some ns) = refl
+after_nil None = refl
+after_nil (Some ns) = refl
 
-after_cons : (ns : List ℕ) (v : ℕ) (o : Option (List ℕ)) → after ns (cons_of (some v) o) ≡ after (ns ++ (v ∷ [])) o
-after_cons ns v none = refl
-after_cons ns v (some ms) = ap some (sym (append_assoc ns (v ∷ []) ms))
+after_cons : (ns : List ℕ) (v : ℕ) (o : Option (List ℕ)) → after ns (cons_of (Some v) o) ≡ after (ns ++ (v ∷ [])) o
+after_cons ns v None = refl
+after_cons ns v (Some ms) = ap Some (sym (append_assoc ns (v ∷ []) ms))
 
-too_many : (w : ℕ) (ns : List ℕ) (n : Option ℕ) (o : Option (List ℕ)) → length ns ≡ most → of_numbers w (after ns (cons_of n o)) ≡ invalid_command
-too_many w ns none o h = refl
-too_many w ns (some n) none h = refl
-too_many w ns (some n) (some ms) h =
+too_many : (w : ℕ) (ns : List ℕ) (n : Option ℕ) (o : Option (List ℕ)) → length ns ≡ most → of_numbers w (after ns (cons_of n o)) ≡ None
+too_many w ns None o h = refl
+too_many w ns (Some n) None h = refl
+too_many w ns (Some n) (Some ms) h =
     let l : leb (length (ns ++ n ∷ ms)) most ≡ false = lt-leb (length (ns ++ n ∷ ms)) most (omega (arith, length-append ns (n ∷ ms))) in rw l
 
--- the command with a word of w bytes whose numbers so far are ns, where the other fields begin in the bytes xs
-abbrev pub command_from : ℕ → List ℕ → List ℕ → Command
-command_from w ns xs = of_numbers w (after ns (numbers_of (fields_from blank xs)))
+-- the fields behind the word, as the library's `split` gives them
+abbrev pub fields_of : List ℕ → List (List ℕ)
+fields_of body = drop 1 (slice_split (λ b. eqb b blank) body)
 
-pub body_start : (body : List ℕ) → body_command_of body ≡ command_from (index_of blank body) [] (drop (index_of blank body) body)
+others : (fs : List (List ℕ)) → other_fields fs ≡ drop 1 fs
+others [] = refl
+others (f ∷ fs) = refl
+
+-- the command with a word of w bytes whose numbers so far are ns, where the other fields are fs
+abbrev pub command_from : ℕ → List ℕ → List (List ℕ) → Option Command
+command_from w ns fs = of_numbers w (after ns (numbers_of fs))
+
+pub body_start : (body : List ℕ) → body_command_of body ≡ command_from (index_of blank body) [] (fields_of body)
 unfolding body_command_of
-body_start body = rw (split_first blank body, after_nil)
+body_start body = rw (others (split blank body), ← split_is blank body, after_nil)
 
 -- the zeros past the count after one more number
 pub zeros_next : (numbers : List ℕ) (count n : ℕ) → count < most → drop count numbers ≡ replicate (most - count) 0 → drop (count + 1) (set numbers count n) ≡ replicate (most - (count + 1)) 0
@@ -55,57 +57,66 @@ zeros_next numbers count n h e =
     let k : most - count ≡ suc (most - (count + 1)) = omega arith in
     drop-set-lt (count + 1) numbers count n (omega arith) ∙ sym (drop-drop 1 count numbers) ∙ rw (e, k)
 
--- a loop over the fields: count numbers are read, and the other fields begin at index at
-module _ (body : List ℕ) (word at : ℕ) (numbers : List ℕ) (count : ℕ) (so_far : body_command_of body ≡ command_from word (take count numbers) (drop at body)) where
-  -- the field behind the blank at index at: xs are the bytes from there on, n of them before the next blank
-  module _ (h : at < length body) (xs : List ℕ) (n : ℕ) (bytes : xs ≡ drop (at + 1) body) (index : n ≡ index_of blank xs) where
-    one_field : body_command_of body ≡ of_numbers word (after (take count numbers) (cons_of (field_number (take n xs)) (numbers_of (fields_from blank (drop n xs)))))
+-- a loop over the fields fs: count of them are read as numbers, and make with the others the command o
+module _ (o : Option Command) (word : ℕ) (fs : List (List ℕ)) (numbers : List ℕ) (count : ℕ) (so_far : o ≡ command_from word (take count numbers) (drop count fs)) where
+  -- the next field
+  module _ (f : List ℕ) (h : count < length fs) (at : f ≡ get_or fs count f) where
+    one_field : o ≡ of_numbers word (after (take count numbers) (cons_of (field_number f) (numbers_of (drop (suc count) fs))))
     unfolding numbers_of
-    one_field = so_far ∙ rw (drop-cons body at 0 h, ← add-one at, ← bytes, split_first blank xs, ← index)
+    one_field = so_far ∙ rw (drop-cons fs count f h, ← at)
 
-    module _ (o : Number) (read : number_read_of o ≡ field_number (take n xs)) where
-      pub body_bad : (c : Command) → o ≡ Bad → c ≡ invalid_command → c ≡ body_command_of body
-      body_bad c e i = i ∙ sym (one_field ∙ rw (← read, e))
+    pub body_bad : field_number f ≡ None → None ≡ o
+    body_bad e = sym (one_field ∙ rw e)
 
-      pub body_next : (v : ℕ) → o ≡ Value v → count < length numbers → body_command_of body ≡ command_from word (take (count + 1) (set numbers count v)) (drop (at + 1 + n) body)
-      body_next v e l =
-          let t : take (count + 1) (set numbers count v) ≡ take count numbers ++ (v ∷ []) = rw (add-one) (take-suc-set numbers count v l) in
-          one_field ∙ rw (← read, e, after_cons (take count numbers) v, t, ← drop-drop n (at + 1) body, ← bytes)
+    pub body_next : (v : ℕ) → field_number f ≡ Some v → count < length numbers → o ≡ command_from word (take (count + 1) (set numbers count v)) (drop (count + 1) fs)
+    body_next v e l =
+        let t : take (count + 1) (set numbers count v) ≡ take count numbers ++ (v ∷ []) = rw (add-one) (take-suc-set numbers count v l) in
+        one_field ∙ rw (e, after_cons (take count numbers) v, t, add-one)
 
-  pub body_full : (c : Command) → at < length body → count ≡ most → length numbers ≡ most → c ≡ invalid_command → c ≡ body_command_of body
-  body_full c h k l i =
-      let xs = drop (at + 1) body in
-      let n = index_of blank xs in
-      let e = length-take-le count numbers (omega arith) in
-      i ∙ sym (one_field h xs n refl refl ∙ too_many word (take count numbers) (field_number (take n xs)) (numbers_of (fields_from blank (drop n xs))) (omega arith))
+    pub body_full : count ≡ most → length numbers ≡ most → None ≡ o
+    body_full k l =
+        let e = length-take-le count numbers (omega arith) in
+        sym (one_field ∙ too_many word (take count numbers) (field_number f) (numbers_of (drop (suc count) fs)) (omega arith))
 
-  pub body_end : length body ≤ at → length numbers ≡ most → count ≤ most → drop count numbers ≡ replicate (most - count) 0
-      → record { valid = true; word = word; count = count; numbers = numbers } ≡ body_command_of body
+  pub body_end : count ≡ length fs → length numbers ≡ most → count ≤ most → drop count numbers ≡ replicate (most - count) 0
+      → Some (record { word = word; count = count; numbers = numbers }) ≡ o
   unfolding numbers_of
   body_end h l m z =
       let e : length (take count numbers) ≡ count = length-take-le count numbers (omega arith) in
       let w : take count numbers ++ replicate (most - count) 0 ≡ numbers = rw (← z) (take-append-drop count numbers) in
-      sym (so_far ∙ rw (drop_of_length-le body h, append-nil, e, le-leb count most m, w))
+      let none : drop count fs ≡ [] = drop_of_length-le fs (omega arith) in
+      sym (so_far ∙ rw (none, append-nil, e, le-leb count most m, w))
 
 -- the line's first LF, and whether it is the last byte
-module _ (line : List ℕ) (end : ℕ) (c : Command) (e : FirstIndex lf line end) where
+module _ (line : List ℕ) (end : ℕ) (c : Option Command) (e : FirstIndex lf line end) where
   pub line_ended : end + 1 ≡ length line → c ≡ body_command_of (take end line) → c ≡ command_of line
   unfolding command_of ended_of before_lf
   line_ended h r = rw (← e.index, eq-eqb (end + 1) (length line) h) r
 
-  pub line_invalid : (end + 1 ≡ length line → ⊥) → c ≡ invalid_command → c ≡ command_of line
+  pub line_invalid : (end + 1 ≡ length line → ⊥) → c ≡ None → c ≡ command_of line
   unfolding command_of ended_of
   line_invalid h r = rw (← e.index, ne_eqb (end + 1) (length line) h) r
 
 -- ---- the word of a command that was read
 
-word_kept : (w : ℕ) (o : Option (List ℕ)) → (of_numbers w o).valid ≡ true → (of_numbers w o).word ≡ w
-word_kept w none e = absurd (true≢false (sym e))
-word_kept w (some ns) e = pick (leb (length ns) most) e
+word_kept : (w : ℕ) (o : Option (List ℕ)) (c : Command) → of_numbers w o ≡ Some c → c.word ≡ w
+word_kept w None c e = cc
+word_kept w (Some ns) c e = pick (leb (length ns) most) e
   where
-    pick : (b : Bool) → (cond b (with_numbers w ns) invalid_command).valid ≡ true → (cond b (with_numbers w ns) invalid_command).word ≡ w
-    pick true e = refl
-    pick false e = absurd (true≢false (sym e))
+    pick : (b : Bool) → cond b (Some (with_numbers w ns)) None ≡ Some c → c.word ≡ w
+    pick true e = let d : with_numbers w ns ≡ c = cc in ap (λ (k : Command). k.word) (sym d)
+    pick false e = cc
+
+count_kept : (w : ℕ) (o : Option (List ℕ)) (c : Command) → of_numbers w o ≡ Some c → length (take c.count c.numbers) ≡ c.count
+count_kept w None c e = cc
+count_kept w (Some ns) c e = pick (leb (length ns) most) e
+  where
+    pick : (b : Bool) → cond b (Some (with_numbers w ns)) None ≡ Some c → length (take c.count c.numbers) ≡ c.count
+    pick true e =
+        let d : with_numbers w ns ≡ c = cc in
+        let n = length-append ns (replicate (most - length ns) 0) in
+        rw (← d) (length-take-le (length ns) (ns ++ replicate (most - length ns) 0) (omega arith))
+    pick false e = cc
 
 -- the bytes up to the first blank of a line's body
 first_field : (line : List ℕ) → take (index_of blank (before_lf line)) line ≡ command_word line
@@ -117,10 +128,20 @@ first_field line =
     let l = length-take (index_of lf line) line in
     sym (rw (split_first blank body) (take-take n (index_of lf line) line (omega arith)))
 
-pub command_word_lem : (line : List ℕ) → (command_of line).valid ≡ true → take (command_of line).word line ≡ command_word line
-unfolding command_of body_command_of
-command_word_lem line e = pick (ended_of line) e
-  where
-    pick : (b : Bool) → (cond b (body_command_of (before_lf line)) invalid_command).valid ≡ true → take (cond b (body_command_of (before_lf line)) invalid_command).word line ≡ command_word line
-    pick true e = rw (word_kept (index_of blank (before_lf line)) _ e) (first_field line)
-    pick false e = absurd (true≢false (sym e))
+module _ (line : List ℕ) (c : Command) where
+  numbers_made : command_of line ≡ Some c → (o : Option (List ℕ)) × (of_numbers (index_of blank (before_lf line)) o ≡ Some c)
+  unfolding command_of body_command_of
+  numbers_made e = pick (ended_of line) e
+    where
+      pick : (b : Bool) → cond b (body_command_of (before_lf line)) None ≡ Some c → (o : Option (List ℕ)) × (of_numbers (index_of blank (before_lf line)) o ≡ Some c)
+      pick true e = (numbers_of (other_fields (split blank (before_lf line))), e)
+      pick false e = cc
+
+  pub command_word_lem : command_of line ≡ Some c → take c.word line ≡ command_word line
+  command_word_lem e =
+      let m = numbers_made e in
+      ap (λ (n : ℕ). take n line) (word_kept (index_of blank (before_lf line)) m.0 c m.1) ∙ first_field line
+
+  -- the numbers are as many as the count says
+  pub command_count : command_of line ≡ Some c → length (take c.count c.numbers) ≡ c.count
+  command_count e = let m = numbers_made e in count_kept (index_of blank (before_lf line)) m.0 c m.1

@@ -1,7 +1,7 @@
 -- Decimal digits: that reading them back gives the number, that there is no leading zero, and how many there are.
 use mathlib.Core.Bool.{Bool, true, false, cond}
 use mathlib.Core.List.{List, [], ◌∷◌, ◌++◌}
-use mathlib.Core.Option.{some}
+use Rattle.std.specs.Prelude.{Some}
 use mathlib.Core.Path.{◌≡◌, refl, sym, ap, ◌∙◌}
 use Prim.Native.Nat.{ℕ, zero, suc, ◌+◌, ◌*◌, ◌/◌, ◌%◌, ◌^◌, ◌≤◌, ◌<◌}
 use native.Mathlib.Nat.{pow-suc}
@@ -78,6 +78,10 @@ decimal_digits = by_digits (λ (n : ℕ). digits (decimal_of n) ≡ true) one mo
     more : (n : ℕ) → 10 ≤ n → digits (decimal_of (n / 10)) ≡ true → digits (decimal_of n) ≡ true
     more n h ih = rw (decimal_more n h) (digits_append (decimal_of (n / 10)) (digit (n % 10) ∷ []) ih (last (n % 10) (omega arith)))
 
+pow_pos : (k : ℕ) → 0 < 10 ^ k
+pow_pos zero = omega arith
+pow_pos (suc k) = let p : 10 ^ suc k ≡ 10 ^ k * 10 = pow-suc 10 k in let i = pow_pos k in omega arith
+
 -- how many there are
 pub length_one : (n : ℕ) → n < 10 → length (decimal_of n) ≡ 1
 length_one n h = rw (decimal_one n h)
@@ -103,6 +107,24 @@ decimal_length = by_digits (λ (n : ℕ). (k : ℕ) → n < 10 ^ suc k → lengt
         let p : 10 ^ suc (suc k) ≡ 10 ^ suc k * 10 = pow-suc 10 (suc k) in
         let i = ih k (omega arith) in omega arith
 
+-- n from 10 ^ k on, and below 10 ^ (k + 1), has k + 1
+pub length_by_power : (n k : ℕ) → 10 ^ k ≤ n → n < 10 * 10 ^ k → length (decimal_of n) ≡ k + 1
+length_by_power = by_digits (λ (n : ℕ). (k : ℕ) → 10 ^ k ≤ n → n < 10 * 10 ^ k → length (decimal_of n) ≡ k + 1) one more
+  where
+    one : (n : ℕ) → n < 10 → (k : ℕ) → 10 ^ k ≤ n → n < 10 * 10 ^ k → length (decimal_of n) ≡ k + 1
+    one n h zero l m = length_one n h
+    one n h (suc k) l m =
+        let p : 10 ^ suc k ≡ 10 ^ k * 10 = pow-suc 10 k in
+        let q : 0 < 10 ^ k = pow_pos k in absurd (omega arith)
+
+    more : (n : ℕ) → 10 ≤ n → ((k : ℕ) → 10 ^ k ≤ n / 10 → n / 10 < 10 * 10 ^ k → length (decimal_of (n / 10)) ≡ k + 1) → (k : ℕ) → 10 ^ k ≤ n → n < 10 * 10 ^ k
+        → length (decimal_of n) ≡ k + 1
+    more n h ih zero l m = absurd (omega arith)
+    more n h ih (suc k) l m =
+        let e = length_more n h in
+        let p : 10 ^ suc k ≡ 10 ^ k * 10 = pow-suc 10 k in
+        let i = ih k (omega arith) (omega arith) in omega arith
+
 -- no leading zero: the first digit is 0 only in the number 0
 pub decimal_first : (n : ℕ) → get_or (decimal_of n) 0 0 ≡ digit 0 → n ≡ 0
 decimal_first = by_digits (λ (n : ℕ). get_or (decimal_of n) 0 0 ≡ digit 0 → n ≡ 0) one more
@@ -117,7 +139,7 @@ decimal_first = by_digits (λ (n : ℕ). get_or (decimal_of n) 0 0 ≡ digit 0 �
         let g = ih (sym f ∙ e) in absurd (omega arith)
 
 -- what is printed is read as the number that it was
-pub decimal_read : (n : ℕ) → n < 2 ^ 64 → field_number (decimal_of n) ≡ some n
+pub decimal_read : (n : ℕ) → n < 2 ^ 64 → field_number (decimal_of n) ≡ Some n
 unfolding number_from
 decimal_read n h =
     let s = decimal_some n in

@@ -1,16 +1,17 @@
 -- Digits that are read, one at a time.
+use Rattle.std.specs.Char.{is_ascii_digit}
 use mathlib.Core.Bool.{true, false, cond, ◌&&◌, and-false}
 use mathlib.Core.List.{List, [], ◌∷◌, ◌++◌}
-use mathlib.Core.Option.{Option, none, some}
+use Rattle.std.specs.Prelude.{Option, None, Some}
 use mathlib.Core.Path.{◌≡◌, refl, sym, ◌∙◌}
 use Prim.Native.Nat.{ℕ, suc, ◌+◌, ◌-◌, ◌*◌, ◌^◌, ◌≤◌, ◌<◌}
 use native.Mathlib.Nat.{pos_of_ne-zero}
 use native.Mathlib.Numerals.{add-one}
 use native.Mathlib.Omega.{arith}
-use lib.Dec.{leb, ltb}
+use lib.Dec.{eqb, leb, ltb}
 use lib.ListN.{drop, get_or, length, drop_of_length-le}
 use lib.Seq.{drop-cons}
-use borrow.Author.Tests.{le-leb, le-ltb, lt-leb, lt-ltb}
+use borrow.Author.Tests.{eqb-true, le-ltb, lt-ltb}
 use Rattle.common.proofs.BoolLaws.{both, first_true, second_true}
 use Rattle.console.specs.Command.{digits, field_number, decimal_from}
 
@@ -36,30 +37,26 @@ value_grows v (b ∷ bs) = let h = value_grows (v * 10 + (b - 48)) bs in omega a
 
 -- what the digits bs make of it
 unfoldable pub number_from : ℕ → List ℕ → Option ℕ
-number_from v bs = cond (digits bs && ltb (decimal_from v bs) (2 ^ 64)) (some (decimal_from v bs)) none
+number_from v bs = cond (digits bs && ltb (decimal_from v bs) (2 ^ 64)) (Some (decimal_from v bs)) None
 
-pub number_large : (v : ℕ) (bs : List ℕ) → 2 ^ 64 ≤ v → number_from v bs ≡ none
+pub number_large : (v : ℕ) (bs : List ℕ) → 2 ^ 64 ≤ v → number_from v bs ≡ None
 unfolding number_from
 number_large v bs h =
     let g = value_grows v bs in
     let l : ltb (decimal_from v bs) (2 ^ 64) ≡ false = le-ltb (decimal_from v bs) (2 ^ 64) (omega arith) in rw (l, and-false)
 
 module _ (v b : ℕ) (bs : List ℕ) where
-  first_digit : 48 ≤ b → b ≤ 57 → number_from v (b ∷ bs) ≡ number_from (v * 10 + (b - 48)) bs
+  first_digit : (leb 48 b && leb b 57) ≡ true → number_from v (b ∷ bs) ≡ number_from (v * 10 + (b - 48)) bs
   unfolding number_from digits decimal_from
-  first_digit h l = rw (le-leb 48 b h, le-leb b 57 l)
+  first_digit h = rw h
 
-  first_low : b < 48 → number_from v (b ∷ bs) ≡ none
+  first_bad : (leb 48 b && leb b 57) ≡ false → number_from v (b ∷ bs) ≡ None
   unfolding number_from digits
-  first_low h = rw (lt-leb 48 b h)
+  first_bad h = rw h
 
-  first_high : 57 < b → number_from v (b ∷ bs) ≡ none
-  unfolding number_from digits
-  first_high h = rw (lt-leb b 57 h, and-false)
-
-pub number_none : (text : List ℕ) → length text ≡ 0 → none ≡ field_number text
+pub number_none : (text : List ℕ) → true ≡ eqb (length text) 0 → None ≡ field_number text
 unfolding field_number
-number_none text h = rw h
+number_none text h = rw (eqb-true (length text) 0 (sym h))
 
 pub number_start : (text : List ℕ) → (length text ≡ 0 → ⊥) → field_number text ≡ number_from 0 text
 unfolding field_number number_from
@@ -68,15 +65,15 @@ number_start text h = rw (lt-ltb 0 (length text) (pos_of_ne-zero h))
 -- a loop that reads text from the front: v are the digits before index i
 module _ (text : List ℕ) (v i : ℕ) (so_far : field_number text ≡ number_from v (drop i text)) where
   module _ (h : i < length text) where
-    pub number_pass : 48 ≤ get_or text i 0 → get_or text i 0 ≤ 57 → field_number text ≡ number_from (v * 10 + (get_or text i 0 - 48)) (drop (i + 1) text)
-    number_pass l m = so_far ∙ rw (add-one, drop-cons text i 0 h) (first_digit v (get_or text i 0) (drop (suc i) text) l m)
+    pub number_bad : false ≡ is_ascii_digit (get_or text i 0) → None ≡ field_number text
+    number_bad l = sym (so_far ∙ rw (drop-cons text i 0 h) (first_bad v (get_or text i 0) (drop (suc i) text) (sym l)))
 
-    pub number_low : get_or text i 0 < 48 → none ≡ field_number text
-    number_low l = sym (so_far ∙ rw (drop-cons text i 0 h) (first_low v (get_or text i 0) (drop (suc i) text) l))
+    pub number_pass : true ≡ is_ascii_digit (get_or text i 0) → field_number text ≡ number_from (v * 10 + (get_or text i 0 - 48)) (drop (i + 1) text)
+    number_pass l = so_far ∙ rw (add-one, drop-cons text i 0 h) (first_digit v (get_or text i 0) (drop (suc i) text) (sym l))
 
-    pub number_high : 57 < get_or text i 0 → none ≡ field_number text
-    number_high l = sym (so_far ∙ rw (drop-cons text i 0 h) (first_high v (get_or text i 0) (drop (suc i) text) l))
+    pub number_over : true ≡ is_ascii_digit (get_or text i 0) → 2 ^ 64 ≤ v * 10 + (get_or text i 0 - 48) → None ≡ field_number text
+    number_over l m = sym (number_pass l ∙ number_large _ _ m)
 
-  pub number_end : length text ≤ i → v < 2 ^ 64 → some v ≡ field_number text
+  pub number_end : length text ≤ i → v < 2 ^ 64 → Some v ≡ field_number text
   unfolding number_from digits decimal_from
   number_end h l = sym (so_far ∙ rw (drop_of_length-le text h, lt-ltb v (2 ^ 64) l))

@@ -1,6 +1,5 @@
 -- What is printed.
-use Rattle.std.specs.Prelude.{cond, List, [], ◌∷◌, ◌++◌, ℕ, zero, suc, ◌+◌, ◌/◌, ◌%◌, ltb}
-use Rattle.std.proofs.Math.Option.{Option, none, some}
+use Rattle.std.specs.Prelude.{cond, List, [], ◌∷◌, ◌++◌, ℕ, zero, suc, ◌+◌, ◌/◌, ◌%◌, ltb, Option, None, Some}
 use Rattle.common.specs.Errno.{detail_of, errno_number}
 use Rattle.common.specs.declared.errno.Errno.{Errno}
 use Rattle.octets.specs.Bytes.{ascii, blank, lf}
@@ -27,8 +26,8 @@ error_word = ascii "error "
 
 -- a blank and the one more number that a refusal may carry
 unfoldable pub carried_text : Option ℕ → List ℕ
-carried_text none = []
-carried_text (some n) = blank ∷ decimal_of n
+carried_text None = []
+carried_text (Some n) = blank ∷ decimal_of n
 
 -- `error N` or `error N M`, and LF
 unfoldable pub refusal_text : ℕ → Option ℕ → List ℕ

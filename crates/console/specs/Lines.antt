@@ -1,46 +1,46 @@
 -- Lines out of chunks.
-use Rattle.std.specs.Prelude.{Bool, true, false, not, ◌&&◌, ◌||◌, cond, List, ◌≡◌, ℕ, ◌+◌, ◌≤◌, max, min, leb, ltb, drop, length, take}
+use Rattle.std.specs.Prelude.{Bool, true, false, cond, List, ◌≡◌, ℕ, ◌+◌, ◌≤◌, max, min, leb, ltb, drop, length, take}
 use Rattle.octets.specs.Bytes.{index_of, lf, put_at}
 use Rattle.octets.specs.Lines.{first_ends, first_line}
 use Rattle.console.specs.declared.lines.Line.{Line}
 use Rattle.console.specs.declared.lines.Line.TheVariants.{More, Whole, Bad}
 use Rattle.console.specs.declared.lines.Partial.{Partial}
+use Rattle.console.specs.declared.lines.Partial.TheVariants.{Held, Skipped}
 use Rattle.console.specs.declared.lines.Piece.{Piece}
-
--- the first n bytes of a line are held
-abbrev pub held : ℕ → Partial
-held n = record { length = n; long = false }
-
--- the line does not fit: it is skipped to its LF
-abbrev pub skipped : Partial
-skipped = record { length = 0; long = true }
 
 abbrev pub piece : ℕ → Partial → Line → Piece
 piece next p l = record { next = next; partial = p; line = l }
 
--- whether n more bytes of the line and an LF fit in a buffer of size bytes
+-- how many bytes are held
+abbrev pub held_length : Partial → ℕ
+held_length (Held k) = k
+held_length Skipped = 0
+
+-- whether n more bytes of the line and an LF fit in a buffer of size bytes: of a line that is skipped none do
 unfoldable pub fits_of : Partial → ℕ → ℕ → Bool
-fits_of p n size = not p.long && leb (p.length + (n + 1)) size
+fits_of (Held k) n size = leb (k + (n + 1)) size
+fits_of Skipped n size = false
 
 -- by whether the line ends in the chunk, and whether it fits: next is the chunk's index and n the line's length, both before the LF
 abbrev pub piece_by : Bool → Bool → ℕ → ℕ → Piece
-piece_by true true next n = piece (next + 1) (held 0) (Whole (n + 1))
-piece_by true false next n = piece (next + 1) (held 0) Bad
-piece_by false true next n = piece next (held n) More
-piece_by false false next n = piece next skipped More
+piece_by true true next n = piece (next + 1) (Held 0) (Whole (n + 1))
+piece_by true false next n = piece (next + 1) (Held 0) Bad
+piece_by false true next n = piece next (Held n) More
+piece_by false false next n = piece next Skipped More
 
 -- what the bytes `rest`, which stand in the chunk from index `from` on, make of the line that p holds
 unfoldable pub piece_of : List ℕ → ℕ → ℕ → Partial → Piece
 piece_of rest from size p =
-    piece_by (first_ends rest) (fits_of p (index_of lf rest) size) (from + index_of lf rest) (p.length + index_of lf rest)
+    piece_by (first_ends rest) (fits_of p (index_of lf rest) size) (from + index_of lf rest) (held_length p + index_of lf rest)
 
 -- the buffer then: where it fits, the first line of `rest`, or what there is of it, is put behind what is held
 unfoldable pub piece_buffer : List ℕ → List ℕ → Partial → List ℕ
-piece_buffer rest buffer p = cond (fits_of p (index_of lf rest) (length buffer)) (put_at buffer p.length (first_line rest)) buffer
+piece_buffer rest buffer p = cond (fits_of p (index_of lf rest) (length buffer)) (put_at buffer (held_length p) (first_line rest)) buffer
 
 -- at the end of the input, a line with no LF is bad
 abbrev pub line_at_end : Partial → Line
-line_at_end p = cond (p.long || ltb 0 p.length) Bad More
+line_at_end (Held k) = cond (ltb 0 k) Bad More
+line_at_end Skipped = Bad
 
 -- r and the buffer `after` are what `take` makes. The rest follows, and is stated for callers: next is past `from` and no further than the end
 -- of the chunk, unless `from` is not in it, and a whole line is within the buffer

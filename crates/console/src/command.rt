@@ -1,119 +1,85 @@
 // Command lines: a word and numbers, one blank between, and LF.
-ghost use Rattle.std.specs.Prelude.{◌≡◌};
-ghost use Rattle.console.specs.Command.{body_command_of, command_of, invalid_command, field_number, skipped_of};
-ghost use Rattle.console.specs.Internal.Numbers.{number_read_of};
+ghost use Rattle.std.specs.Prelude.{◌≡◌, take};
+ghost use Rattle.console.specs.Command.{body_command_of, command_of, field_number, skipped_of};
 
 use octets::{BLANK, LF};
 
 // How many numbers a command has at most.
 pub const MAX_NUMBERS: usize = 6;
 
-// The word of a command line, which is so many bytes at the line's front, and its numbers. The numbers past count are zeros; where the line is not valid,
-// word and count are 0.
+// The word of a command line, which is so many bytes at the line's front, and its numbers. The numbers past count are zeros: there is an array and a
+// count, since no memory is allocated.
 #[derive(Clone, Copy)]
 pub struct Command {
-    pub valid: bool,
     pub word: usize,
     pub count: usize,
     pub numbers: [u64; MAX_NUMBERS],
 }
 
-// The largest number that a field can be.
-const LARGEST: u64 = 18446744073709551615;
-
-// What a field is.
-#[derive(Clone, Copy)]
-enum Number {
-    Value(u64),
-    Bad,
-}
-
-fn invalid() -> Command
-    ensures { result ≡ invalid_command }
-{
-    let numbers = [0u64; MAX_NUMBERS];
-    Command {
-        valid: false,
-        word: 0,
-        count: 0,
-        numbers,
+impl Command {
+    // The numbers that the command has.
+    pub fn numbers(&self) -> &[u64]
+        ensures { result.now ≡ take self.now.count self.now.numbers }
+    {
+        &self.numbers[..self.count.min(MAX_NUMBERS)]
     }
 }
 
 // One or more decimal digits, with a value below 2^64.
-fn read_number(text: &[u8]) -> Number
-    ensures { number_read_of result ≡ field_number text.now }
+fn read_number(text: &[u8]) -> Option<u64>
+    ensures { result ≡ field_number text.now }
 {
-    if text.len() == 0 {
-        return Number::Bad;
+    if text.is_empty() {
+        return None;
     }
     let mut value: u64 = 0;
-    let mut i = 0;
-    while i < text.len() {
-        let b = text[i];
-        if b < b'0' {
-            return Number::Bad;
+    for b in text {
+        if !b.is_ascii_digit() {
+            return None;
         }
-        if b'9' < b {
-            return Number::Bad;
-        }
-        let d = (b - b'0') as u64;
-        if value > (LARGEST - d) / 10 {
-            return Number::Bad;
-        }
-        value = value * 10 + d;
-        i += 1;
+        value = value.checked_mul(10)?.checked_add((*b - b'0') as u64)?;
     }
-    Number::Value(value)
+    Some(value)
 }
 
 // The word up to the first blank, and the numbers after it.
-fn parse_body(body: &[u8]) -> Command
+fn parse_body(body: &[u8]) -> Option<Command>
     ensures { result ≡ body_command_of body.now }
 {
     let word = octets::index_of(BLANK, body);
-    let mut at = word;
     let mut count = 0;
     let mut numbers = [0u64; MAX_NUMBERS];
-    while at < body.len() {
+    for field in body.split(|b| *b == BLANK).skip(1) {
         if count == MAX_NUMBERS {
-            return invalid();
+            return None;
         }
-        let rest = octets::rest(body, at + 1);
-        let n = octets::index_of(BLANK, rest);
-        let Number::Value(value) = read_number(&rest[..n]) else {
-            return invalid();
-        };
-        numbers[count] = value;
+        numbers[count] = read_number(field)?;
         count += 1;
-        at = at + 1 + n;
     }
-    Command {
-        valid: true,
+    Some(Command {
         word,
         count,
         numbers,
-    }
+    })
 }
 
 // Reads a command line.
-pub fn parse(line: &[u8]) -> Command
+pub fn parse(line: &[u8]) -> Option<Command>
     ensures { result ≡ command_of line.now }
 {
     let end = octets::index_of(LF, line);
-    if end + 1 == line.len() {
-        return parse_body(&line[..end]);
+    if end + 1 != line.len() {
+        return None;
     }
-    invalid()
+    parse_body(&line[..end])
 }
 
 // Whether a line between requests gets no answer: an empty line or a comment. A bad line, which comes as no bytes at all, gets one.
 pub fn is_skipped(line: &[u8]) -> bool
     ensures { result ≡ skipped_of line.now }
 {
-    if line.len() == 0 {
-        return false;
+    match line.first() {
+        Some(first) => (*first == LF) | (*first == b'#'),
+        None => false,
     }
-    let first = line[0];
-    (first == LF) | (first == b'#')
 }

@@ -1,7 +1,9 @@
 // Lines out of chunks: a line is kept in a lent buffer until its LF comes. A line that does not fit with its LF is skipped to its LF, and is
 // answered as one bad line.
 ghost use Rattle.std.specs.Prelude.{◌≡◌};
-ghost use Rattle.console.specs.Lines.{Taken, held, line_at_end, piece};
+ghost use Rattle.console.specs.declared.lines.Partial.TheVariants.{Held};
+ghost use Rattle.console.specs.Lines.{Taken, line_at_end};
+ghost use Rattle.console.specs.Internal.Place.{place_of};
 
 use octets::LF;
 
@@ -18,11 +20,11 @@ pub enum Line {
 
 // What is held of a line between chunks.
 #[derive(Clone, Copy)]
-pub struct Partial {
-    // How many bytes stand at the front of the buffer.
-    pub length: usize,
+pub enum Partial {
+    // That many bytes, at the front of the buffer.
+    Held(usize),
     // The line does not fit: its other bytes are skipped.
-    pub long: bool,
+    Skipped,
 }
 
 #[derive(Clone, Copy)]
@@ -33,67 +35,70 @@ pub struct Piece {
     pub line: Line,
 }
 
-// The first bytes of a line are held.
-fn held(length: usize) -> Partial
-    ensures { result ≡ held length }
-{
-    Partial {
-        length,
-        long: false,
-    }
-}
-
-fn answer(next: usize, partial: Partial, line: Line) -> Piece
-    ensures { result ≡ piece next partial line }
-{
-    Piece {
-        next,
-        partial,
-        line,
-    }
-}
-
 // Nothing is held.
 pub fn start() -> Partial
-    ensures { result ≡ held 0 }
+    ensures { result ≡ Held 0 }
 {
-    held(0)
+    Partial::Held(0)
+}
+
+// Where the next n bytes of the line go in a buffer of that size, if they fit.
+fn place(partial: Partial, n: usize, size: usize) -> Option<usize>
+    ensures { result ≡ place_of partial n size }
+{
+    match partial {
+        Partial::Held(at) if octets::fits(size, at, n) => Some(at),
+        Partial::Held(_) | Partial::Skipped => None,
+    }
 }
 
 // Takes bytes of the chunk from index from on, up to and with the first LF. Where there is no LF it takes them all.
 pub fn take(chunk: &[u8], from: usize, buffer: &mut [u8], partial: Partial) -> Piece
     ensures { Taken chunk.now from buffer.old partial result buffer.new }
 {
-    let length = partial.length;
-    let long = partial.long;
     let rest = octets::rest(chunk, from);
     let n = octets::index_of(LF, rest);
-    let fits = !long & octets::fits(buffer.len(), length, n + 1);
-    if n < rest.len() {
-        let end = n + 1;
-        if fits {
-            let size = octets::append(buffer, length, &rest[..end]);
-            return answer(from + end, start(), Line::Whole(size));
+    match place(partial, n + 1, buffer.len()) {
+        Some(at) => {
+            let length = octets::append(buffer, at, octets::front(rest, n + 1));
+            if n < rest.len() {
+                Piece {
+                    next: from + n + 1,
+                    partial: start(),
+                    line: Line::Whole(length),
+                }
+            } else {
+                Piece {
+                    next: from + n,
+                    partial: Partial::Held(length),
+                    line: Line::More,
+                }
+            }
         }
-        return answer(from + end, start(), Line::Bad);
+        None => {
+            if n < rest.len() {
+                Piece {
+                    next: from + n + 1,
+                    partial: start(),
+                    line: Line::Bad,
+                }
+            } else {
+                Piece {
+                    next: from + n,
+                    partial: Partial::Skipped,
+                    line: Line::More,
+                }
+            }
+        }
     }
-    if fits {
-        let size = octets::append(buffer, length, rest);
-        return answer(from + n, held(size), Line::More);
-    }
-    let skipped = Partial {
-        length: 0,
-        long: true,
-    };
-    answer(from + n, skipped, Line::More)
 }
 
 // At the end of the input: a line that has no LF is bad.
 pub fn last(partial: Partial) -> Line
     ensures { result ≡ line_at_end partial }
 {
-    if partial.long | (0 < partial.length) {
-        return Line::Bad;
+    match partial {
+        Partial::Held(0) => Line::More,
+        Partial::Held(_) | Partial::Skipped => Line::Bad,
     }
-    Line::More
 }

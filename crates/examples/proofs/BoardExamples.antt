@@ -1,6 +1,6 @@
 -- The calls of document 01's "The board", on from its example: each call, and each refusal. By computation.
 use mathlib.Core.List.{List, [], ◌∷◌, ◌++◌}
-use mathlib.Core.Option.{none}
+use Rattle.std.specs.Prelude.{None}
 use mathlib.Core.Path.{◌≡◌, refl}
 use Prim.Native.Nat.{ℕ}
 use Rattle.common.specs.Answer.{granted, refused}
@@ -14,7 +14,7 @@ use Rattle.range.specs.Tuple
 use Rattle.segments.specs.Calls
 use Rattle.segments.specs.Calls.{close_call, look_call, open_call, post_call}
 use Rattle.segment_table.specs.Operator
-use Rattle.segment_table.specs.Replies.{done, opened, shown}
+use Rattle.segment_table.specs.declared.Reply.TheVariants.{Done as done, Opened as opened, Shown as shown}
 use Rattle.segment_table.specs.Segments.{empty_table, segment_of, slot, tenant_id}
 use Rattle.segment_table.specs.Slots
 use Rattle.segment_table.specs.Sound
@@ -37,16 +37,16 @@ abbrev others : List AnsweredRequest
 others =
     (post_by 0 0 7 gets granted done)
     ∷ (look_by 1 0 gets granted (shown (segment_of l 59 7)))
-    ∷ (size_by 1 0 1 gets refused 13 none)
-    ∷ (look_by 2 0 gets refused 22 none)
-    ∷ (look_by 0 64 gets refused 22 none)
-    ∷ (open_by 0 0 gets refused 22 none)
-    ∷ (ceiling 0 59 gets refused 16 none)
-    ∷ (ceiling 0 61 gets refused 12 none)
-    ∷ (ceiling 3 1 gets refused 22 none)
-    ∷ (admit 1 1 gets refused 16 none)
+    ∷ (size_by 1 0 1 gets refused 13 None)
+    ∷ (look_by 2 0 gets refused 22 None)
+    ∷ (look_by 0 64 gets refused 22 None)
+    ∷ (open_by 0 0 gets refused 22 None)
+    ∷ (ceiling 0 59 gets refused 16 None)
+    ∷ (ceiling 0 61 gets refused 12 None)
+    ∷ (ceiling 3 1 gets refused 22 None)
+    ∷ (admit 1 1 gets refused 16 None)
     ∷ (close_by 1 8 gets granted done)
-    ∷ (look_by 0 8 gets refused 13 none)
+    ∷ (look_by 0 8 gets refused 13 None)
     ∷ (ceiling 1 39 gets granted done)
     ∷ (admit 2 1 gets granted done)
     ∷ (close_by 0 0 gets granted done)
@@ -59,11 +59,11 @@ others =
     ∷ (open_by 1 1 gets granted (opened (slot 13)))
     ∷ (open_by 1 1 gets granted (opened (slot 14)))
     ∷ (open_by 1 1 gets granted (opened (slot 15)))
-    ∷ (open_by 1 40 gets refused 28 none)
-    ∷ (open_under 21 1 1 gets refused 1 none)
-    ∷ (open_under 200 1 1 gets refused 22 none)
-    ∷ (make 0 gets refused 22 none)
-    ∷ (make 1048577 gets refused 22 none)
+    ∷ (open_by 1 40 gets refused 28 None)
+    ∷ (open_under 21 1 1 gets refused 1 None)
+    ∷ (open_under 200 1 1 gets refused 22 None)
+    ∷ (make 0 gets refused 22 None)
+    ∷ (make 1048577 gets refused 22 None)
     ∷ []
 
 board_holds : played (empty_table 0) (board ++ others) ≡ board ++ others

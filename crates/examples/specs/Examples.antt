@@ -1,7 +1,6 @@
 -- Document 01, "Examples": those marked P, a mark counting to the end of its bullet, in its order, as one list, and the claim that all of them
 -- hold.
-use Rattle.std.specs.Prelude.{Bool, true, false, List, [], ◌∷◌, ◌≡◌, ℕ}
-use Rattle.std.proofs.Math.Option.{none, some}
+use Rattle.std.specs.Prelude.{Bool, true, false, List, [], ◌∷◌, ◌≡◌, ℕ, None, Some}
 use Rattle.common.specs.Answer.{Answer, granted, refused, require}
 use Rattle.common.specs.Buffer.{length_of}
 use Rattle.label.specs.Example.{example_of}
@@ -22,9 +21,11 @@ use Rattle.text.specs.declared.Style.{Style}
 use Rattle.text.specs.declared.Variant.TheVariants.{Names}
 use Rattle.segments.specs.Calls.{open_call, size_call, step_of}
 use Rattle.segment_table.specs.Operator.{admit_of, make_of, set_ceiling_of}
-use Rattle.segment_table.specs.Replies.{Grant, Step, done, opened}
+use Rattle.segment_table.specs.Replies.{Step}
 use Rattle.segment_table.specs.Segments.{empty_table, slot, tenant_id}
 use Rattle.segments.specs.declared.Call.{Call}
+use Rattle.segment_table.specs.declared.Reply.{Reply as Grant}
+use Rattle.segment_table.specs.declared.Reply.TheVariants.{Done as done, Opened as opened}
 use Rattle.segment_table.specs.declared.SegmentTable.{SegmentTable}
 
 -- ---- ranges
@@ -101,9 +102,9 @@ board =
     (make 100 gets granted done)
     ∷ (admit 0 60 gets granted done)
     ∷ (admit 1 40 gets granted done)
-    ∷ (admit 2 1 gets refused 12 none)
+    ∷ (admit 2 1 gets refused 12 None)
     ∷ (open_by 0 60 gets granted (opened (slot 0)))
-    ∷ (open_by 0 1 gets refused 12 none)
+    ∷ (open_by 0 1 gets refused 12 None)
     ∷ (open_by 1 40 gets granted (opened (slot 8)))
     ∷ (size_by 0 0 59 gets granted done)
     ∷ (open_by 0 1 gets granted (opened (slot 1)))
@@ -146,7 +147,7 @@ examples =
     is range (granted (range_of (example_of 30 (2 ∷ [])) (example_of 40 (2 ∷ [])))))
     -- [(20,{1}),(40,{1})] and [(20,{}),(40,{2})]: 33
     ∷ (range (meet_answer_of (range_of (example_of 20 (1 ∷ [])) (example_of 40 (1 ∷ []))) (range_of (example_of 20 []) (example_of 40 (2 ∷ []))))
-    is range (refused 33 none))
+    is range (refused 33 None))
     -- [(10,{}),(30,{4})] splits into [(10,{}),(19,{4})] and [(20,{}),(30,{4})]
     ∷ (tuple (split_answer_of (range_of (example_of 10 []) (example_of 30 (4 ∷ []))))
     is tuple (granted (tuple_of (present (range_of (example_of 10 []) (example_of 19 (4 ∷ []))) ∷ present (range_of (example_of 20 []) (example_of 30 (4 ∷ []))) ∷ absent ∷ []))))
@@ -158,7 +159,7 @@ examples =
     ∷ (test (valid_of (example_of 200 [])) is test false)
     -- (20,{7}) for subject (20,{7}) is `low:east`; a buffer of 7 answers 7 with 8
     ∷ (text (label_written_for (example_of 20 (7 ∷ [])) (example_of 20 (7 ∷ []))) is text (granted (ascii "low:east")))
-    ∷ (count (length_of (label_written_for (example_of 20 (7 ∷ [])) (example_of 20 (7 ∷ []))) 7) is count (refused 7 (some 8)))
+    ∷ (count (length_of (label_written_for (example_of 20 (7 ∷ [])) (example_of 20 (7 ∷ []))) 7) is count (refused 7 (Some 8)))
     -- range [(20,{}),(20,{7})] for subject (20,{}): status 1, `-L low -H ?`
     ∷ (shown (range_written_for (example_of 20 []) (range_of (example_of 20 []) (example_of 20 (7 ∷ [])))) is shown (granted (record { status = 1; text = ascii "-L low -H ?" })))
     -- Pool 100, ceilings 60 and 40: a third tenant with 1 gets 12. Tenant 0 opens 60 at place 0, then 1 page: 12. Tenant 1 still opens 40, at

@@ -1,38 +1,40 @@
 -- What the functions of `frame` need at each turn of a loop and where they end: facts about the definitions that go by the index.
-use Rattle.std.proofs.Common.{◌≡◌, ℕ, zero, suc, ◌+◌, ◌-◌, ◌*◌, ◌/◌, ◌%◌, ◌<◌, ◌≤◌, Bool, true, false, cond, not, ◌&&◌, eqb, leb, List, [], ◌∷◌, ◌++◌, length, get_or, take, drop, set, sym, refl, ap, ◌∙◌, ap₂, ⊎_elim, true≢false, append_assoc, add-one, arith, length-append, length-take, length-take-le, take_all, get_or-take, take-suc, take-suc-set, take_at, le-leb, leb-true}
+use Rattle.std.proofs.Common.{◌≡◌, ℕ, zero, suc, ◌+◌, ◌-◌, ◌*◌, ◌/◌, ◌%◌, ◌<◌, ◌≤◌, Bool, true, false, cond, not, ◌&&◌, eqb, leb, List, [], ◌∷◌, ◌++◌, length, get_or, take, drop, set, fold, sym, refl, ap, ◌∙◌, ap₂, true≢false, append_assoc, add-one, arith, length-append, length-take, length-take-le, take_all, get_or-take, take-suc, take-suc-set, take_at, le-leb, leb-true}
 use mathlib.Core.Bool.{and_assoc, and-false, and-true}
 use lib.ListN.{get_or-eq_default}
+use Rattle.std.specs.List.{list_all}
 use borrow.Author.Tests.{lt-leb}
 use Rattle.common.specs.Buffer.{overlay}
-use Rattle.common.specs.Index.{every}
-use Rattle.common.proofs.BoolLaws.{exactly_both, told_false, told_true}
-use Rattle.common.proofs.BufferLaws.{overlay_length, overlay_step}
-use Rattle.common.proofs.IndexLaws.{every_all, every_at, every_same, le_or_lt}
+use Rattle.common.proofs.BoolLaws.{told_false, told_true}
+use Rattle.common.proofs.BufferLaws.{overlay_step}
 use Rattle.frame.specs.Frame.{body_of, bytes_of, check_byte, decoded_in, digit_of, digits_of, frame_of, framed_of, is_digit, sound_body, spelled_of, sum_of, digit_value}
 use Rattle.frame.proofs.FrameLaws.{body_length, bytes_at, bytes_length, digits_append, digits_length, framed_parts, sum_append, sum_one, sum_take}
 
 -- ---- whether a line is spelled in digits
 
-pub every_more : (f : ℕ → Bool) (i : ℕ) → every f (i + 1) ≡ (every f i && f i)
-unfolding every
-every_more f i = rw (add-one i) refl
+all_from : (test : ℕ → Bool) (b : Bool) (xs : List ℕ) → fold (λ (g : Bool) (x : ℕ). g && test x) b xs ≡ (b && list_all test xs)
+all_from test b [] = sym (and-true b)
+all_from test b (x ∷ xs) = all_from test (b && test x) xs ∙ and_assoc b (test x) (list_all test xs)
 
-every_first : (f : ℕ → Bool) (n : ℕ) → every f (suc n) ≡ (f 0 && every (λ i. f (suc i)) n)
-unfolding every
-every_first f zero = sym (and-true (f 0))
-every_first f (suc n) = ap (λ (p : Bool). p && f (suc n)) (every_first f n) ∙ and_assoc (f 0) (every (λ i. f (suc i)) n) (f (suc n))
+-- tests that are taken together from the first to the last
+pub all_folded : (test : ℕ → Bool) (xs : List ℕ) → fold (λ (g : Bool) (x : ℕ). g && test x) true xs ≡ list_all test xs
+all_folded test xs = all_from test true xs
 
-pub every_from_0 : (f : ℕ → Bool) (n : ℕ) → every (λ i. f (0 + i)) n ≡ every f n
-every_from_0 f n = every_same (λ i. f (0 + i)) f n (λ i l. ap f (omega arith))
-
--- what holds at the first m numbers and at the last k, which reach so far down, holds at all n
-pub every_cover : (f : ℕ → Bool) (m k n : ℕ) → m ≤ n → k ≤ n → n ≤ m + k → (every f m && every (λ i. f (n - k + i)) k) ≡ every f n
-every_cover f m k n hm hk h = sym (exactly_both (every f n) (every f m) (every (λ i. f (n - k + i)) k)
-    (λ e. every_all f m (λ i l. every_at f n i e (omega arith)))
-    (λ e. every_all (λ i. f (n - k + i)) k (λ i l. every_at f n (n - k + i) e (omega arith)))
-    (λ d e. every_all f n (λ i l. ⊎_elim
-    (λ u. ap f (omega arith) ∙ every_at (λ j. f (n - k + j)) k (i - (n - k)) e (omega arith))
-    (λ u. every_at f m i d u) (le_or_lt m i))))
+-- what holds of the first m elements, and of those from index k on, where that is no later, holds of all
+pub all_cover : (test : ℕ → Bool) (xs : List ℕ) (m k : ℕ) → k ≤ m → (list_all test (take m xs) && list_all test (drop k xs)) ≡ list_all test xs
+all_cover test [] zero zero h = refl
+all_cover test [] zero (suc k) h = refl
+all_cover test [] (suc m) zero h = refl
+all_cover test [] (suc m) (suc k) h = refl
+all_cover test (x ∷ xs) zero zero h = refl
+all_cover test (x ∷ xs) zero (suc k) h = absurd (omega arith)
+all_cover test (x ∷ xs) (suc m) zero h = by (test x) (list_all test (take m xs)) (list_all test xs) (all_cover test xs m zero (omega arith))
+  where
+    by : (t a b : Bool) → (a && b) ≡ b → ((t && a) && (t && b)) ≡ (t && b)
+    by true a b e = e
+    by false a b e = refl
+all_cover test (x ∷ xs) (suc m) (suc k) h =
+    and_assoc (test x) (list_all test (take m xs)) (list_all test (drop k xs)) ∙ ap (λ (b : Bool). test x && b) (all_cover test xs m k (omega arith))
 
 pub spelled_even : (line : List ℕ) → length line % 2 ≡ 0 → spelled_of line ≡ false
 unfolding spelled_of
@@ -40,44 +42,29 @@ spelled_even [] h = refl
 spelled_even (c ∷ []) h = absurd (omega arith)
 spelled_even (a ∷ b ∷ rest) h = ap (λ (p : Bool). is_digit a && is_digit b && p) (spelled_even rest (omega arith)) ∙ and-false (is_digit a && is_digit b)
 
--- whether byte i of a line is a digit
-abbrev pub digit_at : List ℕ → ℕ → Bool
-digit_at line i = is_digit (get_or line i 0)
+spelled_pairs : (pairs : List ℕ) (last : ℕ) → length pairs % 2 ≡ 0 → (list_all is_digit pairs && eqb last 10) ≡ spelled_of (pairs ++ (last ∷ []))
+unfolding spelled_of
+spelled_pairs [] last h = refl
+spelled_pairs (a ∷ []) last h = absurd (omega arith)
+spelled_pairs (a ∷ b ∷ rest) last h =
+    ap (λ (p : Bool). p && eqb last 10) (sym (and_assoc (is_digit a) (is_digit b) (list_all is_digit rest)))
+    ∙ and_assoc (is_digit a && is_digit b) (list_all is_digit rest) (eqb last 10)
+    ∙ ap (λ (p : Bool). is_digit a && is_digit b && p) (spelled_pairs rest last (omega arith))
 
-pub spelled_odd : (line : List ℕ) (n : ℕ) → length line ≡ n + 1 → n % 2 ≡ 0 → (every (digit_at line) n && eqb (get_or line n 0) 10) ≡ spelled_of line
-unfolding spelled_of every
-spelled_odd [] n h e = absurd (omega arith)
-spelled_odd (c ∷ []) zero h e = refl
-spelled_odd (c ∷ []) (suc n) h e = absurd (omega arith)
-spelled_odd (a ∷ b ∷ rest) zero h e = absurd (omega arith)
-spelled_odd (a ∷ b ∷ rest) (suc zero) h e = absurd (omega arith)
-spelled_odd (a ∷ b ∷ rest) (suc (suc n)) h e =
-    let f = digit_at (a ∷ b ∷ rest) in
-    let last = eqb (get_or rest n 0) 10 in
-    ap (λ (p : Bool). p && last) (every_first f (suc n) ∙ ap (λ (p : Bool). is_digit a && p) (every_first (λ i. f (suc i)) n)
-    ∙ sym (and_assoc (is_digit a) (is_digit b) (every (digit_at rest) n)))
-    ∙ and_assoc (is_digit a && is_digit b) (every (digit_at rest) n) last
-    ∙ ap (λ (p : Bool). is_digit a && is_digit b && p) (spelled_odd rest n (omega arith) (omega arith))
+-- a line that has its last byte behind pairs of bytes
+pub spelled_odd : (line pairs : List ℕ) (last : ℕ) {d : Bool} → line ≡ pairs ++ (last ∷ []) → length pairs % 2 ≡ 0 → d ≡ list_all is_digit pairs → (d && eqb last 10) ≡ spelled_of line
+spelled_odd line pairs last e h p = rw (p, e) (spelled_pairs pairs last h)
 
 -- ---- sums modulo 256
 
 pub sum_next : (bs : List ℕ) (i s : ℕ) → i < length bs → s % 256 ≡ sum_of (take i bs) % 256 → (s + get_or bs i 0) % 256 ≡ sum_of (take (i + 1) bs) % 256
 sum_next bs i s h e = rw add-one (let t = sum_take bs i h in omega arith)
 
-pub sum_done : (bs : List ℕ) (i s : ℕ) → length bs ≤ i → s ≡ sum_of (take i bs) % 256 → s ≡ sum_of bs % 256
-sum_done bs i s h e = e ∙ ap (λ (l : List ℕ). sum_of l % 256) (take_all i bs h)
-
--- the same where one more byte counts, and the sum wraps at 2 ^ 16
-pub sum_none : (bs : List ℕ) (check : ℕ) → check % 256 ≡ (sum_of (take 0 bs) + check) % 256
+-- a sum that begins with another byte, and wraps at 256
+pub sum_folded : (bs : List ℕ) (s : ℕ) → s < 256 → fold (λ (n b : ℕ). (n + b) % 256) s bs ≡ (sum_of bs + s) % 256
 unfolding sum_of
-sum_none bs check = omega arith
-
-pub sum_on : (bs : List ℕ) (i s check : ℕ) → i < length bs → s % 256 ≡ (sum_of (take i bs) + check) % 256
-    → (s + get_or bs i 0) % 65536 % 256 ≡ (sum_of (take (i + 1) bs) + check) % 256
-sum_on bs i s check h e = rw add-one (let t = sum_take bs i h in omega arith)
-
-pub sum_up : (bs : List ℕ) (i s check : ℕ) → length bs ≤ i → s % 256 ≡ (sum_of (take i bs) + check) % 256 → eqb (s % 256) 0 ≡ eqb ((sum_of bs + check) % 256) 0
-sum_up bs i s check h e = ap (λ (n : ℕ). eqb n 0) (e ∙ ap (λ (l : List ℕ). (sum_of l + check) % 256) (take_all i bs h))
+sum_folded [] s h = omega arith
+sum_folded (b ∷ bs) s h = let ih = sum_folded bs ((s + b) % 256) (omega arith) in omega arith
 
 -- ---- the body's bytes are the line's, but for the last
 
@@ -171,29 +158,32 @@ module _ (line : List ℕ) where
         same true = refl
         same false = refl
 
-    pub no_room : length out < length line / 2 - 1 → Nothing
+    pub no_room : {n : ℕ} → n + 1 ≡ length line / 2 → length out < n → Nothing
     unfolding sound_body decoded_in
-    no_room h = let l = body_length line in rw (lt-leb (length (body_of line)) (length out) (omega arith), and-false (framed_of line), and-false (spelled_of line)) (refl, refl)
+    no_room m h = let l = body_length line in rw (lt-leb (length (body_of line)) (length out) (omega arith), and-false (framed_of line), and-false (spelled_of line)) (refl, refl)
 
     pub no_spelling : {s : Bool} → s ≡ spelled_of line → not s ≡ true → Nothing
     unfolding sound_body decoded_in
     no_spelling q h = let e = told_false q h in rw (sym (unframed line e), e) (refl, refl)
 
-    -- where the body is: it counts if the line is a frame
-    module _ (h : length line / 2 - 1 ≤ length out) {s : Bool} (q : s ≡ spelled_of line) (e : not s ≡ false) {xs : List ℕ} (b : xs ≡ body_of line) where
+    -- where the body is, which has n bytes: it counts if the line is a frame
+    module _ {n : ℕ} (m : n + 1 ≡ length line / 2) (h : n ≤ length out) {s : Bool} (q : s ≡ spelled_of line) (e : not s ≡ false) {xs : List ℕ} (b : xs ≡ body_of line) where
       fits : leb (length (body_of line)) (length out) ≡ true
       fits = let l = body_length line in le-leb (length (body_of line)) (length out) (omega arith)
 
-      decoded_in_lem : xs ++ drop (length line / 2 - 1) out ≡ decoded_in line out
+      counted : n ≡ length (body_of line)
+      counted = let l = body_length line in omega arith
+
+      decoded_in_lem : xs ++ drop n out ≡ decoded_in line out
       unfolding decoded_in
-      decoded_in_lem = rw (b, told_true q e, fits, ← body_length line)
+      decoded_in_lem = rw (b, told_true q e, fits, counted)
 
       module _ {f : Bool} (g : f ≡ framed_of line) where
-        pub decoded_framed : f ≡ true → (length line / 2 - 1 ≡ length (sound_body line (length out))) × (xs ++ drop (length line / 2 - 1) out ≡ decoded_in line out)
+        pub decoded_framed : f ≡ true → (n ≡ length (sound_body line (length out))) × (xs ++ drop n out ≡ decoded_in line out)
         unfolding sound_body
-        decoded_framed t = (rw (← g, t, fits) (sym (body_length line)), decoded_in_lem)
+        decoded_framed t = (rw (← g, t, fits) counted, decoded_in_lem)
 
-        pub decoded_unframed : f ≡ false → (0 ≡ length (sound_body line (length out))) × (xs ++ drop (length line / 2 - 1) out ≡ decoded_in line out)
+        pub decoded_unframed : f ≡ false → (0 ≡ length (sound_body line (length out))) × (xs ++ drop n out ≡ decoded_in line out)
         unfolding sound_body
         decoded_unframed t = (rw (← g, t), decoded_in_lem)
 
@@ -256,15 +246,9 @@ digits_next body out i h fits =
     digits_more (take i body) out (get_or body i 0) (2 * i) (omega arith) (omega arith)
     ∙ ap (λ (l : List ℕ). overlay (digits_of l) out) (sym (ap (λ (j : ℕ). take j body) (add-one i) ∙ take-suc body i 0 h))
 
-pub digits_fit : (body out : List ℕ) (i : ℕ) → i ≤ length body → 2 * length body ≤ length out → length (overlay (digits_of (take i body)) out) ≡ length out
-digits_fit body out i h fits =
-    let n = length-take-le i body h in
-    let d = digits_length (take i body) in
-    overlay_length (digits_of (take i body)) out (omega arith)
-
-pub check_of : (body : List ℕ) (s : ℕ) → s ≡ sum_of body % 256 → (256 - s) % 256 ≡ check_byte body
+pub check_of : (body : List ℕ) (s r : ℕ) → s ≡ sum_of body % 256 → r < 256 → (r + s) % 256 ≡ 0 → r ≡ check_byte body
 unfolding check_byte
-check_of body s e = rw e
+check_of body s r e h z = omega arith
 
 -- the check byte and LF past the body's digits
 pub frame_more : (body out : List ℕ) (b k : ℕ) → k ≡ 2 * length body → b ≡ check_byte body → k + 2 < length out

@@ -1,5 +1,5 @@
 -- The laws of what a body of an alias entry is judged by: it is the form of the entry that stands in it, and that this is valid.
-use mathlib.Core.Bool.{Bool, true, false, cond, ◌&&◌, ◌||◌, and-true, true≢false}
+use mathlib.Core.Bool.{Bool, true, false, ◌&&◌, ◌||◌, and-true, true≢false}
 use mathlib.Core.List.{List, []}
 use mathlib.Core.Logic.{⊎_elim}
 use mathlib.Core.Path.{◌≡◌, refl, sym, ap, ap₂, ◌∙◌}
@@ -13,14 +13,14 @@ use borrow.Author.Tests.{eq-eqb, le-ltb, lt-ltb}
 use Rattle.common.specs.Answer.{is_granted, require, granted}
 use Rattle.common.specs.Index.{every, tabulate}
 use Rattle.label.specs.Label
-use Rattle.common.proofs.BoolLaws.{not_so, same_truth}
+use Rattle.common.proofs.BoolLaws.{same_truth}
 use Rattle.common.proofs.IndexLaws.{every_all, every_at, le_or_lt, tabulate_at, tabulate_is, tabulate_length}
 use Rattle.label.proofs.LabelLaws.{equal_exact}
 use Rattle.frame.specs.Frame.{body_of, sound_body}
 use Rattle.frame.proofs.FrameLoops.{sound_whole}
 use Rattle.hexline.specs.Accept.{accepted_body}
 use Rattle.hexline.specs.Internal.Accept.{span_part, value_byte_ok}
-use Rattle.label_codec.specs.Body.{byte_at, label_at, label_size, line_words}
+use Rattle.label_codec.specs.Body.{byte_at, label_at, line_words}
 use Rattle.alias_entry.specs.Entry.{abbreviation_bytes, abbreviation_size, at_most, entry_from, is_letter, is_name_byte, label_from, layout_of, name_byte_at, name_byte_ok, name_bytes, name_of, name_size, past, text_byte, text_from, text_ok, valid_of, value_by_class, value_ok, value_size}
 use Rattle.alias_entry.specs.Internal.Spans.{entry_size, span_bytes}
 use Rattle.hexline.specs.Line.{contents_of, entry_form, entry_in, read_entry_line}
@@ -28,7 +28,8 @@ use Rattle.alias_entry.specs.declared.Entry.{Entry}
 use Rattle.alias_entry.specs.declared.bytes.Layout.{Layout}
 use Rattle.alias_entry.specs.declared.bytes.Span.{Span}
 use Rattle.alias_entry.proofs.EntryLaws.{text_byte_lem}
-use Rattle.hexline.proofs.LineLaws.{by_contents, entry_form_parts}
+use Rattle.hexline.proofs.LineLaws.{by_contents, no_body}
+use Rattle.hexline.specs.Internal.Contents.{entry_form_fits, entry_form_parts}
 use Rattle.hexline.proofs.StandingLaws.{text_stands}
 
 pub every_more : (f : ℕ → Bool) (i : ℕ) → every f (i + 1) ≡ (every f i && f i)
@@ -98,19 +99,6 @@ abbreviation_at : (w : ℕ) (bs : List ℕ) (i : ℕ) → (layout_of w bs i).abb
 unfolding layout_of
 abbreviation_at w bs i = refl
 
-name_at : (w : ℕ) (bs : List ℕ) (i : ℕ) → (layout_of w bs i).name.at ≤ i + 2 + label_size w
-unfolding layout_of value_size
-name_at w bs i = go (eqb (byte_at bs i) 3)
-  where
-    go : (p : Bool) → i + 1 + cond p (label_size w) 1 + 1 ≤ i + 2 + label_size w
-    go true = omega arith
-    go false = omega arith
-
-pub form_room : (kind w : ℕ) (bs : List ℕ) → entry_form kind w bs ≡ true → length bs ≤ 1 + entry_size w
-form_room kind w bs e =
-    let f = entry_form_parts kind w bs e in
-    omega (arith, f.name, f.abbreviation, f.size, abbreviation_at w bs 1, name_at w bs 1)
-
 -- the parts of the entry lie in the body
 pub form_parts : (kind w : ℕ) (bs : List ℕ) {p : Layout} → p ≡ layout_of w bs 1 → entry_form kind w bs ≡ true
     → (2 + value_size w p.class ≤ length bs) × (past p.name ≤ length bs) × (past p.abbreviation ≤ length bs)
@@ -142,10 +130,6 @@ body_judged kind w bs small e =
     (text_judged name_size bs n.at n.length (omega (arith, f.name)) (omega (arith, f.size))))
     (text_judged abbreviation_size bs a.at a.length (omega (arith, f.abbreviation)) (omega (arith, f.size))
     ∙ ap text_ok (take_all a.length (drop a.at bs) (omega (arith, f.size))))
-
--- of no bytes nothing is read
-pub no_entry : (kind w : ℕ) → entry_form kind w [] ≡ false
-no_entry kind w = not_so (entry_form kind w []) (λ e. absurd (omega (arith, (form_parts kind w [] refl e).0)))
 
 -- ---- the texts of the entry in such a body
 
@@ -182,7 +166,7 @@ pub accepted_by : (line : List ℕ) → is_granted (read_entry_line line) ≡ ac
 unfolding contents_of
 accepted_by line =
     let bs = sound_body line (1 + entry_size line_words) in
-    ap is_granted (by_contents (entry_form 4 line_words) (entry_in line_words) valid_of line (1 + entry_size line_words) (no_entry 4 line_words) (form_room 4 line_words))
+    ap is_granted (by_contents (entry_form 4 line_words) (entry_in line_words) valid_of line (1 + entry_size line_words) entry_form_fits)
     ∙ go (accepted_body bs) (entry_in line_words bs)
   where
     go : (v : Bool) (x : Entry) → is_granted (require v 22 (granted x)) ≡ v
@@ -192,4 +176,4 @@ accepted_by line =
 -- what is decoded of an accepted line is its body
 pub accepted_whole : (line : List ℕ) → is_granted (read_entry_line line) ≡ true → sound_body line (1 + entry_size line_words) ≡ body_of line
 accepted_whole line e = sound_whole line (1 + entry_size line_words)
-    (λ n. true≢false (sym e ∙ accepted_by line ∙ ap accepted_body n ∙ ap (λ (f : Bool). f && valid_of (entry_in line_words [])) (no_entry 4 line_words)))
+    (λ n. true≢false (sym e ∙ accepted_by line ∙ ap accepted_body n ∙ ap (λ (f : Bool). f && valid_of (entry_in line_words [])) (no_body (entry_form 4 line_words) (entry_in line_words) valid_of line (1 + entry_size line_words) entry_form_fits)))

@@ -11,13 +11,12 @@ use lib.Dec.{leb}
 use lib.ListN.{length, take, length-append}
 use borrow.Author.Tests.{le-leb}
 use Rattle.common.specs.Answer.{granted}
-use Rattle.label.specs.Label
 use Rattle.label.specs.Words.{words}
 use Rattle.label.specs.declared.Label.{Label}
 use Rattle.common.proofs.BoolLaws.{both}
 use Rattle.frame.specs.Frame.{read_body}
 use Rattle.common.proofs.BytesLaws.{Bytes, bytes_append, bytes_take, cons_bytes}
-use Rattle.label_codec.specs.Body.{byte_at, label_size}
+use Rattle.label_codec.specs.Body.{byte_at}
 use Rattle.alias_entry.specs.Entry.{TypedEntry, abbreviation_size, abbreviation_text, value_class, entry_bytes, entry_from, entry_of, layout_of, max_abbreviation, max_name, name_size, name_text, past, text_bytes, text_from, valid_of, value_bytes, value_size}
 use Rattle.alias_entry.specs.Internal.Spans.{entry_size}
 use Rattle.hexline.specs.Line.{contents_of, entry_body, entry_form, entry_in, body_form, line_of}
@@ -26,8 +25,9 @@ use Rattle.alias_entry.specs.declared.bytes.Layout.{Layout}
 use Rattle.alias_entry.specs.declared.Value.{Value}
 use Rattle.alias_entry.specs.declared.Value.TheVariants.{Hierarchy, Category, WholeLabel}
 use Rattle.label_codec.proofs.BodyLaws.{Holds, Within, first_part, holds_first, holds_second, holds_self, one_part, part, parts_join}
-use Rattle.alias_entry.proofs.EntryLaws.{name_fits, name_zero, text_back, text_forth, text_length, valid_parts, value_back, value_bytes_lem, value_forth, value_length, value_size_lem}
-use Rattle.hexline.proofs.LineLaws.{entry_form_parts, form_of, line_exact}
+use Rattle.alias_entry.proofs.EntryLaws.{name_fits, name_zero, text_back, text_forth, text_length, valid_parts, value_back, value_bytes_lem, value_forth, value_size_lem}
+use Rattle.hexline.specs.Internal.Contents.{entry_form_parts, value_most}
+use Rattle.hexline.proofs.LineLaws.{form_of, line_exact}
 
 class_low : (v : Value) → 1 ≤ value_class v
 class_low (Hierarchy h) = omega arith
@@ -38,10 +38,6 @@ class_high : (v : Value) → value_class v ≤ 3
 class_high (Hierarchy h) = omega arith
 class_high (Category c) = omega arith
 class_high WholeLabel = omega arith
-
--- a value has at most the bytes of a label
-value_most : (w : ℕ) (v : Value) → value_size w (value_class v) ≤ label_size w
-value_most w v = let n = value_size_lem w v Label.zero_label in let l = value_length w v Label.zero_label in omega arith
 
 -- a valid entry's name and abbreviation fit their arrays
 record Fits (e : Entry) : Type 0 where
@@ -117,7 +113,7 @@ pub entry_length : (kind w : ℕ) (e : Entry) → length e.name.bytes ≡ name_s
 entry_length kind w e x y v =
     let f = fits_of_lem e v in
     let p = (body_parts kind w e f).size in
-    let s = value_most w e.value in
+    let s = value_most w (value_class e.value) in
     let n = f.named in
     let a = f.short in
     omega arith

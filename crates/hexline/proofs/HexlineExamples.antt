@@ -1,6 +1,6 @@
 -- Document 01's hex lines, and lines that have a fault, computed from the definitions.
 use mathlib.Core.List.{List, [], ◌∷◌, ◌++◌}
-use mathlib.Core.Option.{none}
+use Rattle.std.specs.Prelude.{None}
 use mathlib.Core.Path.{◌≡◌, refl}
 use Prim.Native.Nat.{ℕ, ◌^◌}
 use lib.ListN.{replicate}
@@ -57,11 +57,11 @@ unfolding east_line east Entry.valid_of value_ok name_of name_byte_ok is_name_by
 east_read = refl
 
 -- a wrong sum, and a line that is for another reader
-wrong_sum : read_entry_line east_wrong ≡ refused 22 none
+wrong_sum : read_entry_line east_wrong ≡ refused 22 None
 unfolding east_wrong framed_of spelled_of bytes_of body_of digit_value is_digit sum_of contents_of body_form
 wrong_sum = refl
 
-other_kind : read_tuple_line east_line ≡ refused 22 none
+other_kind : read_tuple_line east_line ≡ refused 22 None
 unfolding east_line tuple_form present_below bit framed_of spelled_of bytes_of body_of digit_value is_digit sum_of contents_of body_form
 other_kind = refl
 

@@ -30,7 +30,8 @@ use Rattle.label_codec.specs.Tuples.{presence_of, present_below, regions_bytes}
 use Rattle.alias_entry.specs.declared.Entry.{Entry}
 use Rattle.label_codec.proofs.BodyLaws.{Within, first_part, holds_second, holds_self, label_back, label_bytes_lem, label_forth, label_length, one_part, part, parts_join, range_back, range_bytes_lem, range_forth, range_length}
 use Rattle.hexline.proofs.EntryKindLaws.{entry_exact, entry_length}
-use Rattle.hexline.proofs.LineLaws.{form_kind, form_length, form_of, line_exact, line_length, line_valid, tuple_form_parts}
+use Rattle.hexline.specs.Internal.Contents.{form_kind, form_length, tuple_form_parts}
+use Rattle.hexline.proofs.LineLaws.{form_of, line_exact, line_length, line_valid}
 use Rattle.label_codec.proofs.TupleBytesLaws.{WithinTuple, presence_forth, presence_size, presence_small, regions_bytes_lem, regions_forth, regions_full, regions_size, tuple_back}
 
 -- ---- bodies that begin with a kind

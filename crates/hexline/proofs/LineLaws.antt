@@ -1,61 +1,53 @@
 -- The laws of lines by their kind, and the ways in which their readers and writers end.
-use mathlib.Core.Bool.{Bool, true, false, cond, ◌&&◌, and-false, true≢false}
+use mathlib.Core.Bool.{Bool, true, false, cond, ◌&&◌, true≢false}
 use mathlib.Core.List.{List, [], ◌∷◌, ◌++◌}
 use mathlib.Core.Logic.{◌↔◌}
-use mathlib.Core.Option.{none}
+use Rattle.std.specs.Prelude.{None, Result, Err}
 use mathlib.Core.Path.{◌≡◌, refl, sym, ap, ap₂, ◌∙◌}
 use Prim.Native.Nat.{ℕ, ◌+◌, ◌*◌, ◌≤◌, ◌<◌}
 use native.Mathlib.Omega.{arith}
-use lib.Dec.{eqb, leb, ltb}
+use lib.Dec.{leb}
 use lib.ListN.{drop, length, replicate, set, take, length-replicate, length-set}
 use lib.Seq.{take_at, take-suc-set}
-use borrow.Author.Tests.{eq-eqb, eqb-true, le-leb, leb-false, leb-true, lt-leb, ltb-true}
-use Rattle.common.specs.Answer.{Answer, Answered, granted, is_granted, refused, require}
+use borrow.Author.Tests.{eq-eqb, le-leb, leb-false, lt-leb}
+use Rattle.common.specs.Answer.{Answer, granted, is_granted, refused, refused_by, require}
 use Rattle.common.specs.Buffer.{WrittenTo}
-use Rattle.label.specs.Region.{regions}
-use Rattle.common.specs.declared.answer.Outcome.{Outcome}
-use Rattle.common.specs.declared.answer.Outcome.TheVariants.{Granted, Refused}
-use Rattle.common.specs.declared.answer.Written.{Written}
-use Rattle.common.specs.declared.answer.Written.TheVariants.{Refused as RefusedWrite}
-use Rattle.common.specs.declared.errno.Errno.TheVariants.{Invalid}
-use Rattle.common.proofs.AnswerLaws.{answers_grant, answers_refusal, answers_same, grant_passed, grant_told, passed, stopped}
+use Rattle.common.specs.declared.errno.Errno.{Errno}
+use Rattle.common.proofs.AnswerLaws.{grant_passed, grant_told, passed, stopped}
 use Rattle.common.proofs.BufferLaws.{writes_nothing}
-use Rattle.common.proofs.BoolLaws.{both, first_true, not_so, second_true, three_true}
+use Rattle.common.proofs.BoolLaws.{both, first_true, not_so, second_true}
 use Rattle.frame.specs.Frame.{body_of, frame_answer_of, frame_of, framed_of, max_body, read_body, sound_body}
 use Rattle.common.proofs.BytesLaws.{Bytes}
 use Rattle.frame.proofs.FrameLaws.{frame_length, reads_back, reads_exactly}
 use Rattle.frame.proofs.FrameLoops.{sound_short}
 use Rattle.octets.specs.Bytes.{Appended, put_at}
 use Rattle.octets.proofs.ByteLaws.{appended_put}
-use Rattle.label_codec.specs.Body.{byte_at, line_words, range_size}
-use Rattle.alias_entry.specs.Entry.{layout_of, max_abbreviation, max_name, past}
-use Rattle.label_codec.specs.Tuples.{present_below, tuple_size}
-use Rattle.label_codec.proofs.TupleBytesLaws.{below_most}
-use Rattle.hexline.specs.Line.{contents_of, entry_form, body_form, kind_in, kind_numbered, line_kind_of, line_of, longest_body, tuple_form}
+use Rattle.label_codec.specs.Body.{byte_at, line_words}
+use Rattle.hexline.specs.Internal.Contents.{Fits}
+use Rattle.hexline.specs.Line.{contents_of, body_form, kind_in, kind_numbered, line_kind_of, line_of, longest_body}
 
 -- ---- how a reader of a body ends
 
-module _ {A : Type 0} (form : List ℕ → Bool) (contents : List ℕ → A) (valid : A → Bool) (bs : List ℕ) (z : A) where
-  pub body_refused : {o : Outcome} {value : A} → (form bs && valid (contents bs)) ≡ false → (o ≡ Refused Invalid) × (value ≡ z) → Answered o value z (contents_of form contents valid bs)
+module _ {A : Type 0} (form : List ℕ → Bool) (contents : List ℕ → A) (valid : A → Bool) (bs : List ℕ) where
+  pub body_refused : (form bs && valid (contents bs)) ≡ false → refused 22 None ≡ contents_of form contents valid bs
   unfolding contents_of
-  body_refused e r = rw r.0 (answers_refusal Invalid _ z _ (stopped _ 22 _ e) r.1)
+  body_refused e = sym (stopped _ 22 _ e)
 
-  pub body_formless : {o : Outcome} {value : A} → form bs ≡ false → (o ≡ Refused Invalid) × (value ≡ z) → Answered o value z (contents_of form contents valid bs)
+  pub body_formless : form bs ≡ false → refused 22 None ≡ contents_of form contents valid bs
   body_formless e = body_refused (rw e)
 
-  pub body_invalid : {o : Outcome} {value x : A} → x ≡ contents bs → valid x ≡ false → (o ≡ Refused Invalid) × (value ≡ z) → Answered o value z (contents_of form contents valid bs)
-  body_invalid h e = body_refused (ap (λ (x : A). form bs && valid x) (sym h) ∙ ap (λ (v : Bool). form bs && v) e ∙ and-false (form bs))
-
-  pub body_granted : {x : A} → (form bs && valid (contents bs)) ≡ true → x ≡ contents bs → Answered Granted x z (contents_of form contents valid bs)
+  pub body_granted : {x : A} → (form bs && valid (contents bs)) ≡ true → x ≡ contents bs → granted x ≡ contents_of form contents valid bs
   unfolding contents_of
-  body_granted e h = answers_grant _ z _ _ (passed _ 22 _ e) h
+  body_granted e h = ap granted h ∙ sym (passed _ 22 _ e)
 
-  pub body_read : {x : A} → form bs ≡ true → x ≡ contents bs → valid x ≡ true → Answered Granted x z (contents_of form contents valid bs)
-  body_read f h e = body_granted (both f (ap valid (sym h) ∙ e)) h
+  -- the contents are tested where the body has the form
+  pub body_tested : {x : A} {r : Answer A} → form bs ≡ true → x ≡ contents bs → r ≡ require (valid x) 22 (granted x) → r ≡ contents_of form contents valid bs
+  unfolding contents_of
+  body_tested f e h = h ∙ rw (f, e)
 
 -- a line is read by its body, decoded in a buffer that has room for all bodies of which something is read
 module _ {A : Type 0} (read : List ℕ → Answer A) (line : List ℕ) (room : ℕ) where
-  pub by_body : read [] ≡ refused 22 none → ((bs : List ℕ) → room < length bs → read bs ≡ refused 22 none) → read_body read line ≡ read (sound_body line room)
+  pub by_body : read [] ≡ refused 22 None → ((bs : List ℕ) → room < length bs → read bs ≡ refused 22 None) → read_body read line ≡ read (sound_body line room)
   unfolding sound_body
   by_body empty long = go (framed_of line) (leb (length (body_of line)) room) refl
     where
@@ -65,19 +57,22 @@ module _ {A : Type 0} (read : List ℕ → Answer A) (line : List ℕ) (room : �
       go false l e = sym empty
 
 module _ {A : Type 0} (form : List ℕ → Bool) (contents : List ℕ → A) (valid : A → Bool) (line : List ℕ) (room : ℕ) where
-  formless : (bs : List ℕ) → form bs ≡ false → contents_of form contents valid bs ≡ refused 22 none
+  formless : (bs : List ℕ) → form bs ≡ false → contents_of form contents valid bs ≡ refused 22 None
   unfolding contents_of
   formless bs e = rw e
 
-  pub by_contents : form [] ≡ false → ((bs : List ℕ) → form bs ≡ true → length bs ≤ room)
-      → read_body (contents_of form contents valid) line ≡ contents_of form contents valid (sound_body line room)
-  by_contents empty short =
-      by_body (contents_of form contents valid) line room (formless [] empty) (λ bs l. formless bs (not_so (form bs) (λ h. absurd (omega (arith, short bs h)))))
+  -- the buffer has room for all bodies of the form, and no bytes are none
+  module _ (fits : (bs : List ℕ) → form bs ≡ true → Fits room bs) where
+    pub no_body : form [] ≡ false
+    no_body = not_so (form []) (λ h. absurd (omega (arith, fits [] h)))
 
-  -- n bytes of the buffer are what is decoded
-  pub line_read : {o : Outcome} {value z : A} (bs : List ℕ) → bs ≡ sound_body line room → form [] ≡ false → ((bs : List ℕ) → form bs ≡ true → length bs ≤ room)
-      → Answered o value z (contents_of form contents valid bs) → Answered o value z (read_body (contents_of form contents valid) line)
-  line_read bs e empty short r = answers_same r (by_contents empty short ∙ ap (contents_of form contents valid) (sym e))
+    pub by_contents : read_body (contents_of form contents valid) line ≡ contents_of form contents valid (sound_body line room)
+    by_contents =
+        by_body (contents_of form contents valid) line room (formless [] no_body) (λ bs l. formless bs (not_so (form bs) (λ h. absurd (omega (arith, fits bs h)))))
+
+    -- n bytes of the buffer are what is decoded
+    pub line_read : {x : Answer A} (bs : List ℕ) → bs ≡ sound_body line room → x ≡ contents_of form contents valid bs → x ≡ read_body (contents_of form contents valid) line
+    line_read bs e r = r ∙ sym (by_contents ∙ ap (contents_of form contents valid) (sym e))
 
 -- ---- what a reader grants
 
@@ -147,95 +142,35 @@ pub form_of : (bs : List ℕ) (n kind : ℕ) → length bs ≡ n → byte_at bs 
 unfolding body_form
 form_of bs n kind e k = both (eq-eqb (length bs) n e) (eq-eqb (byte_at bs 0) kind k)
 
-pub form_length : (bs : List ℕ) (n kind : ℕ) → body_form bs n kind ≡ true → length bs ≡ n
-unfolding body_form
-form_length bs n kind e = eqb-true (length bs) n (first_true (eqb (length bs) n) (eqb (byte_at bs 0) kind) e)
+-- ---- how a writer ends: it tests the contents first, and then puts a body together
 
-pub form_empty : (n kind : ℕ) → body_form [] (1 + n) kind ≡ false
-form_empty n kind = not_so (body_form [] (1 + n) kind) (λ e. absurd (omega (arith, form_length [] (1 + n) kind e)))
+pub refuses_line : {A : Type 0} (valid : Bool) (x : A) {e : Errno} {r : Result ℕ Errno} (body before : List ℕ)
+    → refused_by e ≡ require valid 22 (granted x) → r ≡ Err e → WrittenTo r (line_of valid body) before before
+refuses_line valid x {e} body before h t = rw t (writes_nothing e _ before before (by valid h) refl)
+  where
+    by : (valid : Bool) → refused_by e ≡ require valid 22 (granted x) → line_of valid body ≡ refused_by e
+    by true h = absurd (true≢false (sym (ap is_granted h)))
+    by false h = cc
 
-pub form_kind : (bs : List ℕ) (n kind : ℕ) → body_form bs n kind ≡ true → byte_at bs 0 ≡ kind
-unfolding body_form
-form_kind bs n kind e = eqb-true (byte_at bs 0) kind (second_true (eqb (length bs) n) (eqb (byte_at bs 0) kind) e)
-
-pub tuple_form_parts : (kind w : ℕ) (bs : List ℕ) → tuple_form kind w bs ≡ true
-    → (byte_at bs 1 < 8) × (length bs ≡ 1 + tuple_size w (byte_at bs 1)) × (byte_at bs 0 ≡ kind)
-unfolding tuple_form
-tuple_form_parts kind w bs e =
-    let n = present_below (byte_at bs 1) regions * range_size w + 2 in
-    let f = second_true (ltb (byte_at bs 1) 8) (body_form bs n kind) e in
-    (ltb-true (byte_at bs 1) 8 (first_true (ltb (byte_at bs 1) 8) (body_form bs n kind) e), omega (arith, form_length bs n kind f), form_kind bs n kind f)
-
--- the body of a tuple is no longer than the longest, and not empty
-pub tuple_room : (bs : List ℕ) → tuple_form 3 line_words bs ≡ true → length bs ≤ longest_body line_words
-tuple_room bs e = omega (arith, (tuple_form_parts 3 line_words bs e).1, below_most (byte_at bs 1) regions)
-
-pub no_tuple : tuple_form 3 line_words [] ≡ false
-no_tuple = not_so (tuple_form 3 line_words []) (λ e. absurd (omega (arith, (tuple_form_parts 3 line_words [] e).1)))
-
-pub record EntryForm (kind w : ℕ) (bs : List ℕ) : Type 0 where
-  pub name : (layout_of w bs 1).name.length ≤ max_name
-  pub abbreviation : (layout_of w bs 1).abbreviation.length ≤ max_abbreviation
-  pub size : length bs ≡ past (layout_of w bs 1).abbreviation
-  pub kind_is : byte_at bs 0 ≡ kind
-  pub low : 1 ≤ (layout_of w bs 1).class
-  pub high : (layout_of w bs 1).class ≤ 3
-
-pub entry_form_parts : (kind w : ℕ) (bs : List ℕ) → entry_form kind w bs ≡ true → EntryForm kind w bs
-unfolding entry_form
-entry_form_parts kind w bs e =
-    let p = layout_of w bs 1 in
-    let n = leb p.name.length max_name in
-    let a = leb p.abbreviation.length max_abbreviation in
-    let f = body_form bs (past p.abbreviation) kind in
-    let l = leb 1 p.class in
-    let h = leb p.class 3 in
-    let t = three_true n a (f && l && h) e in
-    let u = three_true f l h t.2 in
-    record {
-      name = leb-true p.name.length max_name t.0;
-      abbreviation = leb-true p.abbreviation.length max_abbreviation t.1;
-      size = form_length bs (past p.abbreviation) kind u.0;
-      kind_is = form_kind bs (past p.abbreviation) kind u.0;
-      low = leb-true 1 p.class u.1;
-      high = leb-true p.class 3 u.2;
-    }
-
--- ---- how a writer ends: it tests first, and then puts a body together
-
-module _ {valid test : Bool} (e : test ≡ valid) where
-  pub refuses_line : (body before : List ℕ) → test ≡ false → WrittenTo (RefusedWrite Invalid) (line_of valid body) before before
-  refuses_line body before t = writes_nothing Invalid _ _ _ (stopped _ 22 _ (sym e ∙ t)) refl
-
-  pub line_due : test ≡ true → valid ≡ true
-  line_due t = sym e ∙ t
-
-  pub writes_line : test ≡ true → (r : Written) (body before after : List ℕ) {bs : List ℕ} → bs ≡ body → length body ≤ max_body
-      → WrittenTo r (frame_answer_of bs) before after → WrittenTo r (line_of valid body) before after
-  writes_line t r body before after p h w =
-      let fits : leb (length body) max_body ≡ true = le-leb (length body) max_body h in
-      rw (line_due t) (rw (p, fits) at w)
+pub writes_line : {valid : Bool} (r : Result ℕ Errno) (body before after : List ℕ) {bs : List ℕ} → valid ≡ true → bs ≡ body → length body ≤ max_body
+    → WrittenTo r (frame_answer_of bs) before after → WrittenTo r (line_of valid body) before after
+writes_line r body before after v p h w =
+    let fits : leb (length body) max_body ≡ true = le-leb (length body) max_body h in
+    rw v (rw (p, fits) at w)
 
 -- a body is put together in a buffer of room bytes: the kind, and what is appended behind it
-pub body_put : (room kind : ℕ) (bs : List ℕ) {code after : List ℕ} {n : ℕ} → code ≡ bs → 1 + length bs ≤ room → Appended (set (replicate room 0) 0 kind) 1 code n after → take n after ≡ kind ∷ bs
+pub body_put : (room kind : ℕ) (bs : List ℕ) {after : List ℕ} {n : ℕ} → 1 + length bs ≤ room → Appended (set (replicate room 0) 0 kind) 1 bs n after → take n after ≡ kind ∷ bs
 unfolding put_at
-body_put room kind bs e h a =
+body_put room kind bs h a =
     let begun = set (replicate room 0) 0 kind in
     let k = length-replicate {A = ℕ} room 0 in
     let l : length begun ≡ room = length-set (replicate room 0) 0 kind ∙ k in
-    let p = appended_put (omega arith) (rw e at a) in
+    let p = appended_put (omega arith) a in
     let first : take 1 begun ≡ kind ∷ [] = take-suc-set (replicate room 0) 0 kind (omega arith) in
     let rest = drop (1 + length bs) begun in
     ap₂ take p.past (p.written ∙ ap (λ (xs : List ℕ). xs ++ bs ++ rest) first) ∙ take_at (kind ∷ bs) rest (1 + length bs) (omega arith)
 
 -- ---- the kind of a line
-
-pub no_kind : (kind : ℕ) → (kind ≡ 1 → ⊥) → (kind ≡ 2 → ⊥) → (kind ≡ 3 → ⊥) → (kind ≡ 4 → ⊥) → kind_numbered kind ≡ refused 22 none
-no_kind kind a b c d = stopped (leb 1 kind && leb kind 4) 22 _ (not_so (leb 1 kind && leb kind 4) (λ e.
-    none_of kind (leb-true 1 kind (first_true (leb 1 kind) (leb kind 4) e)) (leb-true kind 4 (second_true (leb 1 kind) (leb kind 4) e)) a b c d))
-  where
-    none_of : (k : ℕ) → 1 ≤ k → k ≤ 4 → (k ≡ 1 → ⊥) → (k ≡ 2 → ⊥) → (k ≡ 3 → ⊥) → (k ≡ 4 → ⊥) → ⊥
-    none_of k l h a b c d = omega arith
 
 pub kind_told : (line : List ℕ) → kind_numbered (byte_at (sound_body line (longest_body line_words)) 0) ≡ line_kind_of line
 kind_told line =

@@ -3,7 +3,7 @@
 use mathlib.Core.Bool.{true}
 use mathlib.Core.List.{List}
 use mathlib.Core.Path.{◌≡◌, sym, ◌∙◌}
-use Prim.Native.Nat.{ℕ, ◌+◌, ◌≤◌, ◌<◌, min}
+use Prim.Native.Nat.{ℕ, ◌+◌, ◌<◌, min}
 use native.Mathlib.Omega.{arith}
 use lib.ListN.{get_or, length, take, length-take}
 use lib.Seq.{ext_get_or, get_or-take}
@@ -106,8 +106,3 @@ name_letters e v = text_letters e.name.bytes e.name.length (valid_parts e v).nam
 pub abbreviation_letters : (e : Entry) → Entry.valid_of e ≡ true → (k : ℕ) → k < length (abbreviation_bytes e)
     → is_name_byte (get_or (abbreviation_bytes e) k 0) ≡ true
 abbreviation_letters e v = text_letters e.abbreviation.bytes e.abbreviation.length (valid_parts e v).abbreviation
-
--- ---- the name of an entry of the code's type, valid or not
-
-pub name_length : (e : Entry) → TypedEntry e → length (name_bytes e) ≤ name_size
-name_length e t = let n = t.name_has_size in let l = length-take e.name.length e.name.bytes in omega arith

@@ -1,7 +1,7 @@
 -- Document 01, "Hex lines": the lines of labels, ranges, tuples and alias entries, kinds 01 to 04. A body is the kind, then the contents;
 -- each definition is over the kind's number and the words that a set has in it.
 use Rattle.std.specs.Prelude.{Bool, ◌&&◌, List, ◌∷◌, ℕ, ◌+◌, ◌*◌, ◌^◌, eqb, leb, ltb, length}
-use Rattle.common.specs.Answer.{Answer, granted, refused_by, require}
+use Rattle.common.specs.Answer.{Answer, granted, require}
 use Rattle.label.specs.Label
 use Rattle.label.specs.Region.{regions}
 use Rattle.label.specs.declared.Label.{Label}
@@ -17,7 +17,7 @@ use Rattle.label_codec.specs.Tuples.{presence_of, present_below, regions_bytes, 
 use Rattle.alias_entry.specs.declared.Entry.{Entry}
 use Rattle.alias_entry.specs.declared.bytes.Span.{Span}
 use Rattle.hexline.specs.declared.Kind.{Kind}
-use Rattle.hexline.specs.declared.Kind.TheVariants.{OfLabel, OfRange, OfTuple, OfEntry, Refused}
+use Rattle.hexline.specs.declared.Kind.TheVariants as kinds
 
 -- ---- what a kind has in common with the others
 
@@ -124,13 +124,12 @@ abbreviation_in line = at_most abbreviation_size (layout_of line_words (body_of 
 
 -- ---- any line
 
--- what the enum Kind says
-abbrev pub kind_answer_of : Kind → Answer ℕ
-kind_answer_of OfLabel = granted 1
-kind_answer_of OfRange = granted 2
-kind_answer_of OfTuple = granted 3
-kind_answer_of OfEntry = granted 4
-kind_answer_of (Refused e) = refused_by e
+-- the number of the code's kind
+abbrev pub kind_number : Kind → ℕ
+kind_number kinds.Label = 1
+kind_number kinds.Range = 2
+kind_number kinds.Tuple = 3
+kind_number kinds.Entry = 4
 
 -- no kind's body is longer than that of a tuple with all its ranges
 abbrev pub longest_body : ℕ → ℕ

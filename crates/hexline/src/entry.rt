@@ -4,8 +4,7 @@ ghost use Rattle.alias_entry.specs.Entry.{valid_of, zero_entry};
 
 pub use alias_entry::bytes::{Layout, Span};
 pub use alias_entry::{
-    ABBREVIATION_BYTES, Abbreviation, Entry, EntryAnswer, MAX_ABBREVIATION, MAX_NAME, NAME_BYTES,
-    Name, Value,
+    ABBREVIATION_BYTES, Abbreviation, Entry, MAX_ABBREVIATION, MAX_NAME, NAME_BYTES, Name, Value,
 };
 
 // The entry of zeros.

@@ -7,7 +7,7 @@ ghost use Rattle.label_codec.specs.Body.{byte_at, line_words};
 ghost use Rattle.alias_entry.specs.Entry.{abbreviation_size, at_most, layout_of, name_size, span_of};
 ghost use Rattle.hexline.specs.Line.{abbreviation_in, name_in, standing_in};
 
-use alias_entry::bytes::{Layout, Span, value_from, value_size};
+use alias_entry::bytes::{Bytes, Span, layout_behind, value_from};
 use alias_entry::{ABBREVIATION_BYTES, NAME_BYTES, Value};
 use label::Label;
 use label_codec::LINE_WORDS;
@@ -24,65 +24,50 @@ pub struct TextSpans {
 fn at_most(most: usize, s: Span) -> Span
     ensures { result ≡ at_most most s }
 {
-    let length = if s.length < most { s.length } else { most };
-    Span { at: s.at, length }
-}
-
-// A byte of a line's body as a length.
-fn length_at(line: &[u8], i: usize) -> usize
-    ensures value { result ≡ byte_at (body_of line.now) i }
-    ensures upper_bound { result < 256 }
-{
-    frame::byte(line, i) as usize
-}
-
-// The text whose length is at index at of a line's body.
-fn span_at(line: &[u8], at: usize) -> Span
-    requires { at < 1024 }
-    ensures value { result ≡ span_of (body_of line.now) at }
-    ensures at_value { (result.at ≡ at + 1) × (result.length < 256) }
-{
     Span {
-        at: at + 1,
-        length: length_at(line, at),
+        at: s.at,
+        length: s.length.min(most),
     }
 }
 
-// The layout of the entry in a line's body.
-fn layout_at(line: &[u8]) -> Layout
-    ensures value { result ≡ layout_of line_words (body_of line.now) 1 }
-    ensures at_bound { (result.name.at < 512) × (result.abbreviation.at < 768) × (result.abbreviation.length < 256) }
-{
-    let class = frame::byte(line, 1);
-    let name = span_at(line, 2 + value_size(class, LINE_WORDS));
-    let abbreviation = span_at(line, name.at + name.length);
-    Layout {
-        class,
-        name,
-        abbreviation,
+// The bytes of a line's body, read where their digits stand.
+#[derive(Clone, Copy)]
+struct BodyOf<'a> {
+    line: &'a [u8],
+}
+
+impl<'a> Bytes for BodyOf<'a> {
+    ghost bytes = { λ b. body_of b.line.now };
+
+    fn byte(&self, i: usize) -> u8 {
+        frame::byte(self.line, i)
     }
 }
 
 // What the entry stands for; of a whole label, `label` has the label.
+#[tactic(auto, unfolding(crate::specs::Line::standing_in, alias_entry::specs::Entry::entry_from, alias_entry::specs::Entry::layout_of))]
 pub fn value(line: &[u8]) -> Value
     ensures { result ≡ (standing_in line.now).value }
 {
-    value_from(frame::byte(line, 1), frame::byte(line, 2))
+    value_from(
+        u64::from(frame::byte(line, 1)),
+        u64::from(frame::byte(line, 2)),
+    )
 }
 
 // Bytes of a line's body from index at on, in all of out.
+#[tactic(auto, using(common::proofs::IndexLaws::fill_all, common::proofs::IndexLaws::fill_none))]
 fn bytes_from(line: &[u8], at: usize, out: &mut [u8])
     requires { at + length out.old < 1024 }
     ensures { out.new ≡ tabulate (λ k. byte_at (body_of line.now) (at + k)) (length out.old) }
 {
-    let mut k = 0;
-    while k < out.len() {
-        out[k] = frame::byte(line, at + k);
-        k += 1;
+    for (k, b) in out.iter_mut().enumerate() {
+        *b = frame::byte(line, at + k);
     }
 }
 
 // The hierarchy of that label.
+#[tactic(auto, unfolding(crate::specs::Line::standing_in, alias_entry::specs::Entry::entry_from, alias_entry::specs::Entry::layout_of, alias_entry::specs::Entry::label_from, label_codec::specs::Body::label_at))]
 pub fn hierarchy(line: &[u8]) -> u64
     ensures { result ≡ (standing_in line.now).label.hierarchy }
 {
@@ -93,6 +78,7 @@ pub fn hierarchy(line: &[u8]) -> u64
 }
 
 // The label of the entry, zeros where its class has none.
+#[tactic(auto, unfolding(crate::specs::Line::standing_in, alias_entry::specs::Entry::entry_from, alias_entry::specs::Entry::layout_of, alias_entry::specs::Entry::label_from))]
 pub fn label(line: &[u8]) -> Label
     ensures { result ≡ (standing_in line.now).label }
 {
@@ -105,11 +91,12 @@ pub fn label(line: &[u8]) -> Label
 }
 
 // Where the texts of the entry stand in the line's body. The second clause follows, and is stated for callers.
+#[tactic(auto, unfolding(crate::specs::Line::name_in, crate::specs::Line::abbreviation_in))]
 pub fn texts(line: &[u8]) -> TextSpans
     ensures name_value { (result.name ≡ name_in line.now) × (result.abbreviation ≡ abbreviation_in line.now) }
     ensures length_bound { (result.name.at + result.name.length < 1024) × (result.name.length ≤ name_size) × (result.abbreviation.at + result.abbreviation.length < 1024) × (result.abbreviation.length ≤ abbreviation_size) }
 {
-    let p = layout_at(line);
+    let p = layout_behind(&BodyOf { line }, LINE_WORDS);
     TextSpans {
         name: at_most(NAME_BYTES, p.name),
         abbreviation: at_most(ABBREVIATION_BYTES, p.abbreviation),

@@ -1,25 +1,28 @@
-// Lines of an input, one at a time, in two buffers that the program lends: a chunk to read into, and one for a line. A program asks for the next
-// line and works on it until none is left. The input is a reader that the program lends too: the standard input, or any other.
+// Lines of an input, one at a time, in two buffers that the program lends: a chunk to read into, and one for a line. A program hands a closure to
+// `for_each_line`, which calls it at each line. The input is a reader that the program lends too: the standard input, or any other.
 #![tactic(auto)]
 
-ghost use Rattle.std.specs.Prelude.{false, ◌≡◌, length};
-ghost use Rattle.input.specs.Input.{NextLine, Pieced, Refilled, Stepped, Waited, empty_input, lines_after, lines_with, most_lines, turn_after_read, waits_of};
+ghost use Rattle.std.specs.Prelude.{◌≡◌, length};
+ghost use Rattle.std.specs.Fn.{CalledAt};
+ghost use Rattle.input.specs.Input.{AllFed, NextLine, Pieced, Refilled, Stepped, Waited, Written, failed_of, found_of, start_input, waits_of};
 
 use console::lines;
 use console::lines::{Line, Partial};
-use std::io::Read;
+use std::io::{Read, Write};
 
 // Where the input stands.
 #[derive(Clone, Copy)]
-pub struct Input {
-    // What is held of a line.
-    pub partial: Partial,
-    // Of the chunk, the bytes from index at up to index filled are left to take.
-    pub at: usize,
-    pub filled: usize,
-    // The last step found the end of the input, and whether that was a read that failed.
-    pub ended: bool,
-    pub failed: bool,
+pub enum Input {
+    // Some of a line may be held, and the bytes of the chunk from index at up to index filled are left to take.
+    Open {
+        partial: Partial,
+        at: usize,
+        filled: usize,
+    },
+    // The last read found the end.
+    Ended,
+    // The last read failed, which ends the input too.
+    Failed,
 }
 
 // What a step makes: no line yet, a line at the front of the buffer, or a bad one; and where the input stands then.
@@ -33,118 +36,92 @@ struct Turn {
 #[derive(Clone, Copy)]
 pub struct Lines {
     pub input: Input,
-    // How many bytes the line has at the front of the buffer. A bad line has none.
-    pub length: usize,
-    // How many lines may still come, with the one at hand: none at the end. A proved loop has to end, and nothing says that the input does, so they are
-    // counted down, from a number that no run uses up.
-    pub left: u64,
+    // How many bytes the line has at the front of the buffer, none where it is a bad line. There is no line at the end.
+    pub line: Option<usize>,
 }
 
 // Nothing is held and nothing is left to take.
-fn empty_input(ended: bool, failed: bool) -> Input
-    ensures { result ≡ empty_input ended failed }
+pub fn start() -> Input
+    ensures { result ≡ start_input }
 {
-    Input {
+    Input::Open {
         partial: lines::start(),
         at: 0,
         filled: 0,
-        ended,
-        failed,
-    }
-}
-
-// No line is at hand yet.
-pub fn start() -> Lines
-    ensures { result ≡ lines_with (empty_input false false) 0 most_lines }
-{
-    lines_with(empty_input(false, false), 0, u64::MAX)
-}
-
-fn lines_with(input: Input, length: usize, left: u64) -> Lines
-    ensures { result ≡ lines_with input length left }
-{
-    Lines {
-        input,
-        length,
-        left,
     }
 }
 
 // Takes the next piece of the chunk.
-fn next_piece(i: Input, chunk: &[u8], line: &mut [u8]) -> Turn
-    ensures { Pieced i chunk.now line.old result line.new }
+fn next_piece(partial: Partial, at: usize, filled: usize, chunk: &[u8], line: &mut [u8]) -> Turn
+    ensures { Pieced partial at filled chunk.now line.old result line.new }
 {
-    let partial = i.partial;
-    let piece = lines::take(octets::front(chunk, i.filled), i.at, line, partial);
-    let held = piece.partial;
-    let l = piece.line;
-    let input = Input {
-        partial: held,
-        at: piece.next,
-        filled: i.filled,
-        ended: false,
-        failed: false,
-    };
-    Turn { input, line: l }
-}
-
-// What a read of n bytes makes. No bytes are the end of the input, or a read that failed, which ends it too.
-#[tactic(auto, unfolding(crate::specs::Input::turn_after_read))]
-fn after_read(partial: Partial, n: usize, failed: bool) -> Turn
-    ensures { result ≡ turn_after_read partial n failed }
-{
-    if n == 0 {
-        let input = empty_input(true, failed);
-        return Turn {
-            input,
-            line: lines::last(partial),
-        };
-    }
-    let input = Input {
-        partial,
-        at: 0,
-        filled: n,
-        ended: false,
-        failed: false,
-    };
+    let piece = lines::take(octets::front(chunk, filled), at, line, partial);
     Turn {
-        input,
-        line: Line::More,
+        input: Input::Open {
+            partial: piece.partial,
+            at: piece.next,
+            filled,
+        },
+        line: piece.line,
     }
 }
 
-// Reads once. What a reader answers is open, and these lines are all that depends on it.
+// Reads once. No bytes are the end of the input, and a read that fails ends it too. What a reader answers is open, and these lines are all that
+// depends on it.
 fn refill<R: Read>(reader: &mut R, partial: Partial, chunk: &mut [u8]) -> Turn
     ensures { Refilled partial (length chunk.old) result }
 {
     match reader.read(chunk) {
-        Ok(n) => after_read(partial, n, false),
-        Err(_) => after_read(partial, 0, true),
+        Ok(0) => Turn {
+            input: Input::Ended,
+            line: lines::last(partial),
+        },
+        Ok(filled) => Turn {
+            input: Input::Open {
+                partial,
+                at: 0,
+                filled,
+            },
+            line: Line::More,
+        },
+        Err(_) => Turn {
+            input: Input::Failed,
+            line: lines::last(partial),
+        },
     }
 }
 
 // Takes the next piece of the chunk where some of it is left, and reads once where none is. What is read is open: the contract says nothing of
-// the bytes, and of their number that the chunk has room for them and that none are the end.
+// the bytes, and of their number that the chunk has room for them and that none are the end. At the end nothing is read.
 fn step<R: Read>(reader: &mut R, i: Input, chunk: &mut [u8], line: &mut [u8]) -> Turn
     ensures { Stepped i chunk.old line.old result chunk.new line.new }
 {
-    if (i.at < i.filled) & (i.at < chunk.len()) {
-        return next_piece(i, chunk, line);
+    match i {
+        Input::Open {
+            partial,
+            at,
+            filled,
+        } => {
+            if (at < filled) & (at < chunk.len()) {
+                next_piece(partial, at, filled, chunk, line)
+            } else {
+                refill(reader, partial, chunk)
+            }
+        }
+        Input::Ended | Input::Failed => Turn {
+            input: i,
+            line: Line::More,
+        },
     }
-    let partial = i.partial;
-    refill(reader, partial, chunk)
 }
 
 // Whether a step is to be followed by another: it made no line and did not find the end.
 fn waits(t: Turn) -> bool
     ensures { result ≡ waits_of t }
 {
-    let input = t.input;
-    let line = t.line;
-    match line {
-        Line::More => !input.ended,
-        Line::Whole(_) => false,
-        Line::Bad => false,
+    match (t.line, t.input) {
+        (Line::More, Input::Open { .. }) => true,
+        _ => false,
     }
 }
 
@@ -156,34 +133,78 @@ fn steps<R: Read>(reader: &mut R, i: Input, chunk: &mut [u8], line: &mut [u8]) -
         input: i,
         line: Line::More,
     };
-    let mut turns = u64::MAX;
-    while waits(t) & (turns > 0) {
+    for _ in 0..u64::MAX {
+        if !waits(t) {
+            return t;
+        }
         t = step(reader, t.input, chunk, line);
-        turns -= 1;
     }
     t
 }
 
-// The lines after a step, where so many may still come.
-fn after_step(left: u64, t: Turn) -> Lines
-    ensures { result ≡ lines_after left t.input t.line }
+// How many bytes there are of the line that a step made. A bad line has none.
+fn found(line: Line) -> Option<usize>
+    ensures { result ≡ found_of line }
 {
-    let input = t.input;
-    let line = t.line;
     match line {
-        Line::More => lines_with(input, 0, 0),
-        Line::Whole(n) => lines_with(input, n, left),
-        Line::Bad => lines_with(input, 0, left),
+        Line::More => None,
+        Line::Whole(n) => Some(n),
+        Line::Bad => Some(0),
     }
 }
 
 // The next line, by as many steps as it takes. At the end there is none, and nothing is read.
-pub fn next<R: Read>(reader: &mut R, l: Lines, chunk: &mut [u8], line: &mut [u8]) -> Lines
-    ensures { NextLine l chunk.old line.old result chunk.new line.new }
+pub fn next<R: Read>(reader: &mut R, i: Input, chunk: &mut [u8], line: &mut [u8]) -> Lines
+    ensures { NextLine i chunk.old line.old result chunk.new line.new }
 {
-    if l.left == 0 {
-        return lines_with(l.input, 0, 0);
+    let t = steps(reader, i, chunk, line);
+    Lines {
+        input: t.input,
+        line: found(t.line),
     }
-    let t = steps(reader, l.input, chunk, line);
-    after_step(l.left - 1, t)
+}
+
+// Whether a read failed.
+fn has_failed(i: Input) -> bool
+    ensures { result ≡ failed_of i }
+{
+    match i {
+        Input::Failed => true,
+        Input::Open { .. } | Input::Ended => false,
+    }
+}
+
+// Calls f at each line, one after the other, and answers whether a read failed. A bad line comes as no bytes at all.
+pub fn for_each_line<R: Read, F: FnMut(&[u8])>(
+    reader: &mut R,
+    chunk: &mut [u8],
+    line: &mut [u8],
+    mut f: F,
+) -> bool
+    requires { F.IsAlwaysCallable f }
+    ensures { AllFed (λ p x q. CalledAt F.FnMut p x tt q) f chunk.old line.old result chunk.new line.new }
+{
+    let mut i = start();
+    for _ in 0..u64::MAX {
+        let l = next(reader, i, chunk, line);
+        let Some(n) = l.line else {
+            return has_failed(l.input);
+        };
+        f(octets::front(line, n));
+        i = l.input;
+    }
+    has_failed(i)
+}
+
+// Writes the bytes of an answer and says whether they were written. Where they were not, that is told on the standard error, by the name of the program.
+pub fn print_bytes<W: Write>(out: &mut W, rt: &impl Eprint, name: &str, bytes: &[u8]) -> bool
+    ensures { Written W.contents out.old bytes.now result out.new }
+{
+    match out.write_all(bytes) {
+        Ok(()) => true,
+        Err(_) => {
+            let _ = eprintln!(rt; "{name}: can't write to the standard output");
+            false
+        }
+    }
 }

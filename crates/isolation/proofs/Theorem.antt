@@ -4,7 +4,7 @@
 use mathlib.Core.Bool.{Bool, true, false, cond, true≢false}
 use mathlib.Core.List.{List, [], ◌∷◌, Forall₂, List-discrete}
 use mathlib.Core.Logic.{◌⊎◌, inl, inr, ⊎_elim}
-use mathlib.Core.Option.{Option, none, some}
+use Rattle.std.specs.Prelude.{Option, None, Some}
 use mathlib.Core.Path.{◌≡◌, refl, sym, ap, ap₂, ◌∙◌, subst}
 use Prim.Native.Nat.{ℕ}
 use native.Mathlib.Decide.{ℕ_discrete}
@@ -18,7 +18,7 @@ use Rattle.label.specs.declared.Label.{Label}
 use Rattle.common.proofs.BoolLaws.{not_so}
 use Rattle.common.proofs.SearchLaws.{any_then, none_of}
 use Rattle.segments.specs.Calls.{call_row, step_of, visible}
-use Rattle.segment_table.specs.Replies.{shown}
+use Rattle.segment_table.specs.declared.Reply.TheVariants.{Shown as shown}
 use Rattle.segment_table.specs.Segments.{segment_at, segment_of, tenant_id, tenant_total}
 use Rattle.segment_table.specs.Slots.{owns}
 use Rattle.segment_table.specs.Sound.{sound}
@@ -187,7 +187,7 @@ abbrev entry : SegmentTable → Call → Entry
 entry s c = record { call = c; table = s; answer = (step_of s c).answer }
 
 -- a look at a slot of another's: the answers differ exactly as demand 3 says, and are equal otherwise
-look_compared : (s u : SegmentTable) (c : Call) (p : Slot) → Alike c.tenant s u → (call_row c.action).looked_at ≡ some p → LookCompared p (entry s c) (entry u c)
+look_compared : (s u : SegmentTable) (c : Call) (p : Slot) → Alike c.tenant s u → (call_row c.action).looked_at ≡ Some p → LookCompared p (entry s c) (entry u c)
 look_compared s u c p k e = by (checked c.tenant s u k c.label c.action)
   where
     by : Checked s u c → LookCompared p (entry s c) (entry u c)
@@ -195,7 +195,7 @@ look_compared s u c p k e = by (checked c.tenant s u k c.label c.action)
         record {
           differ = (
             λ h. absurd (h (f ∙ sym g)),
-            λ d. absurd (⊎_elim (λ (q : n ≡ 22). (d.unrefused.0 none).0 (f ∙ ap (λ (n : ℕ). refused n none) q)) (λ (q : n ≡ 1). (d.unrefused.0 none).1 (f ∙ ap (λ (n : ℕ). refused n none) q)) m),
+            λ d. absurd (⊎_elim (λ (q : n ≡ 22). (d.unrefused.0 None).0 (f ∙ ap (λ (n : ℕ). refused n None) q)) (λ (q : n ≡ 1). (d.unrefused.0 None).1 (f ∙ ap (λ (n : ℕ). refused n None) q)) m),
           );
           equal = λ h. f ∙ sym g;
         }
@@ -226,16 +226,16 @@ look_compared s u c p k e = by (checked c.tenant s u k c.label c.action)
 compared : (s u : SegmentTable) (c : Call) → Alike c.tenant s u → Compared (other_slot s c.tenant (call_row c.action).looked_at) (entry s c) (entry u c)
 compared s u c k = go (call_row c.action).looked_at refl
   where
-    same : ((p : Slot) → (call_row c.action).looked_at ≡ some p → owns s c.tenant p ≡ true) → (step_of s c).answer ≡ (step_of u c).answer
+    same : ((p : Slot) → (call_row c.action).looked_at ≡ Some p → owns s c.tenant p ≡ true) → (step_of s c).answer ≡ (step_of u c).answer
     same m = answer_same c.tenant s u k c.label c.action m
 
-    at : (p : Slot) → (call_row c.action).looked_at ≡ some p → (b : Bool) → owns s c.tenant p ≡ b → Compared (cond b none (some p)) (entry s c) (entry u c)
+    at : (p : Slot) → (call_row c.action).looked_at ≡ Some p → (b : Bool) → owns s c.tenant p ≡ b → Compared (cond b None (Some p)) (entry s c) (entry u c)
     at p e true o = same (λ q f. let i : p ≡ q = cc in ap (owns s c.tenant) (sym i) ∙ o)
     at p e false o = look_compared s u c p k e
 
     go : (o : Option Slot) → (call_row c.action).looked_at ≡ o → Compared (other_slot s c.tenant o) (entry s c) (entry u c)
-    go none e = same (looks_at_own s c.tenant c.action e)
-    go (some p) e = at p e (owns s c.tenant p) refl
+    go None e = same (looks_at_own s c.tenant c.action e)
+    go (Some p) e = at p e (owns s c.tenant p) refl
 
 -- ---- the entries of one tenant
 

@@ -1,10 +1,9 @@
 -- Demand 3 of 00-demands.md, over the calls of document 01's table (`step_of`).
-use Rattle.std.specs.Prelude.{true, cond, ◌⊎◌, ◌↔◌, ◌≡◌, ℕ, ◌<◌, ◌≤◌, eqb}
+use Rattle.std.specs.Prelude.{true, cond, ◌⊎◌, ◌↔◌, ◌≡◌, ℕ, ◌<◌, ◌≤◌, eqb, Option, None, Some}
 use mathlib.Core.List.{List, [], ◌∷◌, Forall₂}
-use Rattle.std.proofs.Math.Option.{Option, none, some}
 use Rattle.common.specs.Answer.{Answer, refused}
 use Rattle.segments.specs.Calls.{call_row, step_of, visible}
-use Rattle.segment_table.specs.Replies.{Grant}
+use Rattle.segment_table.specs.declared.Reply.{Reply as Grant}
 use Rattle.segment_table.specs.Segments.{ceiling_at, clearance_at, segment_at, tenant_total}
 use Rattle.segment_table.specs.Slots.{owns, pages_of}
 use Rattle.segment_table.specs.Sound.{sound}
@@ -59,8 +58,8 @@ Interleaving xs ys = (t : TenantId) → calls_of t xs ≡ calls_of t ys
 
 -- the slot of a look that is not at a place of the caller's own
 abbrev pub other_slot : SegmentTable → TenantId → Option Slot → Option Slot
-other_slot s t none = none
-other_slot s t (some p) = cond (owns s t p) none (some p)
+other_slot s t None = None
+other_slot s t (Some p) = cond (owns s t p) None (Some p)
 
 -- "Any other look gets different answers exactly when neither is the refusal 22 or 1, its place doesn't hold the same in both lists at
 -- that moment, and in at least one the looker's label dominates the label there (an empty place has none)."
@@ -80,8 +79,8 @@ pub record LookCompared (p : Slot) (e f : Entry) : Type 0 where
   pub equal : (Different p e f → ⊥) → e.answer ≡ f.answer
 
 abbrev pub Compared : Option Slot → Entry → Entry → Type 0
-Compared none e f = e.answer ≡ f.answer
-Compared (some p) e f = LookCompared p e f
+Compared None e f = e.answer ≡ f.answer
+Compared (Some p) e f = LookCompared p e f
 
 -- a tenant's k-th calls in two lists
 pub record Agree (e f : Entry) : Type 0 where

@@ -1,7 +1,7 @@
 -- Labels and regions on examples beside those of the crate `examples`, by computation.
 use mathlib.Core.Bool.{true, false}
 use mathlib.Core.List.{[], ◌∷◌}
-use mathlib.Core.Option.{none, some}
+use Rattle.std.specs.Prelude.{None, Some}
 use mathlib.Core.Path.{◌≡◌, refl}
 use Prim.Native.Nat.{◌+◌, ◌^◌}
 use Rattle.label.specs.Example.{example_of}
@@ -35,15 +35,15 @@ listed : members_of ((2 ^ 7) ∷ (2 ^ 63 + 1) ∷ 0 ∷ (2 ^ 63) ∷ []) ≡ 7 �
 unfolding members_of members_below has bit
 listed = refl
 
-next_here : next_category_from ((2 ^ 7) ∷ 0 ∷ 0 ∷ (2 ^ 63) ∷ []) 7 ≡ some 7
+next_here : next_category_from ((2 ^ 7) ∷ 0 ∷ 0 ∷ (2 ^ 63) ∷ []) 7 ≡ Some 7
 unfolding next_category_from first_from has bit
 next_here = refl
 
-next_last : next_category_from ((2 ^ 7) ∷ 0 ∷ 0 ∷ (2 ^ 63) ∷ []) 8 ≡ some 255
+next_last : next_category_from ((2 ^ 7) ∷ 0 ∷ 0 ∷ (2 ^ 63) ∷ []) 8 ≡ Some 255
 unfolding next_category_from first_from has bit
 next_last = refl
 
-next_above : next_category_from ((2 ^ 7) ∷ 0 ∷ 0 ∷ (2 ^ 63) ∷ []) 256 ≡ none
+next_above : next_category_from ((2 ^ 7) ∷ 0 ∷ 0 ∷ (2 ^ 63) ∷ []) 256 ≡ None
 unfolding next_category_from first_from has bit
 next_above = refl
 

@@ -4,20 +4,25 @@ use mathlib.Core.Bool.{Bool, true, false, true≢false}
 use mathlib.Core.List.Memᴰ
 use mathlib.Core.List.{List, [], ◌∷◌, ◌++◌, append_assoc, append-nil, Memᴰ}
 use mathlib.Core.Logic.{⊎_elim, ◌⊎◌, inl, inr, ◌↔◌}
-use mathlib.Core.Option.{Option, none, some}
+use Rattle.std.specs.Prelude.{Option, None, Some}
 use mathlib.Core.Path.{◌≡◌, refl, sym, ap, ap₂, ◌∙◌}
 use Prim.Native.Nat.{ℕ, zero, suc, ◌+◌, ◌-◌, ◌*◌, ◌/◌, ◌%◌, ◌^◌, ◌≤◌, ◌<◌}
-use native.Mathlib.Nat.{zero-lt-suc, le_refl, lt_of_not-le, lt_of_le_of_lt, eq-or-lt_of_le, le_of_suc-le-suc, add-zero, add-suc, add_assoc, add_comm, mod-lt, mod-one, mod-eq_of_lt, div-lt_iff_lt-mul, pow-suc}
+use native.Mathlib.Nat.{zero-lt-suc, le_refl, lt_of_not-le, lt_of_le_of_lt, eq-or-lt_of_le, le_of_suc-le-suc, add-zero, add-suc, add_assoc, add_comm, mod-lt, mod-one, mod-eq_of_lt}
 use native.Mathlib.Numerals.{add-one, one-add}
 use native.Mathlib.Omega.{arith}
-use lib.Count.{ones, ones_cat, count_trailing_zeros, under}
+use lib.Count.{ones, ones-le, ones_cat, count_trailing_zeros}
+use mir.Syntax.{w64}
 use lib.Dec.{eqb}
-use lib.ListN.{length, get_or, length-append, get_or-append, get_or-eq_default}
+use lib.ListN.{length, get_or, take, length-append, get_or-append, get_or-eq_default}
 use lib.Pow.{pow_pos, mod-pow-add, shr-shr, shr_le}
-use lib.Seq.{get_or_at}
+use lib.Seq.{get_or_at, take_all}
+use Rattle.std.specs.List.{sum_by}
+use Rattle.std.proofs.lemmas.List.Sums.{sum_by-le, sum_by_more}
+use Rattle.std.proofs.lemmas.List.Elements.{All-from_get_or}
+use Rattle.std.proofs.lemmas.Nat.Bits.{bit_at-trailing_zeros}
 use Rattle.common.specs.Index.{first_from}
 use Rattle.label.specs.Words.{bit, has, listed_if, members_below, members_of, next_category_from, word_at}
-use Rattle.label.proofs.BitLaws.{bit_high, bit_suc, bit_zero}
+use Rattle.label.proofs.BitLaws.{bit_high}
 use Rattle.common.proofs.IndexLaws.{le_or_lt}
 use Rattle.common.proofs.SearchLaws.{Least, first_least, first_none, hit, pass, search_end}
 use Rattle.label.proofs.WordLaws.{has_at}
@@ -77,95 +82,95 @@ below_more ws i h =
     ap (λ (c : ℕ). length (members_below ws c)) e ∙ below_word ws i 64 (le_refl 64)
     ∙ ap (λ (n : ℕ). length (members_below ws (i * 64)) + ones n) (mod-eq_of_lt h)
 
--- ---- the lowest set bit
+words_counted : (ws : List ℕ) → ((i : ℕ) → word_at ws i < 2 ^ 64) → (i : ℕ) → i ≤ length ws → sum_by ones (take i ws) ≡ length (members_below ws (i * 64))
+unfolding members_below
+words_counted ws fits zero l = refl
+words_counted ws fits (suc i) l =
+    ap (λ (n : ℕ). sum_by ones (take n ws)) (sym (add-one i)) ∙ sum_by_more ones ws i 0 l
+    ∙ ap (λ (n : ℕ). n + ones (word_at ws i)) (words_counted ws fits i (omega arith)) ∙ sym (below_more ws i (fits i))
+    ∙ ap (λ (n : ℕ). length (members_below ws (n * 64))) (add-one i)
 
-tz_low : (k x j : ℕ) → j < count_trailing_zeros k x → bit x j ≡ false
-unfolding count_trailing_zeros
-tz_low zero x j h = absurd (omega arith)
-tz_low (suc k) x j h = go (x % 2) refl j h (tz_low k (x / 2))
-  where
-    go : (r : ℕ) → x % 2 ≡ r → (j : ℕ) → j < under r (count_trailing_zeros k (x / 2)) → ((i : ℕ) → i < count_trailing_zeros k (x / 2) → bit (x / 2) i ≡ false) → bit x j ≡ false
-    go zero e zero l ih = bit_zero x ∙ ap (λ (z : ℕ). eqb z 1) e
-    go zero e (suc i) l ih = bit_suc x i ∙ ih i (le_of_suc-le-suc l)
-    go (suc r) e i l ih = absurd (omega arith)
+-- a set has as many categories as its words have set bits
+pub count_words : (ws : List ℕ) → ((i : ℕ) → word_at ws i < 2 ^ 64) → sum_by ones ws ≡ length (members_of ws)
+unfolding members_of
+count_words ws fits = ap (sum_by ones) (sym (take_all (length ws) ws (le_refl (length ws)))) ∙ words_counted ws fits (length ws) (le_refl (length ws))
 
-is_one : (x r : ℕ) → x % 2 ≡ suc r → x % 2 ≡ 1
-is_one x r e = omega arith
+pub count_at_most : (ws : List ℕ) → ((i : ℕ) → word_at ws i < 2 ^ 64) → sum_by ones ws ≤ length ws * 64
+count_at_most ws fits = sum_by-le ones 64 ws (All-from_get_or (λ w. ones w ≤ 64) ws 0 (λ i l. ones-le 64 (word_at ws i) (fits i)))
 
-tz_hit : (k x : ℕ) → 0 < x → x < 2 ^ k → bit x (count_trailing_zeros k x) ≡ true
-unfolding count_trailing_zeros
-tz_hit zero x p h = absurd (omega arith)
-tz_hit (suc k) x p h = go (x % 2) refl (λ q. tz_hit k (x / 2) q ((div-lt_iff_lt-mul (zero-lt-suc 1)).1 (rw pow-suc at h)))
-  where
-    go : (r : ℕ) → x % 2 ≡ r → (0 < x / 2 → bit (x / 2) (count_trailing_zeros k (x / 2)) ≡ true) → bit x (under r (count_trailing_zeros k (x / 2))) ≡ true
-    go zero e ih = bit_suc x _ ∙ ih (omega arith)
-    go (suc r) e ih = bit_zero x ∙ ap (λ (z : ℕ). eqb z 1) (is_one x r e)
+-- ---- the lowest set bit of a word
+
+module _ (x : ℕ) (p : 0 < x) (h : x < 2 ^ 64) where
+  lowest_set : bit x (count_trailing_zeros 64 x) ≡ true
+  unfolding bit
+  lowest_set = ap (λ (r : ℕ). eqb r 1) (bit_at-trailing_zeros w64 x p h).1
+
+  none_lower : (j : ℕ) → j < count_trailing_zeros 64 x → bit x j ≡ false
+  unfolding bit
+  none_lower j l = ap (λ (r : ℕ). eqb r 1) ((bit_at-trailing_zeros w64 x p h).2 j l)
 
 -- ---- the next category, word by word
-
--- the bits from category c on, to the end of its word
-abbrev pub shifted : List ℕ → ℕ → ℕ
-shifted ws c = word_at ws (c / 64) / 2 ^ (c % 64)
 
 bit_shr : (w s j : ℕ) → bit w (s + j) ≡ bit (w / 2 ^ s) j
 unfolding bit
 bit_shr w s j = ap (λ (z : ℕ). eqb (z % 2) 1) (sym (shr-shr w s j))
 
-has_shifted : (ws : List ℕ) (c j : ℕ) → c % 64 + j < 64 → has ws (c + j) ≡ bit (shifted ws c) j
-has_shifted ws c j h =
-    let e : c + j ≡ c / 64 * 64 + (c % 64 + j) = omega arith in
-    ap (has ws) e ∙ has_at ws (c / 64) (c % 64 + j) h ∙ bit_shr (word_at ws (c / 64)) (c % 64) j
+-- the bits of word i from s on, to its end, are the categories from i * 64 + s on
+has_shifted : (ws : List ℕ) (i s j : ℕ) → s + j < 64 → has ws (i * 64 + s + j) ≡ bit (word_at ws i / 2 ^ s) j
+has_shifted ws i s j h = ap (has ws) (add_assoc (i * 64) s j) ∙ has_at ws i (s + j) h ∙ bit_shr (word_at ws i) s j
 
 -- the lowest set bit of a shifted word lies in the word
 tz_inside : (w s : ℕ) → w < 2 ^ 64 → 0 < w / 2 ^ s → s + count_trailing_zeros 64 (w / 2 ^ s) < 64
 tz_inside w s h p =
     lt_of_not-le (λ (g : 64 ≤ s + count_trailing_zeros 64 (w / 2 ^ s)).
-    true≢false (sym (tz_hit 64 (w / 2 ^ s) p (lt_of_le_of_lt (shr_le w s) h)) ∙ sym (bit_shr w s _) ∙ bit_high w 64 _ h g))
+    true≢false (sym (lowest_set (w / 2 ^ s) p (lt_of_le_of_lt (shr_le w s) h)) ∙ sym (bit_shr w s _) ∙ bit_high w 64 _ h g))
 
--- a step of the search by words: the word has a category at or above c, or the search goes on with the next word
-pub next_hit : (ws : List ℕ) (c : ℕ) → c < length ws * 64 → word_at ws (c / 64) < 2 ^ 64 → 0 < shifted ws c
-    → some (c + count_trailing_zeros 64 (shifted ws c)) ≡ next_category_from ws c
+-- a step of the search by words: word i has a category at or above i * 64 + s, or the search goes on with the next word
+pub next_hit : (ws : List ℕ) (i s : ℕ) → i < length ws → word_at ws i < 2 ^ 64 → 0 < word_at ws i / 2 ^ s
+    → Some (i * 64 + s + count_trailing_zeros 64 (word_at ws i / 2 ^ s)) ≡ next_category_from ws (i * 64 + s)
 unfolding next_category_from
-next_hit ws c l h p =
-    let s : c % 64 + count_trailing_zeros 64 (shifted ws c) < 64 = tz_inside (word_at ws (c / 64)) (c % 64) h p in
-    sym (hit (has ws) c (length ws * 64 - c) (count_trailing_zeros 64 (shifted ws c)) (omega arith)
-    (λ j k. has_shifted ws c j (omega arith) ∙ tz_low 64 (shifted ws c) j k)
-    (has_shifted ws c _ s ∙ tz_hit 64 (shifted ws c) p (lt_of_le_of_lt (shr_le (word_at ws (c / 64)) (c % 64)) h)))
+next_hit ws i s l h p =
+    let w : ℕ = word_at ws i in
+    let small : w / 2 ^ s < 2 ^ 64 = lt_of_le_of_lt (shr_le w s) h in
+    let t : s + count_trailing_zeros 64 (w / 2 ^ s) < 64 = tz_inside w s h p in
+    sym (hit (has ws) (i * 64 + s) (length ws * 64 - (i * 64 + s)) (count_trailing_zeros 64 (w / 2 ^ s)) (omega arith)
+    (λ j k. has_shifted ws i s j (omega arith) ∙ none_lower (w / 2 ^ s) p small j k)
+    (has_shifted ws i s _ t ∙ lowest_set (w / 2 ^ s) p small))
 
-pub next_pass : (ws : List ℕ) (c : ℕ) → c < length ws * 64 → shifted ws c ≡ 0 → next_category_from ws c ≡ next_category_from ws ((c / 64 + 1) * 64)
+pub next_pass : (ws : List ℕ) (i s : ℕ) → i < length ws → s < 64 → word_at ws i / 2 ^ s ≡ 0 → next_category_from ws (i * 64 + s) ≡ next_category_from ws ((i + 1) * 64)
 unfolding next_category_from
-next_pass ws c l e =
-    let f : length ws * 64 - c ≡ (64 - c % 64) + (length ws * 64 - (c / 64 + 1) * 64) = omega arith in
-    let g : c + (64 - c % 64) ≡ (c / 64 + 1) * 64 = omega arith in
-    ap (first_from (has ws) c) f
-    ∙ pass (has ws) c (64 - c % 64) _ (λ j k. has_shifted ws c j (omega arith) ∙ ap (λ (x : ℕ). bit x j) e ∙ no_bit j)
-    ∙ ap (λ (k : ℕ). first_from (has ws) k (length ws * 64 - (c / 64 + 1) * 64)) g
+next_pass ws i s l h e =
+    let f : length ws * 64 - (i * 64 + s) ≡ (64 - s) + (length ws * 64 - (i + 1) * 64) = omega arith in
+    let g : i * 64 + s + (64 - s) ≡ (i + 1) * 64 = omega arith in
+    ap (first_from (has ws) (i * 64 + s)) f
+    ∙ pass (has ws) (i * 64 + s) (64 - s) _ (λ j k. has_shifted ws i s j (omega arith) ∙ ap (λ (x : ℕ). bit x j) e ∙ no_bit j)
+    ∙ ap (λ (k : ℕ). first_from (has ws) k (length ws * 64 - (i + 1) * 64)) g
 
-pub next_end : (ws : List ℕ) (c : ℕ) → length ws * 64 ≤ c → next_category_from ws c ≡ none
+pub next_end : (ws : List ℕ) (c : ℕ) → length ws * 64 ≤ c → next_category_from ws c ≡ None
 unfolding next_category_from
 next_end ws c h = search_end (has ws) c (length ws * 64) h
 
 -- ---- the next category is the least at or above, and there is none exactly if the set has none there
 
-next_least : (ws : List ℕ) (c k : ℕ) → next_category_from ws c ≡ some k → Least (has ws) c k
+next_least : (ws : List ℕ) (c k : ℕ) → next_category_from ws c ≡ Some k → Least (has ws) c k
 unfolding next_category_from
 next_least ws c k e = (first_least (has ws) c _ k e).0
 
-pub next_none : (ws : List ℕ) (c : ℕ) → (next_category_from ws c ≡ none) ↔ ((k : ℕ) → c ≤ k → has ws k ≡ false)
+pub next_none : (ws : List ℕ) (c : ℕ) → (next_category_from ws c ≡ None) ↔ ((k : ℕ) → c ≤ k → has ws k ≡ false)
 unfolding next_category_from
 next_none ws c = (λ e k a. ⊎_elim (has_beyond ws k) (λ l. first_none (has ws) c _ e k a (omega arith)) (le_or_lt (length ws * 64) k), λ h. go h (next_category_from ws c) refl)
   where
-    go : ((k : ℕ) → c ≤ k → has ws k ≡ false) → (o : Option ℕ) → next_category_from ws c ≡ o → next_category_from ws c ≡ none
-    go h none e = e
-    go h (some k) e = let r = next_least ws c k e in absurd (true≢false (sym r.there ∙ h k r.above))
+    go : ((k : ℕ) → c ≤ k → has ws k ≡ false) → (o : Option ℕ) → next_category_from ws c ≡ o → next_category_from ws c ≡ None
+    go h None e = e
+    go h (Some k) e = let r = next_least ws c k e in absurd (true≢false (sym r.there ∙ h k r.above))
 
 -- the least is what the search answers
-pub next_exact : (ws : List ℕ) (c k : ℕ) → (next_category_from ws c ≡ some k) ↔ Least (has ws) c k
+pub next_exact : (ws : List ℕ) (c k : ℕ) → (next_category_from ws c ≡ Some k) ↔ Least (has ws) c k
 next_exact ws c k = (next_least ws c k, λ l. go l (next_category_from ws c) refl)
   where
-    go : Least (has ws) c k → (o : Option ℕ) → next_category_from ws c ≡ o → next_category_from ws c ≡ some k
-    go l none e = absurd (true≢false (sym l.there ∙ (next_none ws c).0 e k l.above))
-    go l (some m) e = e ∙ ap some (only (next_least ws c m e))
+    go : Least (has ws) c k → (o : Option ℕ) → next_category_from ws c ≡ o → next_category_from ws c ≡ Some k
+    go l None e = absurd (true≢false (sym l.there ∙ (next_none ws c).0 e k l.above))
+    go l (Some m) e = e ∙ ap Some (only (next_least ws c m e))
       where
         only : Least (has ws) c m → m ≡ k
         only r = ⊎_elim (λ u. ⊎_elim (λ v. v) (λ v. absurd (true≢false (sym r.there ∙ l.none_before m r.above v))) (eq-or-lt_of_le u))
@@ -246,7 +251,7 @@ members_exact ws k = (listed_has ws (length ws * 64) k, λ h. has_listed ws (len
 
 -- ---- a listing by one search after another
 
-pub next_within : (ws : List ℕ) (c k : ℕ) → next_category_from ws c ≡ some k → (c ≤ k) × (k < length ws * 64)
+pub next_within : (ws : List ℕ) (c k : ℕ) → next_category_from ws c ≡ Some k → (c ≤ k) × (k < length ws * 64)
 next_within ws c k e = let l = next_least ws c k e in (l.above, has_within ws k l.there)
 
 below_skip : (ws : List ℕ) (c d : ℕ) → c ≤ d → ((j : ℕ) → c ≤ j → j < d → has ws j ≡ false) → members_below ws d ≡ members_below ws c
@@ -256,12 +261,12 @@ below_skip ws c (suc d) l h =
     ⊎_elim (λ e. ap (members_below ws) (sym e)) (λ u. rw (h d (omega arith) (omega arith)) (below_skip ws c d (omega arith) (λ j a b. h j a (omega arith)))) (eq-or-lt_of_le l)
 
 -- the category that is found is listed next
-pub next_listed : (ws : List ℕ) (c k : ℕ) → next_category_from ws c ≡ some k → members_below ws (k + 1) ≡ members_below ws c ++ (k ∷ [])
+pub next_listed : (ws : List ℕ) (c k : ℕ) → next_category_from ws c ≡ Some k → members_below ws (k + 1) ≡ members_below ws c ++ (k ∷ [])
 unfolding members_below
 next_listed ws c k e = let l = next_least ws c k e in rw (add-one, l.there, below_skip ws c k l.above l.none_before)
 
 -- where none is found, all are listed
-pub last_listed : (ws : List ℕ) (c d : ℕ) → next_category_from ws c ≡ none → c ≤ d → members_below ws d ≡ members_below ws c
+pub last_listed : (ws : List ℕ) (c d : ℕ) → next_category_from ws c ≡ None → c ≤ d → members_below ws d ≡ members_below ws c
 last_listed ws c d e l = below_skip ws c d l (λ j a b. (next_none ws c).0 e j a)
 
 pub all_listed : (ws : List ℕ) (c : ℕ) → c ≡ length ws * 64 → members_below ws c ≡ members_of ws

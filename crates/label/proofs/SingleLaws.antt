@@ -3,14 +3,15 @@ use mathlib.Core.Bool.{true, false}
 use mathlib.Core.List.{List}
 use mathlib.Core.Logic.{⊎_elim}
 use mathlib.Core.Path.{◌≡◌, sym, ap, ◌∙◌}
-use Prim.Native.Nat.{ℕ, suc, ◌+◌, ◌-◌, ◌*◌, ◌/◌, ◌%◌, ◌^◌, ◌≤◌, ◌<◌}
-use native.Mathlib.Nat.{le_refl, one-mul, pow-suc}
+use Prim.Native.Nat.{ℕ, ◌*◌, ◌/◌, ◌%◌, ◌^◌, ◌≤◌, ◌<◌}
+use native.Mathlib.Nat.{le_refl, one-mul}
 use native.Mathlib.Omega.{arith}
 use lib.Dec.{eqb}
 use lib.ListN.{get_or, length, replicate, set, get_or-replicate, length-set, get_or-eq_default}
-use lib.Pow.{pow-add, pow-lt, pow_pos, shl-shr}
-use lib.Seq.{get_or-set_other, get_or-set_same}
+use lib.Pow.{pow-lt, pow_pos, shl_exact}
+use lib.Seq.{get_or-set_other, get_or-set_same, set_out}
 use borrow.Author.Tests.{eq-eqb, eqb-true, ne_eqb}
+use Rattle.std.proofs.lemmas.Nat.Bits.{bit_at-pow_other, bit_at-pow_same}
 use Rattle.label.specs.Words.{bit, has, includes_of, single_of, word_at, words}
 use Rattle.label.proofs.BitLaws.{bit_high}
 use Rattle.common.proofs.BoolLaws.{same_truth}
@@ -22,22 +23,15 @@ use Rattle.label.proofs.WordLaws.{includes_exact}
 
 power_same : (s : ℕ) → bit (2 ^ s) s ≡ true
 unfolding bit
-power_same s = ap (λ (z : ℕ). eqb (z % 2) 1) (ap (λ (z : ℕ). z / 2 ^ s) (sym (one-mul (2 ^ s))) ∙ shl-shr 1 s)
-
-even : (m : ℕ) → 2 ^ suc m % 2 ≡ 0
-even m = let p = pow-suc 2 m in omega arith
-
-power_low : (s j : ℕ) → j < s → bit (2 ^ s) j ≡ false
-unfolding bit
-power_low s j l =
-    let m = s - suc j in
-    let e : s ≡ suc (s - suc j) + j = omega arith in
-    ap (λ (z : ℕ). eqb (z % 2) 1) (ap (λ (n : ℕ). 2 ^ n / 2 ^ j) e ∙ ap (λ (n : ℕ). n / 2 ^ j) (pow-add 2 (suc m) j) ∙ shl-shr (2 ^ suc m) j)
-    ∙ ap (λ (z : ℕ). eqb z 1) (even m)
+power_same s = ap (λ (r : ℕ). eqb r 1) (bit_at-pow_same s)
 
 power_other : (s j : ℕ) → (j ≡ s → ⊥) → bit (2 ^ s) j ≡ false
-power_other s j h =
-    ⊎_elim (λ (l : s ≤ j). bit_high (2 ^ s) j j (pow-lt (omega (arith, h))) (le_refl j)) (λ (l : j < s). power_low s j l) (le_or_lt s j)
+unfolding bit
+power_other s j h = ap (λ (r : ℕ). eqb r 1) (bit_at-pow_other s j h)
+
+-- a bit shifted to its place in a word is its power of two
+pub shifted_one : (s : ℕ) → s < 64 → 1 * 2 ^ s % 2 ^ 64 ≡ 2 ^ s
+shifted_one s h = shl_exact 1 s 64 (omega arith) (omega arith) ∙ one-mul (2 ^ s)
 
 -- ---- the set
 
@@ -47,6 +41,10 @@ zero_word i = ⊎_elim (λ (l : words ≤ i). get_or-eq_default (replicate words
 pub no_category : (c : ℕ) → has (replicate words 0) c ≡ false
 unfolding has
 no_category c = ap (λ (w : ℕ). bit w (c % 64)) (zero_word (c / 64)) ∙ bit_high 0 (c % 64) (c % 64) (pow_pos (c % 64)) (le_refl (c % 64))
+
+pub single_past : (c : ℕ) → words ≤ c / 64 → single_of c ≡ replicate words 0
+unfolding single_of
+single_past c h = set_out (replicate words 0) (c / 64) (2 ^ (c % 64)) (omega arith)
 
 pub single_length : (c : ℕ) → length (single_of c) ≡ words
 unfolding single_of

@@ -2,7 +2,7 @@
 use mathlib.Core.Bool.{true, ◌&&◌, ◌||◌, true≢false}
 use mathlib.Core.List.{List}
 use mathlib.Core.Logic.{◌↔◌, ⊎_elim}
-use mathlib.Core.Path.{◌≡◌, refl, sym, ap, ap₂, ◌∙◌}
+use mathlib.Core.Path.{◌≡◌, refl, sym, ap, ap₂, ◌∙◌, subst}
 use Prim.Native.Nat.{ℕ, ◌+◌, ◌*◌, ◌/◌, ◌%◌, ◌^◌, ◌≤◌, ◌<◌, max}
 use native.Mathlib.Omega.{arith}
 use lib.Arith.{digits_div, digits_mod}
@@ -10,6 +10,8 @@ use lib.Bits.{bit_and, bit_or}
 use lib.ListN.{length, get_or, get_or-eq_default}
 use lib.Seq.{ext_get_or}
 use borrow.Author.Tests.{eqb-true, eq-eqb}
+use Rattle.std.specs.Str.{bytes_eq}
+use Rattle.std.proofs.lemmas.Slice.Eq.{bytes_eq-Decides}
 use Rattle.common.specs.Index.{every, tabulate}
 use Rattle.label.specs.Words.{bit, combine, combined_at, has, includes_at, includes_of, intersection_of, same_of, union_of, word_at}
 use Rattle.label.proofs.BitLaws.{among_bits, bit_and_lem, bit_high, bit_or_lem, bits_among, bits_equal}
@@ -142,3 +144,9 @@ same_equal a b l e = includes_antisym a b l (first_true (includes_of a b) (inclu
 pub same_refl : (a : List ℕ) → same_of a a ≡ true
 unfolding same_of
 same_refl a = both (includes_refl a) (includes_refl a)
+
+-- what `==` says of two arrays of words
+pub equal_words : (a b : List ℕ) → length a ≡ length b → bytes_eq a b ≡ same_of a b
+equal_words a b l =
+    let d = bytes_eq-Decides a b in
+    same_truth (bytes_eq a b) (same_of a b) (λ e. subst (λ (x : List ℕ). same_of a x ≡ true) (d.0 e) (same_refl a)) (λ e. d.1 (same_equal a b l e))

@@ -4,9 +4,6 @@ use Rattle.label.specs.Label.{dominates_of, valid_of}
 use Rattle.label.specs.declared.Label.{Label}
 use Rattle.label.specs.declared.caller.Caller.{Caller}
 
-abbrev pub caller_with : Label → Bool → Caller
-caller_with l override = record { label = l; read_override = override }
-
 -- a caller is bad when its label is invalid
 abbrev pub caller_valid : Caller → Bool
 caller_valid c = valid_of c.label

@@ -1,11 +1,7 @@
 -- Document 01, "Labels and regions": labels, with a set of any number of words.
 use Rattle.std.specs.Prelude.{Bool, ◌&&◌, List, ◌≡◌, ℕ, ◌<◌, ◌^◌, max, min, eqb, leb, length, replicate}
-use Rattle.std.proofs.Math.Option.{Option, none, some}
-use Rattle.common.specs.Answer.{Answer, granted, refused_by}
 use Rattle.label.specs.Words.{includes_of, intersection_of, same_of, single_of, union_of, word_at, words}
 use Rattle.label.specs.declared.Label.{Label}
-use Rattle.label.specs.declared.Next.{Next}
-use Rattle.label.specs.declared.Next.TheVariants.{Category, Nothing, Refused}
 
 abbrev pub label_of : ℕ → List ℕ → Label
 label_of h ws = record { hierarchy = h; categories = ws }
@@ -36,12 +32,6 @@ lower_bound_of a b = label_of (min a.hierarchy b.hierarchy) (intersection_of a.c
 -- a with the category c
 unfoldable pub with_category_of : Label → ℕ → Label
 with_category_of a c = label_of a.hierarchy (union_of a.categories (single_of c))
-
--- what the enum Next says: the category, or that there is none
-abbrev pub next_answer_of : Next → Answer (Option ℕ)
-next_answer_of (Category c) = granted (some c)
-next_answer_of Nothing = granted none
-next_answer_of (Refused e) = refused_by e
 
 -- what every value of the code's type Label has (`label::typed` proves it): laws that need it are laws of every label that there is
 pub record Typed (a : Label) : Type 0 where

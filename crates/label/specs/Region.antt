@@ -1,9 +1,17 @@
 -- Document 01, "Labels and regions": the regions, by their number in its order.
 use Rattle.std.specs.Prelude.{cond, List, [], ◌∷◌, ℕ, leb, get_or}
+use Rattle.label.specs.declared.region.Region.{Region}
+use Rattle.label.specs.declared.region.Region.TheVariants.{VirusPrevention, User, Administrative}
 
 -- virus prevention, user, administrative
 abbrev pub regions : ℕ
 regions = 3
+
+-- the number of the code's region
+abbrev pub region_number : Region → ℕ
+region_number VirusPrevention = 0
+region_number User = 1
+region_number Administrative = 2
 
 -- a region's least hierarchy
 abbrev pub firsts : List ℕ

@@ -1,11 +1,8 @@
 -- Document 01, "Labels and regions": a set of categories as a list of words of 64 bits, of any length. A list is taken as going on with
 -- words that are 0.
-use Rattle.std.specs.Prelude.{Bool, true, false, ◌&&◌, List, [], ◌∷◌, ◌++◌, ℕ, zero, suc, ◌*◌, ◌-◌, ◌/◌, ◌%◌, ◌^◌, max, eqb, get_or, length, replicate, set}
-use Rattle.std.proofs.Math.Option.{Option, none, some}
+use Rattle.std.specs.Prelude.{Bool, true, false, ◌&&◌, List, [], ◌∷◌, ◌++◌, ℕ, zero, suc, ◌*◌, ◌-◌, ◌/◌, ◌%◌, ◌^◌, max, eqb, get_or, length, replicate, set, Option}
 use Rattle.std.specs.Int.Bits.{bit_and, bit_or}
 use Rattle.common.specs.Index.{every, first_from, tabulate}
-use Rattle.label.specs.declared.words.FoundCategory.{FoundCategory}
-use Rattle.label.specs.declared.words.FoundCategory.TheVariants.{At, Nothing}
 
 -- how many words a label's set has
 abbrev pub words : ℕ
@@ -72,8 +69,3 @@ members_of ws = members_below ws (length ws * 64)
 -- the least category at or above c, if there is one
 unfoldable pub next_category_from : List ℕ → ℕ → Option ℕ
 next_category_from ws c = first_from (has ws) c (length ws * 64 - c)
-
--- what the enum Found says
-abbrev pub found_category_of : FoundCategory → Option ℕ
-found_category_of (At c) = some c
-found_category_of Nothing = none

@@ -3,55 +3,82 @@
 #![tactic(auto)]
 
 pub mod caller;
-pub mod components;
 pub mod region;
-mod tested;
 pub mod words;
 
 ghost use Rattle.std.specs.Prelude.{◌≡◌, ◌&&◌, ltb, length};
-ghost use Rattle.common.specs.Answer.{Answered, granted, require, test_of, number_answer_of};
-ghost use Rattle.label.specs.Label.{dominates_of, equal_of, lower_bound_of, next_answer_of, upper_bound_of, valid_of, with_category_of, zero_label, Typed};
-ghost use Rattle.label.specs.Region.{region_of};
+ghost use Rattle.common.specs.Answer.{answer_by, answer_of, granted, require};
+ghost use Rattle.label.specs.Label.{dominates_of, equal_of, lower_bound_of, upper_bound_of, valid_of, with_category_of, zero_label, Typed};
+ghost use Rattle.label.specs.Region.{region_number, region_of};
 ghost use Rattle.label.specs.Words.{categories, has, members_of, next_category_from};
 
-use crate::words::{FoundCategory, WORDS};
-use common::answer::{Number, Outcome, Test};
-use common::errno::Errno;
+use crate::region::Region;
+use crate::words::WORDS;
+use common::errno::{Errno, require};
 
 // The largest hierarchy number of a valid label.
 pub const MAX_HIERARCHY: u64 = 199;
 
 #[repr(C)]
-#[derive(Clone, Copy)]
+#[derive(Clone, Copy, PartialEq, Eq, Default)]
 pub struct Label {
     pub hierarchy: u64,
     pub categories: [u64; WORDS],
 }
 
-// A label that is answered stands beside its outcome; beside a refusal it is the label of zeros.
-#[derive(Clone, Copy)]
-pub struct LabelAnswer {
-    pub outcome: Outcome,
-    pub label: Label,
-}
+// Functions of labels that were tested: each takes any numbers.
+impl Label {
+    // Whether a label dominates another.
+    #[tactic(auto, unfolding(crate::specs::Label::dominates_of))]
+    pub fn dominates(&self, other: &Label) -> bool
+        ensures { result ≡ dominates_of self.now other.now }
+    {
+        (other.hierarchy <= self.hierarchy) & words::includes(self.categories, other.categories)
+    }
 
-// The least category at or above a number.
-#[derive(Clone, Copy)]
-pub enum Next {
-    Category(u64),
-    Nothing,
-    Refused(Errno),
+    // Whether two labels are equal.
+    #[tactic(auto, using(crate::proofs::WordLaws::equal_words), unfolding(crate::specs::Label::equal_of))]
+    pub fn equals(&self, other: &Label) -> bool
+        ensures { result ≡ equal_of self.now other.now }
+    {
+        self == other
+    }
+
+    // Whether a label is the label of zeros, as is held where there is none.
+    pub fn is_zero(&self) -> bool
+        ensures { result ≡ equal_of self.now zero_label }
+    {
+        self.equals(&zero())
+    }
+
+    // The larger hierarchy, and the union.
+    #[tactic(auto, unfolding(crate::specs::Label::upper_bound_of))]
+    pub fn upper_bound(&self, other: &Label) -> Label
+        ensures { result ≡ upper_bound_of self.now other.now }
+    {
+        Label {
+            hierarchy: self.hierarchy.max(other.hierarchy),
+            categories: words::union(self.categories, other.categories),
+        }
+    }
+
+    // The smaller hierarchy, and the intersection.
+    #[tactic(auto, unfolding(crate::specs::Label::lower_bound_of))]
+    pub fn lower_bound(&self, other: &Label) -> Label
+        ensures { result ≡ lower_bound_of self.now other.now }
+    {
+        Label {
+            hierarchy: self.hierarchy.min(other.hierarchy),
+            categories: words::intersection(self.categories, other.categories),
+        }
+    }
 }
 
 // The label of zeros: hierarchy 0, no categories.
 pub fn zero() -> Label
     ensures { result ≡ zero_label }
 {
-    let none = [0u64; WORDS];
-    Label {
-        hierarchy: 0,
-        categories: none,
-    }
+    Label::default()
 }
 
 #[tactic(auto, unfolding(crate::specs::Label::valid_of))]
@@ -69,60 +96,43 @@ fn both_valid(a: Label, b: Label) -> bool
 }
 
 // Whether a dominates b.
-pub fn dominates(a: Label, b: Label) -> Test
-    ensures { test_of result ≡ require (valid_of a && valid_of b) 22 (granted (dominates_of a b)) }
+pub fn dominates(a: Label, b: Label) -> Result<bool, Errno>
+    ensures { answer_of result ≡ require (valid_of a && valid_of b) 22 (granted (dominates_of a b)) }
 {
-    if both_valid(a, b) {
-        return Test::Holds(tested::dominates(a, b));
-    }
-    Test::Refused(Errno::Invalid)
+    require(both_valid(a, b), Errno::Invalid)?;
+    Ok(a.dominates(&b))
 }
 
 // Whether a and b are equal.
-pub fn equal(a: Label, b: Label) -> Test
-    ensures { test_of result ≡ require (valid_of a && valid_of b) 22 (granted (equal_of a b)) }
+pub fn equal(a: Label, b: Label) -> Result<bool, Errno>
+    ensures { answer_of result ≡ require (valid_of a && valid_of b) 22 (granted (equal_of a b)) }
 {
-    if both_valid(a, b) {
-        return Test::Holds(tested::equal(a, b));
-    }
-    Test::Refused(Errno::Invalid)
+    require(both_valid(a, b), Errno::Invalid)?;
+    Ok(a.equals(&b))
 }
 
 // The least label that dominates a and b.
-pub fn upper_bound(a: Label, b: Label) -> LabelAnswer
-    ensures { Answered result.outcome result.label zero_label (require (valid_of a && valid_of b) 22 (granted (upper_bound_of a b))) }
+pub fn upper_bound(a: Label, b: Label) -> Result<Label, Errno>
+    ensures { answer_of result ≡ require (valid_of a && valid_of b) 22 (granted (upper_bound_of a b)) }
 {
-    if both_valid(a, b) {
-        return tested::upper_bound(a, b);
-    }
-    LabelAnswer {
-        outcome: Outcome::Refused(Errno::Invalid),
-        label: zero(),
-    }
+    require(both_valid(a, b), Errno::Invalid)?;
+    Ok(a.upper_bound(&b))
 }
 
 // The greatest label that a and b dominate.
-pub fn lower_bound(a: Label, b: Label) -> LabelAnswer
-    ensures { Answered result.outcome result.label zero_label (require (valid_of a && valid_of b) 22 (granted (lower_bound_of a b))) }
+pub fn lower_bound(a: Label, b: Label) -> Result<Label, Errno>
+    ensures { answer_of result ≡ require (valid_of a && valid_of b) 22 (granted (lower_bound_of a b)) }
 {
-    if both_valid(a, b) {
-        return tested::lower_bound(a, b);
-    }
-    LabelAnswer {
-        outcome: Outcome::Refused(Errno::Invalid),
-        label: zero(),
-    }
+    require(both_valid(a, b), Errno::Invalid)?;
+    Ok(a.lower_bound(&b))
 }
 
 // How many categories a has.
-pub fn category_count(a: Label) -> Number
-    ensures { number_answer_of result ≡ require (valid_of a) 22 (granted (length (members_of a.categories))) }
+pub fn category_count(a: Label) -> Result<u64, Errno>
+    ensures { answer_of result ≡ require (valid_of a) 22 (granted (length (members_of a.categories))) }
 {
-    if valid(a) {
-        let x = a.categories;
-        return Number::Value(words::count(x));
-    }
-    Number::Refused(Errno::Invalid)
+    require(valid(a), Errno::Invalid)?;
+    Ok(words::count(a.categories))
 }
 
 // Whether a is valid, and c is a category.
@@ -133,59 +143,40 @@ fn valid_with(a: Label, c: u64) -> bool
 }
 
 // Whether a has the category c.
-pub fn has_category(a: Label, c: u64) -> Test
-    ensures { test_of result ≡ require (valid_of a && ltb c categories) 22 (granted (has a.categories c)) }
+#[tactic(auto, using(crate::proofs::LabelLaws::category_told))]
+pub fn has_category(a: Label, c: u64) -> Result<bool, Errno>
+    ensures { answer_of result ≡ require (valid_of a && ltb c categories) 22 (granted (has a.categories c)) }
 {
-    if valid_with(a, c) {
-        let x = a.categories;
-        return Test::Holds(words::includes(x, words::single(c)));
-    }
-    Test::Refused(Errno::Invalid)
+    require(valid_with(a, c), Errno::Invalid)?;
+    Ok(words::includes(a.categories, words::single(c)))
 }
 
 // a with the category c, which it may have already.
 #[tactic(auto, unfolding(crate::specs::Label::with_category_of))]
-pub fn with_category(a: Label, c: u64) -> LabelAnswer
-    ensures { Answered result.outcome result.label zero_label (require (valid_of a && ltb c categories) 22 (granted (with_category_of a c))) }
+pub fn with_category(a: Label, c: u64) -> Result<Label, Errno>
+    ensures { answer_of result ≡ require (valid_of a && ltb c categories) 22 (granted (with_category_of a c)) }
 {
-    if valid_with(a, c) {
-        let x = a.categories;
-        return LabelAnswer {
-            outcome: Outcome::Granted,
-            label: Label {
-                hierarchy: a.hierarchy,
-                categories: words::union(x, words::single(c)),
-            },
-        };
-    }
-    LabelAnswer {
-        outcome: Outcome::Refused(Errno::Invalid),
-        label: zero(),
-    }
+    require(valid_with(a, c), Errno::Invalid)?;
+    Ok(Label {
+        categories: words::union(a.categories, words::single(c)),
+        ..a
+    })
 }
 
 // The least category of a at or above from.
-pub fn next_category(a: Label, from: u64) -> Next
-    ensures { next_answer_of result ≡ require (valid_of a) 22 (granted (next_category_from a.categories from)) }
+pub fn next_category(a: Label, from: u64) -> Result<Option<u64>, Errno>
+    ensures { answer_of result ≡ require (valid_of a) 22 (granted (next_category_from a.categories from)) }
 {
-    if valid(a) {
-        let x = a.categories;
-        return match words::next(x, from) {
-            FoundCategory::At(c) => Next::Category(c),
-            FoundCategory::Nothing => Next::Nothing,
-        };
-    }
-    Next::Refused(Errno::Invalid)
+    require(valid(a), Errno::Invalid)?;
+    Ok(words::next(a.categories, from))
 }
 
-// The region of a, by its number.
-pub fn region_of(a: Label) -> Number
-    ensures { number_answer_of result ≡ require (valid_of a) 22 (granted (region_of a.hierarchy)) }
+// The region of a.
+pub fn region_of(a: Label) -> Result<Region, Errno>
+    ensures { answer_by region_number result ≡ require (valid_of a) 22 (granted (region_of a.hierarchy)) }
 {
-    if valid(a) {
-        return Number::Value(region::of_hierarchy(a.hierarchy) as u64);
-    }
-    Number::Refused(Errno::Invalid)
+    require(valid(a), Errno::Invalid)?;
+    Ok(region::of_hierarchy(a.hierarchy))
 }
 
 // Every label has what its type says: the law of `Typed`, for the laws that name it.

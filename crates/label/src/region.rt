@@ -1,50 +1,44 @@
 // Regions: each is a run of hierarchy numbers, and is known by its number in document 01's order.
 ghost use Rattle.std.specs.Prelude.{◌≡◌, get_or};
-ghost use Rattle.label.specs.Region.{first_hierarchy, last_hierarchy, region_of};
+ghost use Rattle.label.specs.Region.{first_hierarchy, last_hierarchy, region_number, region_of};
 
 pub const REGIONS: usize = 3;
 
-pub const VIRUS_PREVENTION: usize = 0;
-
-pub const USER: usize = 1;
-
-pub const ADMINISTRATIVE: usize = 2;
+#[derive(Clone, Copy, PartialEq, Eq)]
+pub enum Region {
+    VirusPrevention,
+    User,
+    Administrative,
+}
 
 const FIRST: [u64; REGIONS] = [0, 20, 180];
 
 const LAST: [u64; REGIONS] = [19, 179, 199];
 
-// What a table has for a region; 0 where there is no such region.
-fn entry(table: [u64; REGIONS], region: usize) -> u64
-    ensures { result ≡ get_or table region 0 }
-{
-    if region < REGIONS { table[region] } else { 0 }
-}
-
-// The least hierarchy number of a region; 0 where there is no such region.
+// The least hierarchy number of the region of a number; 0 where there is no such region.
 pub fn first(region: usize) -> u64
     ensures { result ≡ first_hierarchy region }
 {
-    entry(FIRST, region)
+    FIRST.get(region).copied().unwrap_or(0)
 }
 
-// The greatest hierarchy number of a region; 0 where there is no such region.
+// The greatest hierarchy number of the region of a number; 0 where there is no such region.
 pub fn last(region: usize) -> u64
     ensures { result ≡ last_hierarchy region }
 {
-    entry(LAST, region)
+    LAST.get(region).copied().unwrap_or(0)
 }
 
 // The region of a valid hierarchy number. Others count as administrative here: whoever asks has tested the label.
 #[tactic(auto, unfolding(crate::specs::Region::region_of))]
-pub fn of_hierarchy(hierarchy: u64) -> usize
-    ensures { result ≡ region_of hierarchy }
+pub fn of_hierarchy(hierarchy: u64) -> Region
+    ensures { region_number result ≡ region_of hierarchy }
 {
-    if hierarchy <= LAST[VIRUS_PREVENTION] {
-        return VIRUS_PREVENTION;
+    if hierarchy <= LAST[Region::VirusPrevention as usize] {
+        return Region::VirusPrevention;
     }
-    if hierarchy <= LAST[USER] {
-        return USER;
+    if hierarchy <= LAST[Region::User as usize] {
+        return Region::User;
     }
-    ADMINISTRATIVE
+    Region::Administrative
 }

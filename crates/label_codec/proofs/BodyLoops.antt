@@ -1,20 +1,21 @@
 -- What the functions of `labels` and `tuples` need at each turn of a loop, and of the bytes that they are handed.
 use mathlib.Core.Bool.{Bool, true, false, ◌&&◌, cond}
 use mathlib.Core.List.{List, [], ◌++◌}
-use mathlib.Core.Logic.{◌⊎◌, inl, inr}
+use mathlib.Core.Logic.{◌⊎◌, inl, inr, ⊎_elim}
 use mathlib.Core.Path.{◌≡◌, refl, sym, ap, ap₂, ◌∙◌}
-use Prim.Native.Nat.{ℕ, ◌+◌, ◌*◌, ◌/◌, ◌%◌, ◌^◌, ◌≤◌, ◌<◌}
-use native.Mathlib.Nat.{add-zero, lt_of_lt_of_le, pow-le-pow_right, zero-lt-suc}
-use native.Mathlib.Numerals.{add-one}
+use Prim.Native.Nat.{ℕ, ◌+◌, ◌-◌, ◌*◌, ◌/◌, ◌%◌, ◌^◌, ◌≤◌, ◌<◌}
+use native.Mathlib.Nat.{add-zero, div-one, zero-add}
 use native.Mathlib.Omega.{arith}
 use lib.Dec.{leb, ltb}
-use lib.ListN.{drop, length, set}
-use lib.Seq.{get_or-drop}
+use lib.ListN.{drop, get_or, length, replicate, set, take, length-append, length-drop, length-replicate, get_or-append, get_or-eq_default, get_or-replicate}
+use lib.Seq.{get_or-append-add, get_or-drop}
 use borrow.Author.Tests.{le-leb, le-ltb, leb-true}
+use borrow.Rule.Slice.PartMut.{put_mid}
+use Rattle.std.specs.Int.{from_le_bytes, to_le_bytes, w64}
+use Rattle.std.proofs.lemmas.Slice.{put_mid-paste}
 use Rattle.common.specs.Index.{tabulate}
 use Rattle.common.proofs.BoolLaws.{both, first_true, second_true}
-use Rattle.common.proofs.BytesLaws.{Bytes}
-use Rattle.common.proofs.IndexLaws.{le_or_lt, tabulate_at, tabulate_length, tabulate_more, tabulate_same}
+use Rattle.common.proofs.IndexLaws.{le_or_lt, tabulate_at, tabulate_is, tabulate_length, tabulate_more, tabulate_same}
 use Rattle.label.specs.Label
 use Rattle.label.specs.Label.{label_of}
 use Rattle.label.specs.Words.{word_at, words as set_words}
@@ -22,40 +23,44 @@ use Rattle.label.specs.declared.Label.{Label}
 use Rattle.label.proofs.LabelLaws.{valid_hierarchy}
 use Rattle.octets.specs.Bytes.{Appended}
 use Rattle.octets.specs.Internal.Put.{Put}
-use Rattle.octets.proofs.ByteLaws.{left_out, nothing_put, one_put, put_appended, put_same_length, puts}
+use Rattle.octets.proofs.ByteLaws.{left_out, nothing_put, one_put, put_all, put_appended, puts}
 use Rattle.range.specs.Range
 use Rattle.range.specs.Range.{range_of}
 use Rattle.range.specs.declared.Range.{Range}
 use Rattle.range.proofs.RangeLaws.{valid_parts}
 use Rattle.label_codec.specs.Body.{byte_at, category_byte, label_at, label_bytes, label_size, base_number, range_at, range_bytes, word_from}
 use Rattle.label_codec.specs.Codec.{label_code, label_fits, range_code, range_fits}
-use Rattle.label_codec.proofs.BodyLaws.{word_byte}
-use Rattle.label_codec.proofs.NumberLaws.{number_bound, number_moved}
+use Rattle.label_codec.proofs.BodyLaws.{part, part_at, word_byte}
+use Rattle.label_codec.proofs.NumberLaws.{number_moved}
 
--- the bytes past the lowest of a word leave room for one more
-pub word_room : (bs : List ℕ) → Bytes bs → (i n : ℕ) → n ≤ 7 → base_number 256 (byte_at bs) i n < 72057594037927936
-word_room bs small i n h = lt_of_lt_of_le (number_bound 256 (byte_at bs) small i n) (pow-le-pow_right (zero-lt-suc 255) h)
+-- ---- words
+
+-- the library's number of eight bytes is the one whose digits they are
+le_number : (xs : List ℕ) → from_le_bytes w64 xs ≡ base_number 256 (byte_at xs) 0 8
+unfolding base_number
+le_number xs = omega arith
+
+-- a word, whose eight bytes were copied from an index
+pub word_read : (bs : List ℕ) (at : ℕ) {xs : List ℕ} {w : ℕ} → xs ≡ take (at + 8 - at) (drop at bs) → w ≡ from_le_bytes w64 xs → w ≡ base_number 256 (byte_at bs) at 8
+word_read bs at {xs} {w} e f =
+    let g : xs ≡ part at 8 bs = e ∙ ap (λ (n : ℕ). take n (drop at bs)) {x = at + 8 - at} {y = 8} (omega arith) in
+    f ∙ le_number xs ∙ number_moved 256 (byte_at xs) (byte_at bs) 0 at 8
+    (λ k l. ap (byte_at xs) (zero-add k) ∙ ap (λ (ys : List ℕ). byte_at ys k) g ∙ part_at at 8 k bs l)
 
 -- ---- bytes that are put
 
--- a loop that puts f 0, f 1, .. from index i on
-module _ (f : ℕ → ℕ) (a : List ℕ) (i : ℕ) where
-  pub put_none : Put a i (tabulate f 0) (i + 0) a
-  unfolding tabulate
-  put_none = rw (add-zero i) (nothing_put a i)
+-- the library's bytes of a word are its digits in base 256
+le_bytes : (w : ℕ) → to_le_bytes w64 w ≡ tabulate (λ k. w / 256 ^ k % 256) 8
+unfolding tabulate
+le_bytes w = rw (div-one w)
 
-  pub put_next : (out : List ℕ) (k v : ℕ) → i + k < length a → v ≡ f k → Put a i (tabulate f k) (i + k) out
-      → Put a i (tabulate f (k + 1)) (i + (k + 1)) (set out (i + k) v)
-  unfolding tabulate
-  put_next out k v h e p =
-      let n = tabulate_length f k in
-      let l = put_same_length {bs = tabulate f k} (omega arith) p in
-      let q = puts a i (omega arith) p (one_put out (i + k) v (omega arith)) in
-      let j : i + k + 1 ≡ i + (k + 1) = omega arith in
-      rw (← j, add-one k, ← e) q
-
-  pub put_size : (out : List ℕ) (k : ℕ) → i + k ≤ length a → Put a i (tabulate f k) (i + k) out → length out ≡ length a
-  put_size out k h p = let n = tabulate_length f k in put_same_length {bs = tabulate f k} (omega arith) p
+-- a word's bytes, where they were copied over eight bytes at an index
+pub word_put : (out : List ℕ) (at w : ℕ) {bs ys : List ℕ} → at + 8 ≤ length out → bs ≡ to_le_bytes w64 w → ys ≡ bs
+    → Put out at (tabulate (λ k. w / 256 ^ k % 256) 8) (at + 8) (put_mid at (at + 8 - at) out ys)
+word_put out at w {bs} {ys} room e f =
+    let g : ys ≡ tabulate (λ k. w / 256 ^ k % 256) 8 = f ∙ e ∙ le_bytes w in
+    let n = tabulate_length (λ k. w / 256 ^ k % 256) 8 in
+    record { past = omega arith; written = put_mid-paste at (at + 8 - at) out ys _ 8 g (omega arith) (omega arith) ∙ rw n at (put_all out at (tabulate (λ k. w / 256 ^ k % 256) 8)) }
 
 -- the bytes of a set's words up to j, and of word j
 set_more : (ws : List ℕ) (j : ℕ) → tabulate (category_byte ws) (8 * j) ++ tabulate (λ k. word_at ws j / 256 ^ k % 256) 8 ≡ tabulate (category_byte ws) (8 * (j + 1))
@@ -64,20 +69,17 @@ set_more ws j =
     ∙ tabulate_more (category_byte ws) (8 * j) 8 ∙ ap (tabulate (category_byte ws)) (omega arith)
 
 -- one more word of a set
-pub word_more : (ws a b c : List ℕ) (i j : ℕ) → i + 8 * j ≤ length a → Put a i (tabulate (category_byte ws) (8 * j)) (i + 8 * j) b
-    → Put b (i + 8 * j) (tabulate (λ k. word_at ws j / 256 ^ k % 256) 8) (i + 8 * j + 8) c
-    → Put a i (tabulate (category_byte ws) (8 * (j + 1))) (i + 8 * (j + 1)) c
-word_more ws a b c i j h p q =
-    let n = tabulate_length (category_byte ws) (8 * j) in
-    let e : i + 8 * j + 8 ≡ i + 8 * (j + 1) = omega arith in
-    rw (e, set_more ws j) at (puts a i (omega arith) p q)
+pub word_more : (ws a b c : List ℕ) (i j n : ℕ) {w : ℕ} → n ≡ i + 8 * j → n ≤ length a → w ≡ word_at ws j → Put a i (tabulate (category_byte ws) (8 * j)) n b
+    → Put b n (tabulate (λ k. w / 256 ^ k % 256) 8) (n + 8) c → Put a i (tabulate (category_byte ws) (8 * (j + 1))) (n + 8) c
+word_more ws a b c i j n {w} e h f p q =
+    let l = tabulate_length (category_byte ws) (8 * j) in
+    rw (set_more ws j) at (puts a i (omega arith) p (rw f at q))
 
 -- a label's bytes: the hierarchy, then all words of the set
-pub label_put : (before out : List ℕ) (at w j : ℕ) (l : Label) → at < length before → j ≡ w
-    → Put (set before at l.hierarchy) (at + 1) (tabulate (category_byte l.categories) (8 * j)) (at + 1 + 8 * j) out
-    → Put before at (label_bytes w l) (at + 1 + 8 * j) out
+pub label_put : (before out : List ℕ) (at w j next : ℕ) (l : Label) → at < length before → j ≡ w
+    → Put (set before at l.hierarchy) (at + 1) (tabulate (category_byte l.categories) (8 * j)) next out → Put before at (label_bytes w l) next out
 unfolding label_bytes
-label_put before out at w j l h e p = rw (sym e) (puts before at (omega arith) (one_put before at l.hierarchy h) p)
+label_put before out at w j next l h e p = rw (sym e) (puts before at (omega arith) (one_put before at l.hierarchy h) p)
 
 -- bytes that are appended where they fit and there is room: the code tests both at once
 module _ (out : List ℕ) (at : ℕ) (bs : List ℕ) (fits : Bool) (size : ℕ) (long : length bs ≡ size) where
@@ -134,7 +136,25 @@ module _ (xs ys : List ℕ) where
   unfolding range_at
   same_range w i j h = ap₂ range_of (same_label w i j h) (same_label w (i + label_size w) (j + label_size w) (same_later i j (label_size w) h))
 
--- so where zeros stand past the end
+-- bytes that were copied over the front of zeros go on with these, as they do past their end
+zero_at : (n i : ℕ) → get_or {A = ℕ} (replicate n 0) i 0 ≡ 0
+zero_at n i = ⊎_elim (λ l. get_or-eq_default (replicate n 0) 0 {n = i} (omega (arith, length-replicate {A = ℕ} n 0))) (λ l. get_or-replicate n i 0 0 l) (le_or_lt n i)
+
+pub padded : {ys : List ℕ} (xs : List ℕ) (n : ℕ) → ys ≡ xs → length xs ≤ n → ys ++ drop (length xs) (replicate n 0) ≡ tabulate (byte_at xs) n
+padded xs n e h =
+    ap (λ (l : List ℕ). l ++ zeros) e
+    ∙ tabulate_is (byte_at xs) (xs ++ zeros) n 0 (length-append xs zeros ∙ omega (arith, length-drop {A = ℕ} (length xs) (replicate n 0), length-replicate {A = ℕ} n 0))
+    (λ i l. ⊎_elim (past i) (λ b. get_or-append xs zeros 0 i b) (le_or_lt (length xs) i))
+  where
+    zeros : List ℕ
+    zeros = drop (length xs) (replicate n 0)
+
+    past : (i : ℕ) → length xs ≤ i → get_or (xs ++ zeros) i 0 ≡ byte_at xs i
+    past i l =
+        let k : i ≡ length xs + (i - length xs) = omega arith in
+        ap (λ (j : ℕ). get_or (xs ++ zeros) j 0) k ∙ get_or-append-add xs zeros (i - length xs) 0
+        ∙ get_or-drop (length xs) (replicate n 0) (i - length xs) 0 ∙ zero_at n (length xs + (i - length xs)) ∙ sym (get_or-eq_default xs 0 l)
+
 pub padded_label : (w : ℕ) (xs : List ℕ) (n : ℕ) → label_size w ≤ n → label_at w (tabulate (byte_at xs) n) 0 ≡ label_at w xs 0
 padded_label w xs n h =
     moved_label w (tabulate (byte_at xs) n) xs 0 0

@@ -2,8 +2,7 @@
 use mathlib.Core.Bool.{cond}
 use mathlib.Core.Path.{◌≡◌, refl, sym, ap, ap₂, ◌∙◌}
 use Prim.Native.Nat.{ℕ, zero, suc, ◌+◌, ◌*◌, ◌-◌, ◌/◌, ◌%◌, ◌^◌, ◌≤◌, ◌<◌}
-use native.Mathlib.Nat.{add-mul-div_left, add-mul-mod_self_left, add-zero, div-div-eq-div-mul, div-eq_of_lt, div-lt_iff_lt-mul, div-one, mod-add-div, mod-eq_of_lt, mod-lt, mul-add, mul-add-div_right, mul_comm, mul-le-mul_left, mul-one, add_comm, pow-suc, pow-succ', pow-zero, zero-lt-suc}
-use native.Mathlib.Numerals.{add-one}
+use native.Mathlib.Nat.{add-mul-div_left, add-mul-mod_self_left, add-zero, div-div-eq-div-mul, div-eq_of_lt, div-lt_iff_lt-mul, div-one, mod-add-div, mod-eq_of_lt, mod-lt, mul-add, mul-add-div_right, mul_comm, mul-le-mul_left, mul-one, pow-suc, pow-succ', pow-zero, zero-lt-suc}
 use native.Mathlib.Omega.{arith}
 use lib.Arith.{lt-one}
 use lib.Dec.{eqb}
@@ -53,14 +52,6 @@ module _ (b : ℕ) (f : ℕ → ℕ) where
       let m : b * (base_number b f (suc i) n + 1) ≤ b * b ^ n = mul-le-mul_left b (omega arith) in
       let e : b * (base_number b f (suc i) n + 1) ≡ b * base_number b f (suc i) n + b = mul-add b (base_number b f (suc i) n) 1 ∙ ap (λ (x : ℕ). b * base_number b f (suc i) n + x) (mul-one b) in
       rw pow-succ' (omega (arith, h i))
-
-  -- a loop that takes the digits from the highest down
-  pub number_next : (i n w : ℕ) → w ≡ base_number b f (i + 1) n → w * b + f i ≡ base_number b f i (n + 1)
-  unfolding base_number
-  number_next i n w e =
-      let c = mul_comm w b in
-      let s : w ≡ base_number b f (suc i) n = e ∙ ap (λ (j : ℕ). base_number b f j n) (add-one i) in
-      rw add-one (ap (λ (x : ℕ). x + f i) (c ∙ ap (λ (x : ℕ). b * x) s) ∙ add_comm (b * base_number b f (suc i) n) (f i))
 
 -- eight bits a byte
 pub pow_byte : (k : ℕ) → 2 ^ (k * 8) ≡ 256 ^ k

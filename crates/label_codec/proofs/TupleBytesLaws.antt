@@ -1,17 +1,19 @@
 -- The laws of tuples as bytes.
 use mathlib.Core.Bool.{Bool, true, false, cond}
-use mathlib.Core.List.{List, [], ◌∷◌, ◌++◌}
+use mathlib.Core.List.{List, [], ◌∷◌, ◌++◌, reverse}
 use mathlib.Core.Logic.{⊎_elim}
 use mathlib.Core.Path.{◌≡◌, refl, sym, ap, ap₂, ◌∙◌}
 use Prim.Native.Nat.{ℕ, zero, suc, ◌+◌, ◌*◌, ◌/◌, ◌%◌, ◌^◌, ◌≤◌, ◌<◌}
-use native.Mathlib.Nat.{add-mul, eq-or-lt_of_le, lt_of_lt_of_le, mod-lt, mul-le-mul_right, one-mul, suc-mul, zero-lt-suc, zero-mul}
+use native.Mathlib.Nat.{add-mul, add-zero, zero-add, eq-or-lt_of_le, mod-lt, mul-le-mul_right, one-mul, suc-mul, zero-lt-suc, zero-mul}
 use native.Mathlib.Numerals.{add-one}
 use native.Mathlib.Omega.{arith}
+use lib.Bits.{bit_or}
 use lib.Dec.{eqb}
 use borrow.Author.Tests.{eqb-true}
-use lib.ListN.{length, length-append}
-use lib.Pow.{pow_mono}
-use lib.Seq.{ext_get_or}
+use lib.ListN.{length, take, length-append}
+use lib.Seq.{ext_get_or, take_all}
+use Rattle.std.specs.List.{count_by, fold, range_with_len, sum_by}
+use Rattle.std.proofs.lemmas.List.Sums.{sum_by_more}
 use Rattle.common.specs.Index.{tabulate}
 use Rattle.label.specs.Region.{regions}
 use Rattle.label.specs.Words.{bit, words}
@@ -25,7 +27,7 @@ use Rattle.range.proofs.TupleLaws.{range_of_lem, valid_absent, valid_placed, val
 use Rattle.common.proofs.BytesLaws.{Bytes, bytes_append}
 use Rattle.label_codec.specs.Body.{base_number, range_at, range_bytes, range_size}
 use Rattle.label_codec.specs.Codec.{range_fits, region_fits, tuple_code, tuple_fits}
-use Rattle.label_codec.specs.Tuples.{presence_of, present_at, present_below, region_at, region_bytes, regions_bytes, tuple_at, tuple_size}
+use Rattle.label_codec.specs.Tuples.{presence_of, present_at, present_below, region_at, region_bytes, regions_bytes, tuple_at}
 use Rattle.label_codec.proofs.BodyLaws.{Holds, Within, holds_first, holds_second, part, parts_join, range_back, range_bytes_lem, range_forth, range_length}
 use Rattle.label_codec.proofs.BodyLoops.{Same, same_later, same_range, valid_range_fits}
 use Rattle.label_codec.proofs.NumberLaws.{as_number, number_bound, number_digit, number_only}
@@ -47,6 +49,17 @@ regions_next w t n = rw add-one
 pub below_next : (p n : ℕ) → present_below p n + cond (bit p n) 1 0 ≡ present_below p (n + 1)
 unfolding present_below
 below_next p n = rw add-one
+
+-- those that are there are counted from the first on
+counted_from : (p a n : ℕ) → fold (λ (k x : ℕ). k + cond (bit p x) 1 0) (present_below p a) (range_with_len a n) ≡ present_below p (a + n)
+counted_from p a zero = ap (present_below p) (sym (add-zero a))
+counted_from p a (suc n) =
+    ap (λ (k : ℕ). fold (λ (k x : ℕ). k + cond (bit p x) 1 0) k (range_with_len (a + 1) n)) (below_next p a)
+    ∙ counted_from p (a + 1) n ∙ ap (present_below p) {x = a + 1 + n} {y = a + suc n} (omega arith)
+
+pub below_counted : (p n : ℕ) → count_by (bit p) (range_with_len 0 n) ≡ present_below p n
+unfolding present_below
+below_counted p n = counted_from p 0 n ∙ ap (present_below p) (zero-add n)
 
 -- ---- sizes
 
@@ -74,6 +87,19 @@ regions_size w t (suc n) =
     let m : cond (Tuple.is_there (Tuple.region_range_at t n)) 1 0 * range_size w ≤ 1 * range_size w = mul-le-mul_right (range_size w) (one_of (Tuple.is_there (Tuple.region_range_at t n))) in
     let s = suc-mul n (range_size w) in
     omega arith
+
+-- what each has, put together
+summed_below : (w : ℕ) (t : Tuple) (n : ℕ) → n ≤ length t.ranges → sum_by (λ (e : RegionRange). length (region_bytes w e)) (take n t.ranges) ≡ length (regions_bytes w t n)
+unfolding regions_bytes
+summed_below w t zero h = refl
+summed_below w t (suc n) h =
+    rw (← add-one n) (sum_by_more (λ (e : RegionRange). length (region_bytes w e)) t.ranges n _ (omega arith))
+    ∙ ap (λ (k : ℕ). k + length (region_bytes w (Tuple.region_range_at t n))) (summed_below w t n (omega arith))
+    ∙ sym (length-append (regions_bytes w t n) (region_bytes w (Tuple.region_range_at t n)))
+
+pub regions_summed : (w : ℕ) (t : Tuple) → length t.ranges ≡ regions → sum_by (λ (e : RegionRange). length (region_bytes w e)) t.ranges ≡ length (regions_bytes w t regions)
+regions_summed w t e =
+    ap (sum_by (λ (e : RegionRange). length (region_bytes w e))) (sym (take_all regions t.ranges (omega arith))) ∙ summed_below w t regions (omega arith)
 
 -- where all are there, exactly
 pub regions_full : (w : ℕ) (t : Tuple) (n : ℕ) → ((r : ℕ) → r < n → Tuple.is_there (Tuple.region_range_at t r) ≡ true) → length (regions_bytes w t n) ≡ n * range_size w
@@ -135,10 +161,6 @@ present_room p r n s h e =
 pub present_small : (t : Tuple) (r : ℕ) → present_at t r < 2
 present_small t r = let one = one_of (Tuple.is_there (Tuple.region_range_at t r)) in omega arith
 
--- the bits past the lowest leave room for one more
-pub presence_room : (t : Tuple) (r n : ℕ) → n ≤ 2 → base_number 2 (present_at t) r n < 4
-presence_room t r n h = lt_of_lt_of_le (number_bound 2 (present_at t) (present_small t) r n) (pow_mono h)
-
 pub presence_small : (t : Tuple) → presence_of t < 8
 unfolding presence_of
 presence_small t = number_bound 2 (present_at t) (present_small t) 0 regions
@@ -146,6 +168,28 @@ presence_small t = number_bound 2 (present_at t) (present_small t) 0 regions
 as_bit : (b : Bool) → eqb (cond b 1 0) 1 ≡ b
 as_bit true = refl
 as_bit false = refl
+
+-- from the last region to the first: what there is so far is doubled, and one bit more is put in
+abbrev pub with_bit : ℕ → RegionRange → ℕ
+with_bit p e = bit_or (p * 2 % 256) (cond (Tuple.is_there e) 1 0)
+
+pub presence_folded : (xs : List RegionRange) → length xs ≡ regions → fold with_bit 0 (reverse xs) ≡ presence_of (Tuple.tuple_of xs)
+unfolding presence_of base_number
+presence_folded [] h = absurd (omega arith)
+presence_folded (a ∷ []) h = absurd (omega arith)
+presence_folded (a ∷ b ∷ []) h = absurd (omega arith)
+presence_folded (a ∷ b ∷ c ∷ d ∷ xs) h = absurd (omega arith)
+presence_folded (a ∷ b ∷ c ∷ []) h = go (Tuple.is_there a) (Tuple.is_there b) (Tuple.is_there c)
+  where
+    go : (x y z : Bool) → bit_or (bit_or (bit_or (0 * 2 % 256) (cond z 1 0) * 2 % 256) (cond y 1 0) * 2 % 256) (cond x 1 0) ≡ cond x 1 0 + 2 * (cond y 1 0 + 2 * (cond z 1 0 + 2 * 0))
+    go true true true = refl
+    go true true false = refl
+    go true false true = refl
+    go true false false = refl
+    go false true true = refl
+    go false true false = refl
+    go false false true = refl
+    go false false false = refl
 
 presence_bit : (t : Tuple) (r : ℕ) → r < regions → bit (presence_of t) r ≡ Tuple.is_there (Tuple.region_range_at t r)
 unfolding bit presence_of
@@ -162,9 +206,6 @@ presence_below w t (suc n) h =
 
 pub presence_size : (w : ℕ) (t : Tuple) → length (regions_bytes w t regions) ≡ present_below (presence_of t) regions * range_size w
 presence_size w t = presence_below w t regions (omega arith)
-
-pub tuple_long : (w : ℕ) (t : Tuple) → length (presence_of t ∷ regions_bytes w t regions) ≡ tuple_size w (presence_of t)
-tuple_long w t = let n = presence_size w t in omega arith
 
 -- ---- the bytes of a tuple read back as the tuple
 

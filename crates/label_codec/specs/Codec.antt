@@ -1,6 +1,6 @@
 -- The bytes of any label, range or tuple, valid or not, as other crates put them in bodies of their own: those of kinds 01 to 03 behind the kind,
 -- where they fit. A number above 255 has no byte, and a byte that stood for it would be read as another number, so that such a value has no bytes.
-use Rattle.std.specs.Prelude.{Bool, true, ◌&&◌, cond, List, [], ◌∷◌, ℕ, ◌+◌, min, leb}
+use Rattle.std.specs.Prelude.{Bool, true, ◌&&◌, cond, List, [], ℕ, ◌+◌, min, leb}
 use Rattle.common.specs.Index.{every}
 use Rattle.label.specs.Region.{regions}
 use Rattle.label.specs.Words.{words}
@@ -10,7 +10,7 @@ use Rattle.range.specs.declared.Range.{Range}
 use Rattle.range.specs.declared.tuple.RegionRange.{RegionRange}
 use Rattle.range.specs.declared.tuple.Tuple.{Tuple}
 use Rattle.label_codec.specs.Body.{byte_at, label_bytes, range_bytes}
-use Rattle.label_codec.specs.Tuples.{presence_of, regions_bytes, tuple_at}
+use Rattle.label_codec.specs.Tuples.{tuple_at, tuple_bytes}
 
 -- how many words of a set stand in bytes for w words: all that it has, where w is more
 abbrev pub width : ℕ → ℕ
@@ -40,9 +40,8 @@ label_code w l = cond (label_fits l) (label_bytes w l) []
 unfoldable pub range_code : ℕ → Range → List ℕ
 range_code w x = cond (range_fits x) (range_bytes w x) []
 
--- the byte of presence, then the ranges that are there
 unfoldable pub tuple_code : ℕ → Tuple → List ℕ
-tuple_code w t = cond (tuple_fits t) (presence_of t ∷ regions_bytes w t regions) []
+tuple_code w t = cond (tuple_fits t) (tuple_bytes w t) []
 
 -- ---- what stands at an index: beside `label_at` and `range_at`, the tuple whose byte of presence is there
 

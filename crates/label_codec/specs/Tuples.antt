@@ -1,6 +1,6 @@
 -- Document 01, "Hex lines": a tuple as the bytes of a body. A byte of presence has bit r where the range of region r is there; then come
 -- the ranges that are there, in the order of the regions.
-use Rattle.std.specs.Prelude.{cond, List, [], ◌++◌, ℕ, zero, suc, ◌+◌, ◌*◌}
+use Rattle.std.specs.Prelude.{cond, List, [], ◌∷◌, ◌++◌, ℕ, zero, suc, ◌+◌, ◌*◌}
 use Rattle.common.specs.Index.{tabulate}
 use Rattle.label.specs.Region.{regions}
 use Rattle.label.specs.Words.{bit}
@@ -25,6 +25,10 @@ region_bytes w e = cond (Tuple.is_there e) (range_bytes w e.range) []
 unfoldable pub regions_bytes : ℕ → Tuple → ℕ → List ℕ
 regions_bytes w t zero = []
 regions_bytes w t (suc n) = regions_bytes w t n ++ region_bytes w (Tuple.region_range_at t n)
+
+-- the byte of presence, then the ranges that are there
+abbrev pub tuple_bytes : ℕ → Tuple → List ℕ
+tuple_bytes w t = presence_of t ∷ regions_bytes w t regions
 
 -- ---- reading: p is the byte of presence, and the ranges begin at index i
 

@@ -1,7 +1,7 @@
 // Labels and ranges as bytes: the hierarchy, then the words of the set, the lowest byte first. A number above 255 has no byte, and a byte that
 // stood for it would be read as another number. So a value with such a hierarchy has no bytes at all: nothing is put, and the index that was given
 // is answered, as where there is no room.
-ghost use Rattle.std.specs.Prelude.{◌≡◌, true, ◌+◌, ◌*◌, ◌/◌, ◌%◌, ◌<◌, ◌≤◌, ◌^◌, length};
+ghost use Rattle.std.specs.Prelude.{◌≡◌, ◌+◌, ◌*◌, ◌/◌, ◌%◌, ◌≤◌, ◌^◌, length};
 ghost use Rattle.common.specs.Index.{tabulate};
 ghost use Rattle.label.specs.Words.{words as set_words};
 ghost use Rattle.octets.specs.Bytes.{Appended};
@@ -10,10 +10,13 @@ ghost use Rattle.label_codec.specs.Body.{byte_at, label_at, label_bytes, label_s
 ghost use Rattle.label_codec.specs.Codec as codecs;
 ghost use Rattle.label_codec.specs.Codec.{label_code, label_fits, range_code, range_fits};
 
-use crate::{LINE_WORDS, byte, width};
+use crate::LINE_WORDS;
+use crate::width::Width;
+use crate::writing::{Coded, append};
 use label::Label;
 use label::words::WORDS;
 use range::Range;
+use std::array;
 
 // How many bytes a label and a range have in lines of kinds 01 to 04.
 pub const LABEL_BYTES: usize = 1 + 8 * LINE_WORDS;
@@ -25,7 +28,7 @@ pub fn label_size(words: usize) -> usize
     ensures value { result ≡ label_size (codecs.width words) }
     ensures upper_bound { result ≤ label_size set_words }
 {
-    1 + 8 * width(words)
+    Width::of(words).label_size()
 }
 
 // How many bytes a range has.
@@ -33,7 +36,7 @@ pub fn range_size(words: usize) -> usize
     ensures value { result ≡ range_size (codecs.width words) }
     ensures upper_bound { result ≤ range_size set_words }
 {
-    label_size(words) + label_size(words)
+    Width::of(words).range_size()
 }
 
 // The eight bytes of a word at index at, the lowest first. With the word at hand, and not the set, they are stored at once.
@@ -41,70 +44,66 @@ fn put_word(out: &mut [u8], at: usize, w: u64)
     requires { at + 8 ≤ length out.old }
     ensures { Put out.old at (tabulate (λ k. w / 256 ^ k % 256) 8) (at + 8) out.new }
 {
-    let mut k = 0;
-    while k < 8 {
-        let shift = k * 8;
-        out[at + k] = ((w >> shift) % 256) as u8;
-        k += 1;
+    out[at..at + 8].copy_from_slice(&w.to_le_bytes());
+}
+
+impl Coded for Label {
+    ghost fitting = { label_fits };
+
+    ghost bytes = { label_bytes };
+
+    fn fits(&self) -> bool {
+        self.hierarchy <= 255
+    }
+
+    fn size(&self, width: Width) -> usize {
+        width.label_size()
+    }
+
+    fn put(&self, out: &mut [u8], at: usize, width: Width) -> usize {
+        out[at] = self.hierarchy as u8;
+        let mut next = at + 1;
+        for w in &self.categories[..width.words] {
+            put_word(out, next, *w);
+            next += 8;
+        }
+        next
     }
 }
 
-// The bytes of a label that fits them, at index at, and the index past them.
-pub(crate) fn put_label(out: &mut [u8], at: usize, l: Label, words: usize) -> usize
-    requires { (words ≤ set_words) × (at + label_size words ≤ length out.old) × (label_fits l ≡ true) }
-    ensures { Put out.old at (label_bytes words l) result out.new }
-{
-    out[at] = l.hierarchy as u8;
-    let categories = l.categories;
-    let mut j = 0;
-    while j < words {
-        put_word(out, at + 1 + 8 * j, categories[j]);
-        j += 1;
+impl Coded for Range {
+    ghost fitting = { range_fits };
+
+    ghost bytes = { range_bytes };
+
+    fn fits(&self) -> bool {
+        self.low.fits() & self.high.fits()
     }
-    at + 1 + 8 * j
-}
 
-// The bytes of a range that fits them, at index at, and the index past them.
-pub(crate) fn put_range(out: &mut [u8], at: usize, x: Range, words: usize) -> usize
-    requires { (words ≤ set_words) × (at + range_size words ≤ length out.old) × (range_fits x ≡ true) }
-    ensures { Put out.old at (range_bytes words x) result out.new }
-{
-    let next = put_label(out, at, x.low, words);
-    put_label(out, next, x.high, words)
-}
+    fn size(&self, width: Width) -> usize {
+        width.range_size()
+    }
 
-pub(crate) fn label_fits(l: Label) -> bool
-    ensures { result ≡ label_fits l }
-{
-    l.hierarchy <= 255
-}
-
-pub(crate) fn range_fits(x: Range) -> bool
-    ensures { result ≡ range_fits x }
-{
-    (x.low.hierarchy <= 255) & (x.high.hierarchy <= 255)
+    fn put(&self, out: &mut [u8], at: usize, width: Width) -> usize {
+        let next = self.low.put(out, at, width);
+        self.high.put(out, next, width)
+    }
 }
 
 // Appends the bytes of a label to out at index at, and answers the index past them.
+#[tactic(auto, unfolding(crate::specs::Codec::label_code))]
 pub fn append_label(out: &mut [u8], at: usize, l: Label, words: usize) -> usize
     ensures { Appended out.old at (label_code (codecs.width words) l) result out.new }
 {
-    let room = label_fits(l) & octets::fits(out.len(), at, label_size(words));
-    if !room {
-        return at;
-    }
-    put_label(out, at, l, width(words))
+    append(out, at, &l, words)
 }
 
 // Appends the bytes of a range to out at index at, and answers the index past them.
+#[tactic(auto, unfolding(crate::specs::Codec::range_code))]
 pub fn append_range(out: &mut [u8], at: usize, x: Range, words: usize) -> usize
     ensures { Appended out.old at (range_code (codecs.width words) x) result out.new }
 {
-    let room = range_fits(x) & octets::fits(out.len(), at, range_size(words));
-    if !room {
-        return at;
-    }
-    put_range(out, at, x, width(words))
+    append(out, at, &x, words)
 }
 
 // The word whose eight bytes begin at index at, the lowest first.
@@ -112,28 +111,13 @@ fn word_at(bytes: &[u8], at: usize) -> u64
     requires { at + 8 ≤ length bytes.now }
     ensures { result ≡ base_number 256 (byte_at bytes.now) at 8 }
 {
-    let mut w: u64 = 0;
-    let mut k = 8;
-    while 0 < k {
-        k -= 1;
-        let b = bytes[at + k] as u64;
-        w = w * 256 + b;
-    }
-    w
-}
-
-// Some bytes in all of out, with 0 past their end.
-fn copy_from(bytes: &[u8], out: &mut [u8])
-    ensures { out.new ≡ tabulate (byte_at bytes.now) (length out.old) }
-{
-    let mut k = 0;
-    while k < out.len() {
-        out[k] = byte(bytes, k);
-        k += 1;
-    }
+    let mut own = [0u8; 8];
+    own.copy_from_slice(&bytes[at..at + 8]);
+    u64::from_le_bytes(own)
 }
 
 // Word j of the set of the label at the front of some bytes.
+#[tactic(auto, unfolding(crate::specs::Body::word_from))]
 fn set_word(bytes: &[u8], j: usize, words: usize) -> u64
     requires { label_size words ≤ length bytes.now }
     ensures { result ≡ word_from words bytes.now (0 + 1) j }
@@ -149,15 +133,9 @@ fn label_in(bytes: &[u8], words: usize) -> Label
     requires { label_size words ≤ length bytes.now }
     ensures { result ≡ label_at words bytes.now 0 }
 {
-    let mut categories = [0u64; WORDS];
-    let mut j = 0;
-    while j < WORDS {
-        categories[j] = set_word(bytes, j, words);
-        j += 1;
-    }
     Label {
-        hierarchy: bytes[0] as u64,
-        categories,
+        hierarchy: u64::from(bytes[0]),
+        categories: array::from_fn(|j| set_word(bytes, j, words)),
     }
 }
 
@@ -166,13 +144,13 @@ pub fn label_at(bytes: &[u8], at: usize, words: usize) -> Label
     ensures { result ≡ label_at (codecs.width words) bytes.now at }
 {
     let own = octets::rest(bytes, at);
-    let w = width(words);
-    if label_size(words) <= own.len() {
-        return label_in(own, w);
+    let width = Width::of(words);
+    if width.label_size() <= own.len() {
+        return label_in(own, width.words);
     }
     let mut padded = [0u8; 1 + 8 * WORDS];
-    copy_from(own, &mut padded);
-    label_in(&padded, w)
+    padded[..own.len()].copy_from_slice(own);
+    label_in(&padded, width.words)
 }
 
 // The range whose bytes begin at index at of any bytes.

@@ -7,110 +7,93 @@ ghost use Rattle.octets.specs.Internal.Put.{Put};
 ghost use Rattle.range.specs.Tuple as tuples;
 ghost use Rattle.label_codec.specs.Codec as codecs;
 ghost use Rattle.label_codec.specs.Codec.{region_fits, tuple_code, tuple_fits, tuple_from};
-ghost use Rattle.label_codec.specs.Tuples.{presence_of, present_at, present_below, region_at, region_bytes, regions_bytes, tuple_size};
+ghost use Rattle.label_codec.specs.Tuples.{presence_of, present_at, present_below, region_at, region_bytes, tuple_bytes, tuple_size};
 ghost use Rattle.label_codec.specs.Body.{range_size};
 
-use crate::labels::{RANGE_BYTES, put_range, range_at, range_fits, range_size};
-use crate::{append_byte, byte, width};
+use crate::byte;
+use crate::labels::{RANGE_BYTES, range_at};
+use crate::width::Width;
+use crate::writing::{Coded, append};
 use label::region::REGIONS;
 use range::tuple;
 use range::tuple::{RegionRange, Tuple};
+use std::array;
 
 // The most bytes of a tuple in a line of kind 03.
 pub const TUPLE_BYTES: usize = 1 + REGIONS * RANGE_BYTES;
 
-fn present_at(t: Tuple, r: usize) -> u8
-    requires { r < regions }
-    ensures { result ≡ present_at t r }
-{
-    if t.ranges[r].present == 1 { 1 } else { 0 }
-}
-
 // The byte of presence.
-fn presence(t: Tuple) -> u8
-    ensures { result ≡ presence_of t }
+fn presence(t: &Tuple) -> u8
+    ensures { result ≡ presence_of t.now }
 {
-    let mut p: u8 = 0;
-    let mut r = REGIONS;
-    while 0 < r {
-        r -= 1;
-        p = p * 2 + present_at(t, r);
-    }
-    p
+    t.ranges
+        .iter()
+        .rev()
+        .fold(0, |p, e| p << 1 | u8::from(e.is_present()))
 }
 
-fn region_fits(e: RegionRange) -> bool
-    ensures { result ≡ region_fits e }
-{
-    if e.present == 1 {
-        return range_fits(e.range);
+impl Coded for RegionRange {
+    ghost fitting = { region_fits };
+
+    ghost bytes = { region_bytes };
+
+    fn fits(&self) -> bool {
+        !self.is_present() | self.range.fits()
     }
-    true
+
+    fn size(&self, width: Width) -> usize {
+        if self.is_present() {
+            return self.range.size(width);
+        }
+        0
+    }
+
+    fn put(&self, out: &mut [u8], at: usize, width: Width) -> usize {
+        if self.is_present() {
+            return self.range.put(out, at, width);
+        }
+        at
+    }
 }
 
-fn tuple_fits(t: Tuple) -> bool
-    ensures { result ≡ tuple_fits t }
-{
-    let mut good = true;
-    let mut r = 0;
-    while r < REGIONS {
-        good = good & region_fits(t.ranges[r]);
-        r += 1;
-    }
-    good
-}
+impl Coded for Tuple {
+    ghost fitting = { tuple_fits };
 
-// The bytes of a range that fits them, where it is there, and the index past them.
-fn put_region(out: &mut [u8], at: usize, e: RegionRange, words: usize) -> usize
-    requires { (words ≤ set_words) × (at + length (region_bytes words e) ≤ length out.old) × (region_fits e ≡ true) }
-    ensures { Put out.old at (region_bytes words e) result out.new }
-{
-    if e.present == 1 {
-        return put_range(out, at, e.range, words);
-    }
-    at
-}
+    ghost bytes = { tuple_bytes };
 
-// The bytes of the ranges that are there in a tuple, each of which fits them, at index at, and the index past them.
-fn put_regions(out: &mut [u8], at: usize, t: Tuple, words: usize) -> usize
-    requires { (words ≤ set_words) × (at + length (regions_bytes words t regions) ≤ length out.old) × (tuple_fits t ≡ true) }
-    ensures { Put out.old at (regions_bytes words t regions) result out.new }
-{
-    let mut next = at;
-    let mut r = 0;
-    while r < REGIONS {
-        next = put_region(out, next, t.ranges[r], words);
-        r += 1;
+    fn fits(&self) -> bool {
+        self.ranges.iter().all(RegionRange::fits)
     }
-    next
+
+    fn size(&self, width: Width) -> usize {
+        1 + self.ranges.iter().map(|e| e.size(width)).sum::<usize>()
+    }
+
+    fn put(&self, out: &mut [u8], at: usize, width: Width) -> usize {
+        out[at] = presence(self);
+        let mut next = at + 1;
+        for e in &self.ranges {
+            next = e.put(out, next, width);
+        }
+        next
+    }
 }
 
 // Appends the bytes of a tuple to out at index at, and answers the index past them.
+#[tactic(auto, unfolding(crate::specs::Codec::tuple_code))]
 pub fn append_tuple(out: &mut [u8], at: usize, t: Tuple, words: usize) -> usize
     ensures { Appended out.old at (tuple_code (codecs.width words) t) result out.new }
 {
-    let p = presence(t);
-    let room = tuple_fits(t) & octets::fits(out.len(), at, tuple_size(p, words));
-    if !room {
-        return at;
-    }
-    let next = append_byte(out, at, p);
-    put_regions(out, next, t, width(words))
+    append(out, at, &t, words)
 }
 
 // Whether the byte of presence p has region r.
+#[tactic(auto, unfolding(label::specs::Words::bit))]
 fn has_region(p: u8, r: usize) -> bool
     requires { r < 8 }
     ensures { result ≡ bit p r }
 {
     (p >> r) % 2 == 1
-}
-
-fn count_region(p: u8, r: usize) -> usize
-    requires { r < 8 }
-    ensures { result ≡ cond (bit p r) 1 0 }
-{
-    if has_region(p, r) { 1 } else { 0 }
 }
 
 // How many of the first n regions the byte of presence p has.
@@ -119,23 +102,17 @@ fn present_below(p: u8, n: usize) -> usize
     ensures value { result ≡ present_below p n }
     ensures upper_bound { result ≤ n }
 {
-    let mut k = 0;
-    let mut r = 0;
-    while r < n {
-        k += count_region(p, r);
-        r += 1;
-    }
-    k
+    (0..n).filter(|r| has_region(p, *r)).count()
 }
 
 // How many bytes the first n regions of a tuple with the byte of presence p have, with the byte itself. The second clause of this and the next
 // follows, and is stated for callers.
-fn size_below(p: u8, n: usize, words: usize) -> usize
+fn size_below(p: u8, n: usize, width: Width) -> usize
     requires { n ≤ 8 }
-    ensures value { result ≡ 1 + present_below p n * range_size (codecs.width words) }
+    ensures value { result ≡ 1 + present_below p n * range_size width.words }
     ensures upper_bound { result ≤ 1 + 8 * range_size set_words }
 {
-    1 + present_below(p, n) * range_size(words)
+    1 + present_below(p, n) * width.range_size()
 }
 
 // How many bytes a tuple has whose byte of presence is p.
@@ -143,10 +120,11 @@ pub fn tuple_size(p: u8, words: usize) -> usize
     ensures value { result ≡ tuple_size (codecs.width words) p }
     ensures upper_bound { result ≤ 1 + 8 * range_size set_words }
 {
-    size_below(p, REGIONS, words)
+    size_below(p, REGIONS, Width::of(words))
 }
 
 // Region r of the tuple at the front of some bytes, whose byte of presence is p.
+#[tactic(auto, unfolding(crate::specs::Tuples::region_at))]
 fn region_at(bytes: &[u8], p: u8, r: usize, words: usize) -> RegionRange
     requires { r < regions }
     ensures { result ≡ region_at (codecs.width words) bytes.now p (0 + 1) r }
@@ -154,7 +132,7 @@ fn region_at(bytes: &[u8], p: u8, r: usize, words: usize) -> RegionRange
     if has_region(p, r) {
         return RegionRange {
             present: 1,
-            range: range_at(bytes, size_below(p, r, words), words),
+            range: range_at(bytes, size_below(p, r, Width::of(words)), words),
         };
     }
     tuple::no_range()
@@ -166,11 +144,7 @@ pub fn tuple_at(bytes: &[u8], at: usize, words: usize) -> Tuple
 {
     let own = octets::rest(bytes, at);
     let p = byte(own, 0);
-    let mut ranges = [tuple::no_range(); REGIONS];
-    let mut r = 0;
-    while r < REGIONS {
-        ranges[r] = region_at(own, p, r, words);
-        r += 1;
+    Tuple {
+        ranges: array::from_fn(|r| region_at(own, p, r, words)),
     }
-    Tuple { ranges }
 }

@@ -1,15 +1,10 @@
 -- What a text is asked with, as C has it.
 use Rattle.std.specs.Prelude.{Bool, ◌&&◌, ℕ}
-use Rattle.alias.specs.declared.LineStarts.{LineStarts}
 use Rattle.abi.specs.Caller.{caller_formed}
 use Rattle.abi.specs.Flag
 use Rattle.abi.specs.Style.{formed_of}
 use Rattle.abi.specs.declared.caller.CCaller.{CCaller}
 use Rattle.abi.specs.declared.style.CStyle.{CStyle}
-
--- what a table's check answers: how many lines it has
-abbrev pub line_count : LineStarts → ℕ
-line_count lines = lines.count
 
 -- the flags that every text is asked with are flags
 abbrev pub ask_formed : ℕ → CCaller → Bool

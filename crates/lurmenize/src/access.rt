@@ -1,17 +1,18 @@
 // The monitor.
 ghost use Rattle.std.specs.Prelude.{◌≡◌, ◌&&◌};
 ghost use Rattle.common.specs.Answer.{require};
-ghost use Rattle.monitor.specs.Monitor.{decision_for};
+ghost use Rattle.monitor.specs.Monitor.{decision_for, decision_of};
 ghost use Rattle.abi.specs.Answer.{number_answer};
 ghost use Rattle.abi.specs.Caller.{caller_formed};
 ghost use Rattle.abi.specs.Request.{credentials_formed, object_formed, monitor_request};
 
+use abi::answer;
 use abi::answer::CAnswer;
 use abi::caller::CCaller;
 use abi::request::{CCredentials, CObject};
-use abi::{answer, caller, request};
 use common::errno::Errno;
-use monitor::Request;
+use label::caller::Caller;
+use monitor::{Credentials, Grant, Object, Request};
 
 #[unsafe(no_mangle)]
 pub extern "C" fn lurm_check(
@@ -23,17 +24,26 @@ pub extern "C" fn lurm_check(
 ) -> CAnswer
     ensures { result ≡ number_answer (require (caller_formed caller && credentials_formed credentials && object_formed object) 22 (decision_for (monitor_request caller credentials object intents attribute))) }
 {
-    if caller::formed(caller)
-        & request::credentials_formed(credentials)
-        & request::object_formed(object)
-    {
-        return answer::of_decision(monitor::check(Request {
-            credentials: request::decode_credentials(credentials),
-            object: request::decode_object(object),
-            intents,
-            attribute,
-            caller: caller::decode(caller),
-        }));
-    }
-    answer::refused(Errno::Invalid)
+    answer::of(check(caller, credentials, object, intents, attribute))
+}
+
+fn check(
+    caller: CCaller,
+    credentials: CCredentials,
+    object: CObject,
+    intents: u64,
+    attribute: u64,
+) -> Result<Grant, Errno>
+    ensures { decision_of result ≡ require (caller_formed caller && credentials_formed credentials && object_formed object) 22 (decision_for (monitor_request caller credentials object intents attribute)) }
+{
+    let caller = Caller::try_from(caller)?;
+    let credentials = Credentials::try_from(credentials)?;
+    let object = Object::try_from(object)?;
+    monitor::check(Request {
+        credentials,
+        object,
+        intents,
+        attribute,
+        caller,
+    })
 }

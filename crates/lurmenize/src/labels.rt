@@ -14,60 +14,54 @@ use label::Label;
 pub extern "C" fn lurm_dominates(a: Label, b: Label) -> CAnswer
     ensures { result ≡ test_answer (require (valid_of a && valid_of b) 22 (granted (dominates_of a b))) }
 {
-    answer::of_test(label::dominates(a, b))
+    answer::of(label::dominates(a, b))
 }
 
 #[unsafe(no_mangle)]
 pub extern "C" fn lurm_equal(a: Label, b: Label) -> CAnswer
     ensures { result ≡ test_answer (require (valid_of a && valid_of b) 22 (granted (equal_of a b))) }
 {
-    answer::of_test(label::equal(a, b))
+    answer::of(label::equal(a, b))
 }
 
 #[unsafe(no_mangle)]
 pub extern "C" fn lurm_upper_bound(a: Label, b: Label) -> CLabelAnswer
     ensures { result ≡ label_answer (require (valid_of a && valid_of b) 22 (granted (upper_bound_of a b))) }
 {
-    let x = label::upper_bound(a, b);
-    let outcome = x.outcome;
-    answer::of_label(outcome, x.label)
+    label::upper_bound(a, b).into()
 }
 
 #[unsafe(no_mangle)]
 pub extern "C" fn lurm_lower_bound(a: Label, b: Label) -> CLabelAnswer
     ensures { result ≡ label_answer (require (valid_of a && valid_of b) 22 (granted (lower_bound_of a b))) }
 {
-    let x = label::lower_bound(a, b);
-    let outcome = x.outcome;
-    answer::of_label(outcome, x.label)
+    label::lower_bound(a, b).into()
 }
 
 #[unsafe(no_mangle)]
 pub extern "C" fn lurm_region_of(a: Label) -> CAnswer
     ensures { result ≡ number_answer (require (valid_of a) 22 (granted (region_of a.hierarchy))) }
 {
-    answer::of_number(label::region_of(a))
+    answer::of(label::region_of(a))
 }
 
 #[unsafe(no_mangle)]
 pub extern "C" fn lurm_has_category(a: Label, category: u64) -> CAnswer
     ensures { result ≡ test_answer (require (valid_of a && ltb category categories) 22 (granted (has a.categories category))) }
 {
-    answer::of_test(label::has_category(a, category))
+    answer::of(label::has_category(a, category))
 }
 
 #[unsafe(no_mangle)]
 pub extern "C" fn lurm_with_category(a: Label, category: u64) -> CLabelAnswer
     ensures { result ≡ label_answer (require (valid_of a && ltb category categories) 22 (granted (with_category_of a category))) }
 {
-    let x = label::with_category(a, category);
-    let outcome = x.outcome;
-    answer::of_label(outcome, x.label)
+    label::with_category(a, category).into()
 }
 
 #[unsafe(no_mangle)]
 pub extern "C" fn lurm_next_category(a: Label, from: u64) -> CAnswer
     ensures { result ≡ numbered next_number (require (valid_of a) 22 (granted (next_category_from a.categories from))) }
 {
-    answer::of_next(label::next_category(a, from))
+    answer::of(label::next_category(a, from))
 }

@@ -16,53 +16,47 @@ use range::{Range, tuple};
 pub extern "C" fn lurm_range_contains(x: Range, l: Label) -> CAnswer
     ensures { result ≡ test_answer (require (ranges.valid_of x && labels.valid_of l) 22 (granted (ranges.contains_of x l))) }
 {
-    answer::of_test(range::contains(x, l))
+    answer::of(range::contains(x, l))
 }
 
 #[unsafe(no_mangle)]
 pub extern "C" fn lurm_range_meet(x: Range, y: Range) -> CRangeAnswer
     ensures { result ≡ range_answer (ranges.meet_answer_of x y) }
 {
-    let m = range::meet(x, y);
-    let outcome = m.outcome;
-    answer::of_range(outcome, m.range)
+    range::meet(x, y).into()
 }
 
 #[unsafe(no_mangle)]
 pub extern "C" fn lurm_range_split(x: Range) -> CTupleAnswer
     ensures { result ≡ tuple_answer (require (ranges.valid_of x) 22 (granted (tuples.split_of x))) }
 {
-    let t = tuple::split(x);
-    let outcome = t.outcome;
-    answer::of_tuple(outcome, t.tuple)
+    tuple::split(x).into()
 }
 
 #[unsafe(no_mangle)]
 pub extern "C" fn lurm_tuple_is_empty(t: Tuple) -> CAnswer
     ensures { result ≡ test_answer (require (tuples.valid_of t) 22 (granted (tuples.empty_of t))) }
 {
-    answer::of_test(tuple::is_empty(t))
+    answer::of(tuple::is_empty(t))
 }
 
 #[unsafe(no_mangle)]
 pub extern "C" fn lurm_tuple_contains(t: Tuple, l: Label) -> CAnswer
     ensures { result ≡ test_answer (require (tuples.valid_of t && labels.valid_of l) 22 (granted (tuples.contains_of t l))) }
 {
-    answer::of_test(tuple::contains(t, l))
+    answer::of(tuple::contains(t, l))
 }
 
 #[unsafe(no_mangle)]
 pub extern "C" fn lurm_tuple_within(t: Tuple, u: Tuple) -> CAnswer
     ensures { result ≡ test_answer (require (tuples.valid_of t && tuples.valid_of u) 22 (granted (tuples.within_of t u))) }
 {
-    answer::of_test(tuple::within(t, u))
+    answer::of(tuple::within(t, u))
 }
 
 #[unsafe(no_mangle)]
 pub extern "C" fn lurm_tuple_meet(t: Tuple, u: Tuple) -> CTupleAnswer
     ensures { result ≡ tuple_answer (require (tuples.valid_of t && tuples.valid_of u) 22 (granted (tuples.meet_of t u))) }
 {
-    let m = tuple::meet(t, u);
-    let outcome = m.outcome;
-    answer::of_tuple(outcome, m.tuple)
+    tuple::meet(t, u).into()
 }

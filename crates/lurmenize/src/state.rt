@@ -11,6 +11,7 @@ ghost use Rattle.abi.specs.Outcome.{step_outcome};
 use abi::answer::CAnswer;
 use abi::outcome::COutcome;
 use abi::{answer, outcome};
+use common::errno::Errno;
 use label::Label;
 use range::tuple::Tuple;
 use segment_table::{SegmentTable, Slot, TenantId, operator};
@@ -43,7 +44,12 @@ pub extern "C" fn lurm_set_ceiling(state: SegmentTable, tenant: TenantId, ceilin
 }
 
 // What a tenant's call changes and answers. It hands back no state: each exported function makes the change to the one that it was passed.
-fn decided(state: SegmentTable, tenant: TenantId, label: Label, action: Action) -> Change
+fn decided(
+    state: SegmentTable,
+    tenant: TenantId,
+    label: Label,
+    action: Action,
+) -> Result<Change, Errno>
     ensures { Decides state (call_of tenant label action) result }
 {
     let call = Call {
@@ -51,7 +57,7 @@ fn decided(state: SegmentTable, tenant: TenantId, label: Label, action: Action) 
         label,
         action,
     };
-    calls::decide(state, call)
+    calls::decide(&state, call)
 }
 
 #[unsafe(no_mangle)]
@@ -126,15 +132,12 @@ pub extern "C" fn lurm_look(
 pub extern "C" fn lurm_sound(state: SegmentTable) -> CAnswer
     ensures { result ≡ test_answer (granted (sound state)) }
 {
-    if segment_table::state::sound(state) {
-        return answer::granted(1);
-    }
-    answer::granted(0)
+    answer::of(Ok(segment_table::state::sound(&state)))
 }
 
 #[unsafe(no_mangle)]
 pub extern "C" fn lurm_pages_in_use(state: SegmentTable, tenant: TenantId) -> CAnswer
     ensures { result ≡ number_answer (require (sound state) 22 (require (admitted state tenant) 22 (granted (pages_of state tenant)))) }
 {
-    answer::of_number(segment_table::state::pages_in_use(state, tenant))
+    answer::of(segment_table::state::pages_in_use(&state, tenant))
 }

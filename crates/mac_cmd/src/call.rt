@@ -1,145 +1,64 @@
-// What a request does once its operand lines are there: they are read, and where one is bad no call is made. Each function puts the answer's line
-// at the front of a buffer and gives its length.
-use crate::answer;
+// What a request does once its operand lines are there: they are read, and where one is bad no call is made.
+use crate::answer::{put_bool, put_next, put_number, put_region};
 use crate::request::Request;
-use common::answer::granted;
-use console::format;
-use hexline::Kind;
+use common::errno::Errno;
+use hexline::{Kind, read_entry, read_label, read_range, read_tuple};
 use range::tuple;
 
 // Whether H is a valid hierarchy: whether a label with it is valid.
-pub(crate) fn valid(h: u64, out: &mut [u8]) -> usize {
+fn is_valid(hierarchy: u64) -> bool {
     let mut l = label::zero();
-    l.hierarchy = h;
-    answer::put_bool(label::valid(l), out)
-}
-
-pub(crate) fn two_labels(r: Request, a: &[u8], b: &[u8], out: &mut [u8]) -> usize {
-    let x = hexline::read_label(a);
-    let y = hexline::read_label(b);
-    let first = x.outcome;
-    let second = y.outcome;
-    if !(granted(first) & granted(second)) {
-        return answer::put_invalid(out);
-    }
-    match r {
-        Request::Dominates => answer::put_test(label::dominates(x.label, y.label), out),
-        Request::Equal => answer::put_test(label::equal(x.label, y.label), out),
-        Request::Upper => answer::put_label(label::upper_bound(x.label, y.label), out),
-        _ => answer::put_label(label::lower_bound(x.label, y.label), out),
-    }
-}
-
-pub(crate) fn one_label(r: Request, a: &[u8], out: &mut [u8]) -> usize {
-    let x = hexline::read_label(a);
-    let outcome = x.outcome;
-    if !granted(outcome) {
-        return answer::put_invalid(out);
-    }
-    match r {
-        Request::Count => answer::put_count(label::category_count(x.label), out),
-        Request::Next(from) => answer::put_next(label::next_category(x.label, from), out),
-        _ => answer::put_region(label::region_of(x.label), out),
-    }
-}
-
-fn range_contains(a: &[u8], b: &[u8], out: &mut [u8]) -> usize {
-    let x = hexline::read_range(a);
-    let l = hexline::read_label(b);
-    let first = x.outcome;
-    let second = l.outcome;
-    if granted(first) & granted(second) {
-        return answer::put_test(range::contains(x.range, l.label), out);
-    }
-    answer::put_invalid(out)
-}
-
-fn tuple_contains(a: &[u8], b: &[u8], out: &mut [u8]) -> usize {
-    let t = hexline::read_tuple(a);
-    let l = hexline::read_label(b);
-    let first = t.outcome;
-    let second = l.outcome;
-    if granted(first) & granted(second) {
-        return answer::put_test(tuple::contains(t.tuple, l.label), out);
-    }
-    answer::put_invalid(out)
+    l.hierarchy = hierarchy;
+    label::valid(l)
 }
 
 // The first operand's kind says which of the two is meant.
-pub(crate) fn contains(a: &[u8], b: &[u8], out: &mut [u8]) -> usize {
-    match hexline::kind_of(a) {
-        Kind::OfRange => range_contains(a, b, out),
-        Kind::OfTuple => tuple_contains(a, b, out),
-        _ => answer::put_invalid(out),
+fn contains(a: &[u8], b: &[u8]) -> Result<bool, Errno> {
+    match hexline::kind_of(a)? {
+        Kind::Range => range::contains(read_range(a)?, read_label(b)?),
+        Kind::Tuple => tuple::contains(read_tuple(a)?, read_label(b)?),
+        Kind::Label | Kind::Entry => Err(Errno::Invalid),
     }
 }
 
-fn meet_ranges(a: &[u8], b: &[u8], out: &mut [u8]) -> usize {
-    let x = hexline::read_range(a);
-    let y = hexline::read_range(b);
-    let first = x.outcome;
-    let second = y.outcome;
-    if granted(first) & granted(second) {
-        return answer::put_range(range::meet(x.range, y.range), out);
+fn meet(a: &[u8], b: &[u8], out: &mut [u8]) -> Result<usize, Errno> {
+    match hexline::kind_of(a)? {
+        Kind::Range => hexline::write_range(range::meet(read_range(a)?, read_range(b)?)?, out),
+        Kind::Tuple => hexline::write_tuple(tuple::meet(read_tuple(a)?, read_tuple(b)?)?, out),
+        Kind::Label | Kind::Entry => Err(Errno::Invalid),
     }
-    answer::put_invalid(out)
-}
-
-fn meet_tuples(a: &[u8], b: &[u8], out: &mut [u8]) -> usize {
-    let t = hexline::read_tuple(a);
-    let u = hexline::read_tuple(b);
-    let first = t.outcome;
-    let second = u.outcome;
-    if granted(first) & granted(second) {
-        return answer::put_tuple(tuple::meet(t.tuple, u.tuple), out);
-    }
-    answer::put_invalid(out)
-}
-
-pub(crate) fn meet(a: &[u8], b: &[u8], out: &mut [u8]) -> usize {
-    match hexline::kind_of(a) {
-        Kind::OfRange => meet_ranges(a, b, out),
-        Kind::OfTuple => meet_tuples(a, b, out),
-        _ => answer::put_invalid(out),
-    }
-}
-
-pub(crate) fn within(a: &[u8], b: &[u8], out: &mut [u8]) -> usize {
-    let t = hexline::read_tuple(a);
-    let u = hexline::read_tuple(b);
-    let first = t.outcome;
-    let second = u.outcome;
-    if granted(first) & granted(second) {
-        return answer::put_test(tuple::within(t.tuple, u.tuple), out);
-    }
-    answer::put_invalid(out)
-}
-
-pub(crate) fn empty(a: &[u8], out: &mut [u8]) -> usize {
-    let t = hexline::read_tuple(a);
-    let outcome = t.outcome;
-    if granted(outcome) {
-        return answer::put_test(tuple::is_empty(t.tuple), out);
-    }
-    answer::put_invalid(out)
-}
-
-pub(crate) fn split(a: &[u8], out: &mut [u8]) -> usize {
-    let x = hexline::read_range(a);
-    let outcome = x.outcome;
-    if granted(outcome) {
-        return answer::put_tuple(tuple::split(x.range), out);
-    }
-    answer::put_invalid(out)
 }
 
 // The line of any kind, as it is written of what was read.
-pub(crate) fn echo(a: &[u8], out: &mut [u8]) -> usize {
-    match hexline::kind_of(a) {
-        Kind::OfLabel => answer::put_label(hexline::read_label(a), out),
-        Kind::OfRange => answer::put_range(hexline::read_range(a), out),
-        Kind::OfTuple => answer::put_tuple(hexline::read_tuple(a), out),
-        Kind::OfEntry => answer::put_entry(hexline::read_entry(a), out),
-        Kind::Refused(e) => format::append_error(out, 0, e),
+fn echo(a: &[u8], out: &mut [u8]) -> Result<usize, Errno> {
+    match hexline::kind_of(a)? {
+        Kind::Label => hexline::write_label(read_label(a)?, out),
+        Kind::Range => hexline::write_range(read_range(a)?, out),
+        Kind::Tuple => hexline::write_tuple(read_tuple(a)?, out),
+        Kind::Entry => hexline::write_entry(read_entry(a)?, out),
     }
+}
+
+// Puts the answer's line at the front of the buffer and gives its length. A request with one operand has it in a.
+pub(crate) fn answer(r: Request, a: &[u8], b: &[u8], out: &mut [u8]) -> Result<usize, Errno> {
+    Ok(match r {
+        Request::Dominates => put_bool(label::dominates(read_label(a)?, read_label(b)?)?, out),
+        Request::Equal => put_bool(label::equal(read_label(a)?, read_label(b)?)?, out),
+        Request::Upper => {
+            hexline::write_label(label::upper_bound(read_label(a)?, read_label(b)?)?, out)?
+        }
+        Request::Lower => {
+            hexline::write_label(label::lower_bound(read_label(a)?, read_label(b)?)?, out)?
+        }
+        Request::Valid(hierarchy) => put_bool(is_valid(hierarchy), out),
+        Request::Count => put_number(label::category_count(read_label(a)?)?, out),
+        Request::Next(from) => put_next(label::next_category(read_label(a)?, from)?, out),
+        Request::Region => put_region(label::region_of(read_label(a)?)?, out),
+        Request::Contains => put_bool(contains(a, b)?, out),
+        Request::Meet => meet(a, b, out)?,
+        Request::Within => put_bool(tuple::within(read_tuple(a)?, read_tuple(b)?)?, out),
+        Request::Empty => put_bool(tuple::is_empty(read_tuple(a)?)?, out),
+        Request::Split => hexline::write_tuple(tuple::split(read_range(a)?)?, out)?,
+        Request::Echo => echo(a, out)?,
+    })
 }

@@ -1,108 +1,95 @@
 // The lines of the input as requests: a command line, then as many operand lines as it takes, then one answer.
-use crate::answer::ANSWER_BYTES;
 use crate::request::Request;
-use crate::{answer, call, request};
-use console::command;
+use crate::{call, request};
+use common::errno::Errno;
+use console::{command, format};
+use std::io;
 
-// The request whose operand lines are due. Between two requests none is.
+// The size of the buffer for an answer.
+const ANSWER_BYTES: usize = 512;
+
+// A request whose operand lines are due. Of two, the first is kept until the second is there: that many bytes.
 #[derive(Clone, Copy)]
-pub(crate) struct Session {
-    pub request: Request,
-    // How many operand lines are still to come.
-    pub due: usize,
-    // How many bytes the first of two operand lines has.
-    pub kept: usize,
+pub(crate) struct Pending {
+    request: Request,
+    kept: Option<usize>,
 }
 
-pub(crate) fn between() -> Session {
-    Session {
-        request: Request::Invalid,
-        due: 0,
-        kept: 0,
-    }
-}
-
-// The answer to a request, with its operand lines if it has any.
-fn put_answer(r: Request, a: &[u8], b: &[u8], out: &mut [u8]) -> usize {
-    match r {
-        Request::Invalid => answer::put_invalid(out),
-        Request::Valid(h) => call::valid(h, out),
-        Request::Count => call::one_label(r, a, out),
-        Request::Next(_) => call::one_label(r, a, out),
-        Request::Region => call::one_label(r, a, out),
-        Request::Contains => call::contains(a, b, out),
-        Request::Meet => call::meet(a, b, out),
-        Request::Within => call::within(a, b, out),
-        Request::Empty => call::empty(a, out),
-        Request::Split => call::split(a, out),
-        Request::Echo => call::echo(a, out),
-        _ => call::two_labels(r, a, b, out),
-    }
-}
-
-// Answers a request, with its operand lines if it has any.
-fn respond(rt: &(impl Print + Eprint), r: Request, a: &[u8], b: &[u8]) -> Session {
+// Prints the answer to a request with its operand lines, or the refusal of one that makes no call.
+fn respond(rt: &(impl Print + Eprint), r: Option<Request>, a: &[u8], b: &[u8]) {
     let mut out = [0u8; ANSWER_BYTES];
-    let n = put_answer(r, a, b, &mut out);
-    answer::print_bytes(rt, octets::front(&out, n));
-    between()
+    let answered = match r {
+        Some(r) => call::answer(r, a, b, &mut out),
+        None => Err(Errno::Invalid),
+    };
+    let n = match answered {
+        Ok(n) => n,
+        Err(e) => format::append_error(&mut out, 0, e),
+    };
+    print_bytes(rt, octets::front(&out, n));
+}
+
+// Prints an answer. A write that fails is told on the standard error, and the requests go on.
+fn print_bytes(rt: &(impl Print + Eprint), bytes: &[u8]) {
+    input::print_bytes(&mut io::writer(rt), rt, "mac_cmd", bytes);
 }
 
 // A line where a command line is due. A bad line comes as no bytes at all.
-fn take_command(rt: &(impl Print + Eprint), line: &[u8]) -> Session {
+fn take_command(rt: &(impl Print + Eprint), line: &[u8]) -> Option<Pending> {
     if command::is_skipped(line) {
-        return between();
+        return None;
     }
-    let r = request::of_line(line);
-    let due = request::operand_count(r);
-    if due == 0 {
-        return respond(rt, r, line, line);
+    let request = request::of_line(line);
+    if let Some(r) = request
+        && r.operand_count() > 0
+    {
+        return Some(Pending {
+            request: r,
+            kept: None,
+        });
     }
-    Session {
-        request: r,
-        due,
-        kept: 0,
-    }
+    respond(rt, request, b"", b"");
+    None
 }
 
-// A line where an operand line is due. Of two, the first is kept until the second is there.
+// A line where an operand line is due.
 fn take_operand(
     rt: &(impl Print + Eprint),
-    s: Session,
+    p: Pending,
     line: &[u8],
     operand: &mut [u8],
-) -> Session {
-    let r = s.request;
-    if s.due > 1 {
-        let kept = octets::append(operand, 0, line);
-        return Session {
-            request: r,
-            due: 1,
-            kept,
-        };
+) -> Option<Pending> {
+    match p.kept {
+        Some(n) => respond(rt, Some(p.request), octets::front(operand, n), line),
+        None => {
+            if p.request.operand_count() > 1 {
+                return Some(Pending {
+                    request: p.request,
+                    kept: Some(octets::append(operand, 0, line)),
+                });
+            }
+            respond(rt, Some(p.request), line, b"");
+        }
     }
-    if request::operand_count(r) > 1 {
-        return respond(rt, r, octets::front(operand, s.kept), line);
-    }
-    respond(rt, r, line, line)
+    None
 }
 
 pub(crate) fn take_line(
     rt: &(impl Print + Eprint),
-    s: Session,
+    pending: Option<Pending>,
     line: &[u8],
     operand: &mut [u8],
-) -> Session {
-    if s.due == 0 {
-        return take_command(rt, line);
+) -> Option<Pending> {
+    match pending {
+        Some(p) => take_operand(rt, p, line, operand),
+        None => take_command(rt, line),
     }
-    take_operand(rt, s, line, operand)
 }
 
 // The end of the input: a request that lacks operand lines is refused, and a read that failed is told.
-pub(crate) fn finish(rt: &(impl Print + Eprint), s: Session, failed: bool) {
-    if s.due > 0 {
-        respond(rt, Request::Invalid, b"", b"");
+pub(crate) fn finish(rt: &(impl Print + Eprint), pending: Option<Pending>, failed: bool) {
+    if pending.is_some() {
+        respond(rt, None, b"", b"");
     }
     if failed {
         let _ = rt.eprintln("mac_cmd: can't read the standard input");

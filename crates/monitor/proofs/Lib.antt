@@ -1,4 +1,3 @@
-pub mod NumbersLaws
 pub mod ValidLaws
 pub mod NeedsLaws
 pub mod MonitorLaws

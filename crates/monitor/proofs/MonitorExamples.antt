@@ -1,7 +1,7 @@
 -- The rules of document 01's "The monitor", with requests 2026-01 and 2026-03, on examples, by computation.
 use mathlib.Core.Bool.{Bool, true, false}
 use mathlib.Core.List.{List, [], ◌∷◌, map}
-use mathlib.Core.Option.{none}
+use Rattle.std.specs.Prelude.{None}
 use mathlib.Core.Path.{◌≡◌, refl}
 use Prim.Native.Nat.{ℕ}
 use Rattle.common.specs.Answer.{Answer, granted, refused}
@@ -86,7 +86,7 @@ abbrev relabelling : Privileges
 relabelling = with false false true
 
 abbrev refusal : ℕ → Answer ℕ
-refusal n = refused n none
+refusal n = refused n None
 
 -- requests and what is answered to each
 abbrev examples : List (Request × Answer ℕ)

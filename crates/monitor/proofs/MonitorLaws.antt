@@ -2,10 +2,11 @@
 use mathlib.Core.Bool.{Bool, true, false, not, ◌&&◌, ◌||◌, and-true, true≢false}
 use mathlib.Core.List.{List, [], ◌∷◌}
 use mathlib.Core.Logic.{◌⊎◌, inl, inr}
-use mathlib.Core.Option.{none}
+use Rattle.std.specs.Prelude.{None}
 use mathlib.Core.Path.{◌≡◌, refl, sym, ap, ap₂, ◌∙◌}
 use Prim.Native.Nat.{ℕ}
-use borrow.Author.Tests.{not-true}
+use native.Mathlib.Omega.{arith}
+use Rattle.std.proofs.lemmas.Grind.{common_steps}
 use Rattle.common.specs.Answer.{Answer, granted, refused, require}
 use Rattle.label.specs.Caller.{caller_valid, sees_of}
 use Rattle.label.specs.Label.{dominates_of}
@@ -13,14 +14,12 @@ use Rattle.label.specs.declared.Label.{Label}
 use Rattle.label.specs.declared.caller.Caller.{Caller}
 use Rattle.range.specs.Tuple
 use Rattle.range.specs.declared.tuple.Tuple.{Tuple}
-use Rattle.common.proofs.AnswerLaws.{grant_passed, grants_same, passed, stopped}
+use Rattle.common.proofs.AnswerLaws.{passed, stopped}
 use Rattle.label.proofs.LabelLaws.{dominates_refl}
-use Rattle.label.proofs.CallerLaws.{sees_all, sees_dominated, sees_still, with_override}
-use Rattle.common.proofs.BoolLaws.{both, either, first_true, not_so, or_first, or_second, same_truth, second_true}
-use Rattle.monitor.specs.Monitor.{Row, some_row, applies, asks, attribute_valid, caller_sees, credentials_valid, decision_for, decide_by, denied, grant_by, implies, intent_get, intent_set, intents_by, is_file, kind_valid, met_of, object_valid, override_of, table, unmet, valid_of}
+use Rattle.label.proofs.CallerLaws.{with_override}
+use Rattle.common.proofs.BoolLaws.{either, first_true, not_so, or_first, or_second, same_truth, second_true}
+use Rattle.monitor.specs.Monitor.{Access, Modify, Observe, Row, applies, asks, attribute_valid, caller_sees, credentials_valid, decide_by, decision_for, denied, grant_by, implies, intent_get, intent_set, intents_by, is_file, kind_valid, met_of, object_valid, override_of, some_row, table, unmet, valid_of}
 use Rattle.monitor.specs.Internal.Needs.{answer_by, needed_of}
-use Rattle.monitor.specs.declared.Access.{Access}
-use Rattle.monitor.specs.declared.Access.TheVariants.{Observe, Modify}
 use Rattle.monitor.specs.declared.Credentials.{Credentials}
 use Rattle.monitor.specs.declared.FileKind.{FileKind}
 use Rattle.monitor.specs.declared.Object.{Object}
@@ -129,20 +128,12 @@ pub record Granted (r : Request) (n : ℕ) : Type 0 where
 pub granted_parts : (r : Request) (n : ℕ) → decision_for r ≡ granted n → Granted r n
 unfolding decide_by intents_by
 granted_parts r n e =
-    let d = some_row (denied r) table in
-    let s = asks r.intents intent_set && not r.credentials.privileges.relabel in
-    let third = require (not s) 1 (granted (grant_by table r)) in
-    let second = require (not d) 13 third in
-    let v = grant_passed (valid_of r) 22 n (require (caller_sees r) 13 second) (sym e) in
-    let a = grant_passed (caller_sees r) 13 n second v.1 in
-    let b = grant_passed (not d) 13 n third a.1 in
-    let c = grant_passed (not s) 1 n (granted (grant_by table r)) b.1 in
     record {
-      valid = v.0;
-      seen = a.0;
-      allowed = not-true d b.0;
-      relabel = not-true s c.0;
-      answer = grants_same n (grant_by table r) c.1;
+      valid = grind (arith, common_steps);
+      seen = grind (arith, common_steps);
+      allowed = grind (arith, common_steps);
+      relabel = grind (arith, common_steps);
+      answer = grind (arith, common_steps);
     }
 
 pub parts_granted : (r : Request) (n : ℕ) → Granted r n → decision_for r ≡ granted n
@@ -162,31 +153,18 @@ caller_dominates r =
     dominates_of r.caller.label r.credentials.label
     && implies r.object.present.label (dominates_of r.caller.label r.object.label)
 
-caller_dominates_lem : (r : Request) → r.caller.read_override ≡ false → caller_sees r ≡ caller_dominates r
-unfolding caller_sees
-caller_dominates_lem r e =
-    rw (sees_dominated r.caller r.credentials.label e, sees_dominated r.caller r.object.label e)
-
-caller_overrides : (r : Request) → r.caller.read_override ≡ true → caller_sees r ≡ true
-unfolding caller_sees
-caller_overrides r e =
-    both (sees_all r.caller r.credentials.label e) (or_second (not r.object.present.label) (sees_all r.caller r.object.label e))
-
 -- the override, or a label that dominates both
 pub caller_passes : (r : Request) → caller_sees r ≡ (r.caller.read_override || caller_dominates r)
-caller_passes r = by r.caller.read_override refl
-  where
-    by : (o : Bool) → r.caller.read_override ≡ o → caller_sees r ≡ (r.caller.read_override || caller_dominates r)
-    by true e = caller_overrides r e ∙ sym (or_first (caller_dominates r) e)
-    by false e = caller_dominates_lem r e ∙ rw e
+unfolding caller_sees sees_of
+caller_passes r = grind (arith, common_steps)
+
+caller_dominates_lem : (r : Request) → r.caller.read_override ≡ false → caller_sees r ≡ caller_dominates r
+caller_dominates_lem r e = caller_passes r ∙ rw e
 
 -- ---- what a grant says of each row
 
 met_alone : (a m o : Bool) → (a && not (m || o)) ≡ false → o ≡ false → a ≡ true → m ≡ true
-met_alone true true o e f h = refl
-met_alone true false true e f h = sym f
-met_alone true false false e f h = sym e
-met_alone false m o e f h = absurd (true≢false (sym h))
+met_alone a m o e f h = grind (arith, common_steps)
 
 -- the test of a row that is asked for is met where the subject lacks its override
 pub granted_met : (r : Request) (n : ℕ) (x : Row) → In x table → decision_for r ≡ granted n → applies r x ≡ true
@@ -250,31 +228,16 @@ override_among Observe p q h e = h.read e
 override_among Modify p q h e = h.write e
 
 denied_still : (a m o o' : Bool) → (o ≡ true → o' ≡ true) → (a && not (m || o')) ≡ true → (a && not (m || o)) ≡ true
-denied_still true true o o' h e = e
-denied_still true false false o' h e = refl
-denied_still true false true true h e = e
-denied_still true false true false h e = h refl
-denied_still false m o o' h e = e
+denied_still a m o o' h e = grind (arith, common_steps)
 
 relabel_still : (s p q : Bool) → (p ≡ true → q ≡ true) → (s && not p) ≡ false → (s && not q) ≡ false
-relabel_still true true q h e = ap not (h refl)
-relabel_still true false q h e = absurd (true≢false e)
-relabel_still false p q h e = refl
-
-implies_still : (p q s : Bool) → (q ≡ true → s ≡ true) → implies p q ≡ true → implies p s ≡ true
-implies_still true q s h e = h e
-implies_still false q s h e = refl
+relabel_still s p q h e = grind (arith, common_steps)
 
 -- a caller that sees what it asks about sees it where it gains the override
 caller_still : (r : Request) (o : Bool) → (r.caller.read_override ≡ true → o ≡ true) → caller_sees r ≡ true
     → caller_sees (with_caller r (with_override r.caller o)) ≡ true
-unfolding caller_sees
-caller_still r o k e =
-    let c = r.caller in
-    let subject = sees_of c r.credentials.label in
-    both
-    (sees_still c o r.credentials.label k (first_true subject _ e))
-    (implies_still r.object.present.label _ _ (sees_still c o r.object.label k) (second_true subject _ e))
+unfolding caller_sees sees_of
+caller_still r o k e = grind (arith, common_steps)
 
 -- with other privileges of the subject, and with the read override of the caller or without
 abbrev pub with_gained : Request → Privileges → Bool → Request
@@ -346,14 +309,14 @@ attribute_unasked r a b e = same_decision _ _ (rw e) refl refl refl
 -- ---- the caller
 
 -- an invalid one is refused with 22, with the override too, whatever it asks
-pub invalid_caller : (r : Request) → caller_valid r.caller ≡ false → decision_for r ≡ refused 22 none
+pub invalid_caller : (r : Request) → caller_valid r.caller ≡ false → decision_for r ≡ refused 22 None
 invalid_caller r e =
     decide_needed r ∙ stopped (valid_of r) 22 _ (not_so (valid_of r) (λ h. true≢false (sym (valid_parts r h).caller ∙ e)))
 
 -- one that does not see what it asks about is refused with 13, whatever privileges the subject has and whatever it intends
 pub caller_denied : (r : Request) (p : Privileges) (intents attribute : ℕ) → caller_sees r ≡ false
     → valid_of (with_intents (with_privileges r p) intents attribute) ≡ true
-    → decision_for (with_intents (with_privileges r p) intents attribute) ≡ refused 13 none
+    → decision_for (with_intents (with_privileges r p) intents attribute) ≡ refused 13 None
 unfolding decide_by caller_sees
 caller_denied r p intents attribute e v = passed _ 22 _ v ∙ stopped _ 13 _ e
 

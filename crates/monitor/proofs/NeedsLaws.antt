@@ -1,14 +1,12 @@
 -- What is decided by the privileges that a request needs is what is decided by the table of intents.
-use mathlib.Core.Bool.{Bool, true, false, cond, not, ◌&&◌, ◌||◌, and-true, and-false, or_assoc, or-false}
+use mathlib.Core.Bool.{Bool, true, false, not, ◌&&◌, ◌||◌, and-true, and-false, or_assoc, or-false}
 use mathlib.Core.List.{List, [], ◌∷◌}
-use mathlib.Core.Option.{none}
 use mathlib.Core.Path.{◌≡◌, refl, ap, ap₂, ◌∙◌}
-use Rattle.common.specs.Answer.{granted, refused, require}
-use Rattle.monitor.specs.Monitor.{Row, some_row, applies, caller_sees, decision_for, decide_by, denied, grant_by, intents_by, met_of, override_of, table, unmet, valid_of}
+use native.Mathlib.Omega.{arith}
+use Rattle.std.proofs.lemmas.Grind.{common_steps}
+use Rattle.common.specs.Answer.{require}
+use Rattle.monitor.specs.Monitor.{Access, Modify, Observe, Row, applies, caller_sees, decide_by, decision_for, denied, grant_by, intents_by, met_of, override_of, some_row, table, unmet, valid_of}
 use Rattle.monitor.specs.Internal.Needs.{answer_by, modifies_of, needed_of, observes_of}
-use Rattle.monitor.specs.declared.Access.{Access}
-use Rattle.monitor.specs.declared.Access.TheVariants.{Observe, Modify}
-use Rattle.monitor.specs.declared.Privileges.{Privileges}
 use Rattle.monitor.specs.declared.Request.{Request}
 
 -- ---- rows by their access
@@ -28,24 +26,11 @@ any_observing asked xs = some_row (λ x. asked x && observing x.access) xs
 abbrev any_modifying : (Row → Bool) → List Row → Bool
 any_modifying asked xs = some_row (λ x. asked x && modifying x.access) xs
 
-observe_first : (t o m : Bool) → (t || (o && t || m)) ≡ (t || m)
-observe_first true o m = refl
-observe_first false true m = refl
-observe_first false false m = refl
-
-modify_first : (t o m : Bool) → (t || (o || m && t)) ≡ (o || t)
-modify_first true true m = refl
-modify_first true false m = refl
-modify_first false true m = refl
-modify_first false false true = refl
-modify_first false false false = refl
-
 one_row : (test : Access → Bool) (p : Bool) (a : Access) (o m : Bool) →
     (p && test a || (o && test Observe || m && test Modify))
     ≡ ((p && observing a || o) && test Observe || (p && modifying a || m) && test Modify)
-one_row test false a o m = refl
-one_row test true Observe o m = observe_first (test Observe) o (m && test Modify)
-one_row test true Modify o m = modify_first (test Modify) (o && test Observe) m
+one_row test p Observe o m = grind (arith, common_steps)
+one_row test p Modify o m = grind (arith, common_steps)
 
 -- a test that goes by the access holds of some row that is asked for, if it holds of an access that such a row has
 by_access : (asked : Row → Bool) (test : Access → Bool) (xs : List Row) →
@@ -76,9 +61,7 @@ table_by_access r test =
 -- ---- the privileges that are needed
 
 neither : (o m p : Bool) → (o && not (m || p)) ≡ (o && not m && not p)
-neither true true p = refl
-neither true false p = refl
-neither false m p = refl
+neither o m p = grind (arith, common_steps)
 
 unmet_needed : (r : Request) → some_row (unmet r) table ≡ ((needed_of r).read || (needed_of r).write)
 unfolding needed_of
@@ -104,24 +87,3 @@ pub decide_needed : (r : Request) →
     decision_for r ≡ require (valid_of r) 22 (require (caller_sees r) 13 (answer_by (needed_of r) r.credentials.privileges))
 unfolding decide_by
 decide_needed r = rw (intents_needed r)
-
--- ---- what is answered to a valid request, case by case
-
-module _ (n p : Privileges) where
-  abbrev Denied : Bool
-  Denied = n.read && not p.read || n.write && not p.write
-
-  abbrev NoRelabel : Bool
-  NoRelabel = n.relabel && not p.relabel
-
-  pub answer_denied : Denied ≡ true → answer_by n p ≡ refused 13 none
-  unfolding answer_by
-  answer_denied d = rw d
-
-  pub answer_no_relabel : Denied ≡ false → NoRelabel ≡ true → answer_by n p ≡ refused 1 none
-  unfolding answer_by
-  answer_no_relabel d u = rw (d, u)
-
-  pub answer_granted : Denied ≡ false → NoRelabel ≡ false → answer_by n p ≡ granted (cond (n.read || n.write || n.relabel) 1 0)
-  unfolding answer_by
-  answer_granted d u = rw (d, u)

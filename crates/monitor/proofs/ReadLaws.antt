@@ -1,8 +1,10 @@
 -- What is answered to a read, which is a write too where it takes away what it reads.
-use mathlib.Core.Bool.{Bool, true, false, cond, not, ◌&&◌, ◌||◌, or-false, true≢false}
+use mathlib.Core.Bool.{Bool, true, false, cond, not, ◌&&◌, ◌||◌, or-false}
 use mathlib.Core.Logic.{inl, inr}
 use mathlib.Core.Path.{◌≡◌, refl, sym, ap, ◌∙◌}
 use Prim.Native.Nat.{ℕ}
+use native.Mathlib.Omega.{arith}
+use Rattle.std.proofs.lemmas.Grind.{common_steps}
 use Rattle.common.specs.Answer.{granted, require}
 use Rattle.label.specs.Label.{equal_of}
 use Rattle.label.specs.Words.{bit}
@@ -10,10 +12,8 @@ use Rattle.label.specs.declared.Label.{Label}
 use Rattle.common.proofs.AnswerLaws.{passed}
 use Rattle.common.proofs.BoolLaws.{both}
 use Rattle.label.proofs.LabelLaws.{equal_dominates}
-use Rattle.monitor.specs.Monitor.{asks, caller_sees, decision_for, destructive_read, intent_read, is_file, kind_valid, met_of, object_valid, row, table, under_label, under_tuple, valid_of}
+use Rattle.monitor.specs.Monitor.{Access, Modify, Observe, asks, caller_sees, decision_for, destructive_read, intent_read, is_file, kind_valid, met_of, object_valid, row, table, under_label, under_tuple, valid_of}
 use Rattle.monitor.specs.Internal.Needs.{answer_by, modifies_of, needed_of, observes_of}
-use Rattle.monitor.specs.declared.Access.{Access}
-use Rattle.monitor.specs.declared.Access.TheVariants.{Observe, Modify}
 use Rattle.monitor.specs.declared.Object.{Object}
 use Rattle.monitor.specs.declared.ObjectClass.{ObjectClass}
 use Rattle.monitor.specs.declared.ObjectClass.TheVariants.{Fifo, MessageQueue}
@@ -60,14 +60,8 @@ may_modify r = met_of r.credentials.label r.object Modify
 
 -- who may modify may observe
 pub modify_observe : (r : Request) → may_modify r ≡ true → may_observe r ≡ true
-modify_observe r m = by r.object.present.label refl
-  where
-    by : (there : Bool) → r.object.present.label ≡ there → may_observe r ≡ true
-    by true e =
-        met_under_label r.credentials.label r.object Observe e
-        ∙ equal_dominates r.credentials.label r.object.label (sym (met_under_label r.credentials.label r.object Modify e) ∙ m)
-    by false e =
-        met_under_tuple r.credentials.label r.object Observe e ∙ sym (met_under_tuple r.credentials.label r.object Modify e) ∙ m
+unfolding met_of
+modify_observe r m = grind (arith, common_steps, equal_dominates)
 
 -- ---- a read that takes away what it reads, with whatever else is asked
 
@@ -107,9 +101,7 @@ read_needed r d a f =
 observe_cases : (o read : Bool) →
     require {A = ℕ} (not (not o && not read || false)) 13 (granted (cond (not o || false || false) 1 0))
     ≡ require (o || read) 13 (granted (cond o 0 1))
-observe_cases true read = refl
-observe_cases false true = refl
-observe_cases false false = refl
+observe_cases o read = grind (arith, common_steps)
 
 -- where it takes nothing away, the subject may observe, or has the read override, by which the answer is 1
 pub read_answer : (r : Request) → ReadAlone r → destructive_read r.object.class ≡ false
@@ -120,14 +112,7 @@ read_answer r a f = read_needed r false a f ∙ observe_cases (may_observe r) r.
 modify_cases : (o m read write : Bool) → (m ≡ true → o ≡ true) →
     require {A = ℕ} (not (not o && not read || not m && not write)) 13 (granted (cond (not o || not m || false) 1 0))
     ≡ require (m || write && (o || read)) 13 (granted (cond m 0 1))
-modify_cases true true read write h = refl
-modify_cases false true read write h = absurd (true≢false (sym (h refl)))
-modify_cases true false read true h = refl
-modify_cases true false read false h = refl
-modify_cases false false true true h = refl
-modify_cases false false true false h = refl
-modify_cases false false false true h = refl
-modify_cases false false false false h = refl
+modify_cases o m read write h = grind (arith, common_steps)
 
 -- where it takes away what it reads, the subject may modify; or it has the write override, and may observe or has the read override too, by which
 -- the answer is 1

@@ -1,19 +1,19 @@
 -- What a valid request has.
-use mathlib.Core.Bool.{Bool, true, false, ◌&&◌, true≢false}
-use mathlib.Core.Path.{◌≡◌, refl, sym, ◌∙◌}
-use Rattle.common.specs.Answer.{Answer, granted, require, test_of}
+use mathlib.Core.Bool.{Bool, true, ◌&&◌}
+use mathlib.Core.Path.{◌≡◌, ◌∙◌}
+use Rattle.std.specs.Prelude.{Result}
+use native.Mathlib.Omega.{arith}
+use Rattle.std.proofs.lemmas.Grind.{common_steps}
+use Rattle.common.specs.Answer.{answer_of, granted, require}
+use Rattle.common.specs.declared.errno.Errno.{Errno}
 use Rattle.label.specs.Caller.{caller_valid}
 use Rattle.label.specs.Label
-use Rattle.label.specs.declared.Label.{Label}
-use Rattle.common.specs.declared.answer.Test.{Test}
 use Rattle.range.specs.Range
-use Rattle.range.specs.Tuple
 use Rattle.common.proofs.AnswerLaws.{read_by, test_read}
-use Rattle.common.proofs.BoolLaws.{and_implied, both, first_true, not_so, second_true, three_true}
+use Rattle.common.proofs.BoolLaws.{and_implied, first_true, second_true}
 use Rattle.range.proofs.RangeLaws.{contains_valid}
-use Rattle.monitor.specs.Monitor.{attribute_valid, credentials_valid, implies, intents_valid, kind_valid, label_or_tuple, label_valid, object_valid, tuple_valid, valid_of}
+use Rattle.monitor.specs.Monitor.{attribute_valid, credentials_valid, intents_valid, kind_valid, object_valid, valid_of}
 use Rattle.monitor.specs.declared.Credentials.{Credentials}
-use Rattle.monitor.specs.declared.Object.{Object}
 use Rattle.monitor.specs.declared.Request.{Request}
 
 pub record Valid (r : Request) : Type 0 where
@@ -27,22 +27,13 @@ pub record Valid (r : Request) : Type 0 where
 pub valid_parts : (r : Request) → valid_of r ≡ true → Valid r
 unfolding valid_of
 valid_parts r e =
-    let i = intents_valid r.intents in
-    let c = credentials_valid r.credentials in
-    let o = object_valid r.object in
-    let k = kind_valid r.intents r.object.class r.object.kind in
-    let a = attribute_valid r.intents r.attribute in
-    let j = first_true (i && c && o && k && a) _ e in
-    let h = first_true (i && c && o && k) a j in
-    let g = first_true (i && c && o) k h in
-    let f = three_true i c o g in
     record {
-      intents = f.0;
-      credentials = f.1;
-      object = f.2;
-      kind = second_true (i && c && o) k h;
-      attribute = second_true (i && c && o && k) a j;
-      caller = second_true (i && c && o && k && a) _ e;
+      intents = grind (arith, common_steps);
+      credentials = grind (arith, common_steps);
+      object = grind (arith, common_steps);
+      kind = grind (arith, common_steps);
+      attribute = grind (arith, common_steps);
+      caller = grind (arith, common_steps);
     }
 
 -- a label inside a valid range is valid
@@ -53,43 +44,10 @@ subject_valid c e =
     contains_valid c.range c.label (first_true v _ e) (second_true v _ e)
 
 -- so that what `range::contains` answers, which tests the label too, tells of the credentials
-pub credentials_read : (c : Credentials) {u v : Test} → u ≡ v
-    → test_of u ≡ require (Range.valid_of c.range && Label.valid_of c.label) 22 (granted (Range.contains_of c.range c.label))
-    → read_by (λ b. b) (test_of v) ≡ credentials_valid c
+pub credentials_read : (c : Credentials) {u v : Result Bool Errno} → u ≡ v
+    → answer_of u ≡ require (Range.valid_of c.range && Label.valid_of c.label) 22 (granted (Range.contains_of c.range c.label))
+    → read_by (λ b. b) (answer_of v) ≡ credentials_valid c
 unfolding credentials_valid
 credentials_read c e h =
     test_read (λ b. b) (Range.valid_of c.range && Label.valid_of c.label) (Range.contains_of c.range c.label) 22 e h
     ∙ and_implied _ _ _ (contains_valid c.range c.label)
-
-pub tuple_valid_lem : (o : Object) → object_valid o ≡ true → tuple_valid o ≡ true
-unfolding object_valid
-tuple_valid_lem o e = (three_true (label_or_tuple o) (label_valid o) _ e).2
-
-implies_both : (p q s : Bool) → implies p q ≡ true → s ≡ true → implies p (q && s) ≡ true
-implies_both true q s e f = both e f
-implies_both false q s e f = refl
-
-pub implies_first : (p q s : Bool) → implies p (q && s) ≡ true → implies p q ≡ true
-implies_first true q s e = first_true q s e
-implies_first false q s e = refl
-
--- ---- the object's tuple, which is tested together with the subject's label
-
--- what is tested of the two
-abbrev pub tested : Label → Object → Bool
-tested subject o = implies o.present.tuple (Tuple.valid_of o.tuple && Label.valid_of subject)
-
--- where the tuple is there, what a call answers that tests v and tells k; where it is not, no
-pub tested_there : (there v k : Bool) (a : Answer Bool) → there ≡ true → a ≡ require v 22 (granted k)
-    → a ≡ require (implies there v) 22 (granted (there && k))
-tested_there there v k a e h = rw e h
-
-pub tested_absent : (there v k : Bool) → there ≡ false → granted false ≡ require (implies there v) 22 (granted (there && k))
-tested_absent there v k e = rw e
-
--- a request whose tuple is there is invalid, if the tuple or the subject's label is
-pub tuple_refused : (r : Request) → tested r.credentials.label r.object ≡ false → valid_of r ≡ false
-tuple_refused r e =
-    not_so (valid_of r) (λ h.
-    let v = valid_parts r h in
-    true≢false (sym (implies_both r.object.present.tuple _ _ (tuple_valid_lem r.object v.object) (subject_valid r.credentials v.credentials)) ∙ e))

@@ -1,19 +1,18 @@
 -- Document 01, "The monitor", with document 02's requests 2026-01, who may ask it, and 2026-03, receiving a message.
-use Rattle.std.specs.Prelude.{Bool, true, false, cond, not, ◌&&◌, ◌||◌, List, [], ◌∷◌, ℕ, eqb, leb, ltb}
-use Rattle.common.specs.Answer.{Answer, granted, refused_by, require}
+use Rattle.std.specs.Prelude.{Bool, true, false, cond, not, ◌&&◌, ◌||◌, List, [], ◌∷◌, ℕ, eqb, leb, ltb, Result}
+use Rattle.common.specs.Answer.{Answer, answer_by, granted, require}
+use Rattle.common.specs.declared.errno.Errno.{Errno}
 use Rattle.label.specs.Caller.{caller_valid, sees_of}
 use Rattle.label.specs.Label
 use Rattle.label.specs.Words.{bit}
 use Rattle.label.specs.declared.Label.{Label}
 use Rattle.range.specs.Range
 use Rattle.range.specs.Tuple
-use Rattle.monitor.specs.declared.Access.{Access}
-use Rattle.monitor.specs.declared.Access.TheVariants.{Observe, Modify}
 use Rattle.monitor.specs.declared.Credentials.{Credentials}
-use Rattle.monitor.specs.declared.Decision.{Decision}
-use Rattle.monitor.specs.declared.Decision.TheVariants.{Granted, Privileged, Refused}
 use Rattle.monitor.specs.declared.FileKind.{FileKind}
 use Rattle.monitor.specs.declared.FileKind.TheVariants.{Regular, Directory, Other}
+use Rattle.monitor.specs.declared.Grant.{Grant}
+use Rattle.monitor.specs.declared.Grant.TheVariants.{Plain, Privileged}
 use Rattle.monitor.specs.declared.Object.{Object}
 use Rattle.monitor.specs.declared.ObjectClass.{ObjectClass}
 use Rattle.monitor.specs.declared.ObjectClass.TheVariants.{File, Fifo, Process, MessageQueue, SharedMemory, Semaphore}
@@ -118,7 +117,12 @@ caller_sees r =
 
 -- ---- the second step: the table of intents
 
--- an intent observes the object or modifies it: what that needs under a label
+-- an intent observes the object or modifies it
+pub data Access : Type 0 where
+  Observe : Access
+  Modify : Access
+
+-- what either needs under a label
 abbrev pub under_label : Access → Label → Label → Bool
 under_label Observe subject object = Label.dominates_of subject object
 under_label Modify subject object = Label.equal_of subject object
@@ -205,8 +209,11 @@ decide_by rows r = require (valid_of r) 22 (require (caller_sees r) 13 (intents_
 abbrev pub decision_for : Request → Answer ℕ
 decision_for r = decide_by table r
 
--- what the enum Decision says
-abbrev pub decision_of : Decision → Answer ℕ
-decision_of Granted = granted 0
-decision_of Privileged = granted 1
-decision_of (Refused e) = refused_by e
+-- a grant's number: 0 where no privilege was needed, else 1
+abbrev pub grant_number : Grant → ℕ
+grant_number Plain = 0
+grant_number Privileged = 1
+
+-- what the code's decision says
+abbrev pub decision_of : Result Grant Errno → Answer ℕ
+decision_of = answer_by grant_number

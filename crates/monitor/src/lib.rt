@@ -4,17 +4,13 @@
 
 mod intent;
 pub mod numbers;
-mod tested;
 
-ghost use Rattle.std.specs.Prelude.{◌≡◌, true, ◌&&◌};
-ghost use Rattle.common.specs.Answer.{granted, require, test_of};
-ghost use Rattle.label.specs.Label as labels;
-ghost use Rattle.range.specs.Tuple as tuples;
-ghost use Rattle.monitor.specs.Monitor.{caller_sees, credentials_valid, decision_for, decision_of, implies, met_of, object_valid, tuple_valid, under_label, under_tuple, valid_of};
-ghost use Rattle.monitor.specs.Internal.Needs.{answer_by, needed_of};
+ghost use Rattle.std.specs.Prelude.{◌≡◌};
+ghost use Rattle.monitor.specs.Monitor.{caller_sees, credentials_valid, decision_for, decision_of, object_valid, valid_of};
+ghost use Rattle.monitor.specs.Internal.Needs.{answer_by, needed_of, tests_of};
 
-use common::answer::Test;
 use common::errno::Errno;
+use intent::{Intent, Intents};
 use label::Label;
 use label::caller::Caller;
 use range::tuple::Tuple;
@@ -37,7 +33,7 @@ pub struct Credentials {
 }
 
 // Document 01's type of an object.
-#[derive(Clone, Copy)]
+#[derive(Clone, Copy, PartialEq, Eq)]
 pub enum ObjectClass {
     File,
     Fifo,
@@ -47,14 +43,15 @@ pub enum ObjectClass {
     Semaphore,
 }
 
-#[derive(Clone, Copy)]
+#[derive(Clone, Copy, PartialEq, Eq)]
 pub enum FileKind {
     Regular,
     Directory,
     Other,
 }
 
-// Which of an object's label and tuple are there. What one that is not there holds is not looked at.
+// Which of an object's label and tuple are there. What one that is not there holds is not looked at: the theorems `absent_label` and `absent_tuple` say
+// so of any two, and with `Option` they could not be stated.
 #[derive(Clone, Copy)]
 pub struct Presence {
     pub label: bool,
@@ -70,7 +67,8 @@ pub struct Object {
     pub tuple: Tuple,
 }
 
-// What the monitor is asked. Intents and attribute type are numbers of any size. The caller is who asks, be it the subject itself or another.
+// What the monitor is asked. Intents and attribute type are numbers of any size, and `decision_for` says what is answered to each. The caller is who
+// asks, be it the subject itself or another.
 #[derive(Clone, Copy)]
 pub struct Request {
     pub credentials: Credentials,
@@ -80,161 +78,126 @@ pub struct Request {
     pub caller: Caller,
 }
 
-// A grant for which no privilege was needed, a grant for which one was, or a refusal.
-#[derive(Clone, Copy)]
-pub enum Decision {
-    Granted,
+// Of a grant, whether a privilege was needed for it.
+#[derive(Clone, Copy, PartialEq, Eq)]
+pub enum Grant {
+    Plain,
     Privileged,
-    Refused(Errno),
 }
 
-// What an intent does to the object.
+// Which tests a subject's label meets: the one to observe an object, and the one to modify it.
 #[derive(Clone, Copy)]
-enum Access {
-    Observe,
-    Modify,
+struct Met {
+    observe: bool,
+    modify: bool,
 }
 
-// Whether the subject's label is inside its range, which is valid.
-fn credentials_valid(c: Credentials) -> bool
-    ensures { result ≡ credentials_valid c }
-{
-    let t = range::contains(c.range, c.label);
-    match t {
-        Test::Holds(b) => b,
-        Test::Refused(_) => false,
+impl Credentials {
+    // Whether the label is inside the range, which is valid.
+    #[tactic(auto, unfolding(crate::specs::Monitor::credentials_valid))]
+    fn valid(&self) -> bool
+        ensures { result ≡ credentials_valid self.now }
+    {
+        range::valid(self.range) & self.range.holds(&self.label)
     }
 }
 
-// What `tuple::contains` answers. The compiler inlines this one, and so reads the tuple where the caller has it; for a call of `tuple::contains` it
-// copies the tuple twice, and once even where an object has none.
-fn in_tuple(t: Tuple, l: Label) -> Test
-    ensures { test_of result ≡ require (tuples.valid_of t && labels.valid_of l) 22 (granted (tuples.contains_of t l)) }
-{
-    if tuple::valid(t) & label::valid(l) {
-        return Test::Holds(tested::contains(t, l));
+impl Object {
+    // Whether there is a label or a tuple, and each that is there is valid. The test of a tuple takes longest, and is left out where there is none.
+    #[tactic(auto, unfolding(crate::specs::Monitor::object_valid))]
+    fn valid(&self) -> bool
+        ensures { result ≡ object_valid self.now }
+    {
+        (self.present.label | self.present.tuple)
+            & (!self.present.label | label::valid(self.label))
+            & (!self.present.tuple || tuple::valid(self.tuple))
     }
-    Test::Refused(Errno::Invalid)
-}
 
-// Whether the object's tuple is there and contains the subject's label. Where it is there and one of the two is invalid, that is refused.
-fn contained(subject: Label, o: Object) -> Test
-    ensures { test_of result ≡ require (implies o.present.tuple (tuples.valid_of o.tuple && labels.valid_of subject)) 22 (granted (under_tuple subject o)) }
-{
-    if o.present.tuple {
-        return in_tuple(o.tuple, subject);
-    }
-    Test::Holds(false)
-}
-
-// Whether the object has a label or a tuple, and its label, where it is there, is valid.
-fn object_valid(o: Object) -> bool
-    requires { tuple_valid o ≡ true }
-    ensures { result ≡ object_valid o }
-{
-    (o.present.label | o.present.tuple) & (!o.present.label | label::valid(o.label))
-}
-
-// Whether what is asked can be decided: document 01's first step.
-fn valid(r: Request) -> bool
-    requires { tuple_valid r.object ≡ true }
-    ensures { result ≡ valid_of r }
-{
-    let o = r.object;
-    let class = o.class;
-    let kind = o.kind;
-    intent::valid(r.intents)
-        & credentials_valid(r.credentials)
-        & object_valid(o)
-        & intent::kind_valid(r.intents, class, kind)
-        & intent::attribute_valid(r.intents, r.attribute)
-        & label::valid(r.caller.label)
-}
-
-// Whether the caller may ask: it sees the subject's label, and the object's where there is one.
-fn caller_sees(r: Request) -> bool
-    ensures { result ≡ caller_sees r }
-{
-    let c = r.caller;
-    let subject = r.credentials;
-    let o = r.object;
-    tested::sees(c, subject.label) & (!o.present.label | tested::sees(c, o.label))
-}
-
-// Whether the test of an access is met under a label.
-fn under_label(a: Access, subject: Label, object: Label) -> bool
-    ensures { result ≡ under_label a subject object }
-{
-    match a {
-        Access::Observe => tested::dominates(subject, object),
-        Access::Modify => tested::equal(subject, object),
+    // The tests that a subject's label meets. A label governs where both are there; under a tuple alone both tests are whether it contains the label.
+    #[tactic(auto, unfolding(crate::specs::Monitor::met_of))]
+    fn met(&self, subject: &Label) -> Met
+        ensures { result ≡ tests_of subject.now self.now }
+    {
+        if self.present.label {
+            return Met {
+                observe: subject.dominates(&self.label),
+                modify: subject.equals(&self.label),
+            };
+        }
+        let inside = self.present.tuple & self.tuple.holds(subject);
+        Met {
+            observe: inside,
+            modify: inside,
+        }
     }
 }
 
-// Whether the test of an access is met, given whether the object's tuple is there and contains the subject's label.
-fn met(subject: Label, o: Object, a: Access, inside: bool) -> bool
-    requires { inside ≡ under_tuple subject o }
-    ensures { result ≡ met_of subject o a }
-{
-    if o.present.label {
-        return under_label(a, subject, o.label);
+impl Request {
+    // Whether what is asked can be decided: document 01's first step.
+    #[tactic(auto, unfolding(crate::specs::Monitor::valid_of))]
+    fn valid(&self) -> bool
+        ensures { result ≡ valid_of self.now }
+    {
+        let intents = Intents(self.intents);
+        intents.valid()
+            & self.credentials.valid()
+            & self.object.valid()
+            & intents.kind_valid(self.object.class, self.object.kind)
+            & intents.attribute_valid(self.attribute)
+            & label::valid(self.caller.label)
     }
-    inside
-}
 
-// The privileges that a request needs: an override where a test is not met, and relabel to set an attribute.
-fn needed(r: Request, inside: bool) -> Privileges
-    requires { inside ≡ under_tuple r.credentials.label r.object }
-    ensures { result ≡ needed_of r }
-{
-    let subject = r.credentials.label;
-    let o = r.object;
-    let class = o.class;
-    Privileges {
-        read: intent::observes(r.intents) & !met(subject, o, Access::Observe, inside),
-        write: intent::modifies(r.intents, class) & !met(subject, o, Access::Modify, inside),
-        relabel: intent::asks(r.intents, intent::SET_ATTRIBUTE),
+    // Whether the caller may ask: it sees the subject's label, and the object's where there is one.
+    #[tactic(auto, unfolding(crate::specs::Monitor::caller_sees))]
+    fn caller_sees(&self) -> bool
+        ensures { result ≡ caller_sees self.now }
+    {
+        self.caller.sees(&self.credentials.label)
+            & (!self.object.present.label | self.caller.sees(&self.object.label))
+    }
+
+    // The privileges that are needed: an override where a test is not met, and relabel to set an attribute.
+    #[tactic(auto, unfolding(crate::specs::Internal::Needs::needed_of))]
+    fn needed(&self) -> Privileges
+        ensures { result ≡ needed_of self.now }
+    {
+        let intents = Intents(self.intents);
+        let met = self.object.met(&self.credentials.label);
+        Privileges {
+            read: intents.observe() & !met.observe,
+            write: intents.modify(self.object.class) & !met.modify,
+            relabel: intents.asks(Intent::SetAttribute),
+        }
     }
 }
 
 // What is answered where privileges are needed: document 01's second and third step, and the grants.
-fn answer(needed: Privileges, p: Privileges) -> Decision
+#[tactic(auto, unfolding(crate::specs::Internal::Needs::answer_by))]
+fn answer(needed: Privileges, p: Privileges) -> Result<Grant, Errno>
     ensures { decision_of result ≡ answer_by needed p }
 {
     if (needed.read & !p.read) | (needed.write & !p.write) {
-        return Decision::Refused(Errno::Access);
+        return Err(Errno::Access);
     }
     if needed.relabel & !p.relabel {
-        return Decision::Refused(Errno::Perm);
+        return Err(Errno::Perm);
     }
     if needed.read | needed.write | needed.relabel {
-        return Decision::Privileged;
+        return Ok(Grant::Privileged);
     }
-    Decision::Granted
-}
-
-// The decision where the object's tuple, if it is there, is valid.
-fn check_tested(r: Request, inside: bool) -> Decision
-    requires object_value { tuple_valid r.object ≡ true }
-    requires inside_value { inside ≡ under_tuple r.credentials.label r.object }
-    ensures { decision_of result ≡ decision_for r }
-{
-    if !valid(r) {
-        return Decision::Refused(Errno::Invalid);
-    }
-    if !caller_sees(r) {
-        return Decision::Refused(Errno::Access);
-    }
-    answer(needed(r, inside), r.credentials.privileges)
+    Ok(Grant::Plain)
 }
 
 // May the subject do that to the object.
-pub fn check(r: Request) -> Decision
+#[tactic(auto, using(crate::proofs::NeedsLaws::decide_needed))]
+pub fn check(r: Request) -> Result<Grant, Errno>
     ensures { decision_of result ≡ decision_for r }
 {
-    let t = contained(r.credentials.label, r.object);
-    match t {
-        Test::Holds(inside) => check_tested(r, inside),
-        Test::Refused(_) => Decision::Refused(Errno::Invalid),
+    if !r.valid() {
+        return Err(Errno::Invalid);
     }
+    if !r.caller_sees() {
+        return Err(Errno::Access);
+    }
+    answer(r.needed(), r.credentials.privileges)
 }

@@ -5,22 +5,13 @@ mod answer;
 mod request;
 mod session;
 
-use std::io::Read;
-
-// Answers the requests of the input, which is read into the chunk. The line at hand is in the second buffer.
-fn run(rt: &(impl Print + Eprint), reader: &mut impl Read, chunk: &mut [u8], line: &mut [u8]) {
-    let mut s = session::between();
-    let mut l = input::next(reader, input::start(), chunk, line);
-    while l.left > 0 {
-        s = session::take_line(rt, s, octets::front(line, l.length));
-        l = input::next(reader, l, chunk, line);
-    }
-    session::finish(rt, s, l.input.failed);
-}
-
 fn main(rt: HostRuntime) {
     let mut reader = rt.stdin();
     let mut chunk = [0u8; 4096];
     let mut line = [0u8; 512];
-    run(&rt, &mut reader, &mut chunk, &mut line);
+    let mut pending = None;
+    let failed = input::for_each_line(&mut reader, &mut chunk, &mut line, |line| {
+        pending = session::take_line(&rt, pending, line);
+    });
+    session::finish(&rt, pending, failed);
 }

@@ -1,143 +1,92 @@
 // A request as it is put together: the numbers of its command line, then one operand line after the other.
-use common::answer::granted;
-use console::command::MAX_NUMBERS;
-use label::Label;
+use common::errno::Errno;
 use label::caller::Caller;
 use monitor::{Credentials, Object, Presence, Request, numbers};
-use range::tuple::Tuple;
-use range::{Range, tuple};
+use range::tuple;
+
+// The operand lines, in their order.
+#[derive(Clone, Copy)]
+pub(crate) enum Operand {
+    SubjectLabel,
+    SubjectRange,
+    ObjectLabel,
+    ObjectTuple,
+    CallerLabel,
+}
+
+impl Operand {
+    // The operand line after it, if it is not the last.
+    pub(crate) fn next(self) -> Option<Operand> {
+        match self {
+            Operand::SubjectLabel => Some(Operand::SubjectRange),
+            Operand::SubjectRange => Some(Operand::ObjectLabel),
+            Operand::ObjectLabel => Some(Operand::ObjectTuple),
+            Operand::ObjectTuple => Some(Operand::CallerLabel),
+            Operand::CallerLabel => None,
+        }
+    }
+}
 
 // How many numbers a request has: privileges, class, kind, intents, attribute type, the caller's read override.
 pub(crate) const NUMBERS: usize = 6;
 
-// How many operand lines a request has: the subject's label and range, the object's label and tuple, the caller's label.
-pub(crate) const OPERANDS: usize = 5;
-
-// How many operand lines are still to come where each is due; the caller's label is the last.
-const SUBJECT_DUE: usize = 5;
-
-const RANGE_DUE: usize = 4;
-
-const LABEL_DUE: usize = 3;
-
-const TUPLE_DUE: usize = 2;
-
-// What is known of a request, and whether all of it is good so far.
-#[derive(Clone, Copy)]
-pub(crate) struct Draft {
-    pub good: bool,
-    pub numbers: [u64; MAX_NUMBERS],
-    pub subject: Label,
-    pub range: Range,
-    pub present: Presence,
-    pub label: Label,
-    pub tuple: Tuple,
-    pub caller: Label,
-}
-
-// A request with its numbers and no operand yet: privileges, class, a file's kind and override have to be some that there are.
-pub(crate) fn of_numbers(numbers: [u64; MAX_NUMBERS]) -> Draft {
-    let p = numbers::privileges_of(numbers[0]);
-    let t = numbers::type_of(numbers[1], numbers[2]);
-    Draft {
-        good: p.named & t.named & (numbers[5] <= 1),
-        numbers,
-        subject: label::zero(),
-        range: range::zero(),
-        present: Presence {
-            label: false,
-            tuple: false,
-        },
-        label: label::zero(),
-        tuple: tuple::empty(),
-        caller: label::zero(),
+// A request with its numbers and no operand yet, where privileges, class, a file's kind and override are some that there are.
+pub(crate) fn of_numbers(numbers: &[u64]) -> Result<Request, Errno> {
+    let [privileges, class, kind, intents, attribute, read_override] = numbers else {
+        return Err(Errno::Invalid);
+    };
+    let privileges = numbers::privileges_of(*privileges).ok_or(Errno::Invalid)?;
+    let named = numbers::type_of(*class, *kind).ok_or(Errno::Invalid)?;
+    if *read_override > 1 {
+        return Err(Errno::Invalid);
     }
-}
-
-fn with_range(mut d: Draft, line: &[u8]) -> Draft {
-    let read = hexline::read_range(line);
-    let outcome = read.outcome;
-    let x = read.range;
-    d.range = x;
-    d.good = d.good & granted(outcome);
-    d
-}
-
-// The label that is due: the subject's, the object's or the caller's.
-fn with_label(mut d: Draft, due: usize, line: &[u8]) -> Draft {
-    let read = hexline::read_label(line);
-    let outcome = read.outcome;
-    let l = read.label;
-    d.good = d.good & granted(outcome);
-    if due == SUBJECT_DUE {
-        d.subject = l;
-        return d;
-    }
-    if due == LABEL_DUE {
-        d.present.label = true;
-        d.label = l;
-        return d;
-    }
-    d.caller = l;
-    d
-}
-
-fn with_tuple(mut d: Draft, line: &[u8]) -> Draft {
-    let read = hexline::read_tuple(line);
-    let outcome = read.outcome;
-    let t = read.tuple;
-    d.present.tuple = true;
-    d.tuple = t;
-    d.good = d.good & granted(outcome);
-    d
-}
-
-// The draft with one more operand line, where `due` of them were still to come. The object's two may be left out: their line is then `-`.
-pub(crate) fn with_operand(d: Draft, due: usize, line: &[u8]) -> Draft {
-    if ((due == LABEL_DUE) | (due == TUPLE_DUE)) & octets::same(line, b"-\n") {
-        return d;
-    }
-    if due == RANGE_DUE {
-        return with_range(d, line);
-    }
-    if due == TUPLE_DUE {
-        return with_tuple(d, line);
-    }
-    with_label(d, due, line)
-}
-
-// The request, once all of it is there.
-pub(crate) fn of_draft(d: Draft) -> Request {
-    let numbers = d.numbers;
-    let present = d.present;
-    let subject = d.subject;
-    let range = d.range;
-    let label = d.label;
-    let tuple = d.tuple;
-    let caller = d.caller;
-    let p = numbers::privileges_of(numbers[0]);
-    let privileges = p.privileges;
-    let t = numbers::type_of(numbers[1], numbers[2]);
-    let class = t.class;
-    let kind = t.kind;
-    Request {
+    Ok(Request {
         credentials: Credentials {
-            label: subject,
-            range,
+            label: label::zero(),
+            range: range::zero(),
             privileges,
         },
         object: Object {
-            class,
-            kind,
-            present,
-            label,
-            tuple,
+            class: named.class,
+            kind: named.kind,
+            present: Presence {
+                label: false,
+                tuple: false,
+            },
+            label: label::zero(),
+            tuple: tuple::empty(),
         },
-        intents: numbers[3],
-        attribute: numbers[4],
+        intents: *intents,
+        attribute: *attribute,
         caller: Caller {
-            label: caller,
-            read_override: numbers[5] == 1,
+            label: label::zero(),
+            read_override: *read_override == 1,
         },
+    })
+}
+
+// The request with an operand line. The object's two may be left out: their line is then `-`.
+pub(crate) fn with_operand(
+    mut r: Request,
+    operand: Operand,
+    line: &[u8],
+) -> Result<Request, Errno> {
+    match operand {
+        Operand::SubjectLabel => r.credentials.label = hexline::read_label(line)?,
+        Operand::SubjectRange => r.credentials.range = hexline::read_range(line)?,
+        Operand::ObjectLabel => {
+            if line != b"-\n".as_slice() {
+                r.object.label = hexline::read_label(line)?;
+                r.object.present.label = true;
+            }
+        }
+        Operand::ObjectTuple => {
+            if line != b"-\n".as_slice() {
+                r.object.tuple = hexline::read_tuple(line)?;
+                r.object.present.tuple = true;
+            }
+        }
+        Operand::CallerLabel => r.caller.label = hexline::read_label(line)?,
     }
+    Ok(r)
 }

@@ -1,74 +1,62 @@
 // The lines of the input as requests: a command line, then its operand lines, then one answer.
-use crate::request::{Draft, NUMBERS, OPERANDS};
+use crate::request::{NUMBERS, Operand};
 use crate::{answer, request};
+use common::errno::Errno;
 use console::command;
-use console::command::MAX_NUMBERS;
+use monitor::Request;
 
-// The request whose operand lines are due. Between two requests none is.
+// A request, as far as it is good, and the operand line that is due.
 #[derive(Clone, Copy)]
-pub(crate) struct Session {
-    pub draft: Draft,
-    // How many operand lines are still to come.
-    pub due: usize,
-}
-
-pub(crate) fn between() -> Session {
-    Session {
-        draft: request::of_numbers([0; MAX_NUMBERS]),
-        due: 0,
-    }
-}
-
-// Answers a request, with its operand lines.
-fn respond(rt: &(impl Print + Eprint), d: Draft) -> Session {
-    if d.good {
-        answer::print(rt, monitor::check(request::of_draft(d)));
-    } else {
-        answer::print_invalid(rt);
-    }
-    between()
+pub(crate) struct Pending {
+    request: Result<Request, Errno>,
+    due: Operand,
 }
 
 // A line where a command line is due. A bad line comes as no bytes at all.
-fn take_command(rt: &(impl Print + Eprint), line: &[u8]) -> Session {
+fn take_command(rt: &(impl Print + Eprint), line: &[u8]) -> Option<Pending> {
     if command::is_skipped(line) {
-        return between();
+        return None;
     }
-    let c = command::parse(line);
-    if !octets::same(octets::front(line, c.word), b"check") | !c.valid | (c.count != NUMBERS) {
-        answer::print_invalid(rt);
-        return between();
+    if let Some(c) = command::parse(line)
+        && octets::front(line, c.word) == b"check".as_slice()
+        && c.count == NUMBERS
+    {
+        return Some(Pending {
+            request: request::of_numbers(c.numbers()),
+            due: Operand::SubjectLabel,
+        });
     }
-    let numbers = c.numbers;
-    Session {
-        draft: request::of_numbers(numbers),
-        due: OPERANDS,
-    }
+    answer::print(rt, Err(Errno::Invalid));
+    None
 }
 
-// A line where an operand line is due.
-fn take_operand(rt: &(impl Print + Eprint), s: Session, line: &[u8]) -> Session {
-    let draft = request::with_operand(s.draft, s.due, line);
-    if s.due > 1 {
-        return Session {
-            draft,
-            due: s.due - 1,
-        };
+// A line where an operand line is due. The last one makes the request whole, and it is answered.
+fn take_operand(rt: &(impl Print + Eprint), p: Pending, line: &[u8]) -> Option<Pending> {
+    let request = p
+        .request
+        .and_then(|r| request::with_operand(r, p.due, line));
+    if let Some(due) = p.due.next() {
+        return Some(Pending { request, due });
     }
-    respond(rt, draft)
+    answer::print(rt, request.and_then(monitor::check));
+    None
 }
 
-pub(crate) fn take_line(rt: &(impl Print + Eprint), s: Session, line: &[u8]) -> Session {
-    if s.due == 0 {
-        return take_command(rt, line);
+pub(crate) fn take_line(
+    rt: &(impl Print + Eprint),
+    pending: Option<Pending>,
+    line: &[u8],
+) -> Option<Pending> {
+    match pending {
+        Some(p) => take_operand(rt, p, line),
+        None => take_command(rt, line),
     }
-    take_operand(rt, s, line)
 }
 
 // The end of the input: a request that lacks operand lines is refused, and a read that failed is told.
-pub(crate) fn finish(rt: &(impl Print + Eprint), s: Session, failed: bool) {
-    if s.due > 0 {
-        answer::print_invalid(rt);
+pub(crate) fn finish(rt: &(impl Print + Eprint), pending: Option<Pending>, failed: bool) {
+    if pending.is_some() {
+        answer::print(rt, Err(Errno::Invalid));
     }
     if failed {
         let _ = rt.eprintln("monitor_cmd: can't read the standard input");

@@ -2,15 +2,20 @@
 use mathlib.Core.Bool.{Bool, true, false, ◌&&◌, cond, true≢false}
 use mathlib.Core.List.{List, [], ◌∷◌, ◌++◌, append_assoc, append-nil}
 use mathlib.Core.Path.{◌≡◌, refl, sym, ap, ◌∙◌}
-use Prim.Native.Nat.{ℕ, zero, suc, ◌+◌, ◌-◌, ◌≤◌, ◌<◌}
+use Prim.Native.Nat.{ℕ, zero, suc, ◌+◌, ◌≤◌, ◌<◌}
 use native.Mathlib.Nat.{add-zero}
 use native.Mathlib.Numerals.{add-one}
 use native.Mathlib.Omega.{arith}
-use lib.Dec.{eqb, leb}
+use lib.Dec.{eqb, leb, ltb}
 use lib.ListN.{drop, get_or, length, set, take, drop_of_length-le, length-append, length-take, take-append-drop}
 use lib.Seq.{append_snoc, drop-append-add, drop-append_seam, drop_at, drop-cons, drop-drop, drop-length, length-paste, length-take-le, paste, set_split, take-append_seam, take_at, take-length, take-set-le}
-use borrow.Author.Tests.{eq-eqb, eqb-true, le-leb, leb-false, leb-true, lt-leb, ne_eqb}
-use Rattle.octets.specs.Bytes.{Appended, appended_of, index_of, on_first, past_of, put_at, same_bytes, split}
+use borrow.Author.Tests.{eq-eqb, eqb-true, le-leb, leb-true, ltb-false, ne_eqb}
+use lib.Pointwise.{pointwise}
+use Rattle.std.specs.List.{onto_first, position, position_or_len, slice_split}
+use Rattle.std.specs.Prelude.{Option, None, Some}
+use Rattle.std.specs.Option.{unwrap_or}
+use Rattle.std.proofs.lemmas.List.Recursion.{is_position_or_len}
+use Rattle.octets.specs.Bytes.{Appended, FirstIndex, appended_of, index_of, on_first, past_of, put_at, same_bytes, split}
 use Rattle.octets.specs.Internal.Put.{Put}
 
 -- ---- index_of
@@ -48,15 +53,30 @@ module _ (b : ℕ) where
       pick true f ih = absurd (omega arith)
       pick false f ih = let l = ih (omega arith) in omega arith
 
-  -- a loop that has found no b so far: it stops at b, goes on, or ends
-  pub index_hit : (xs : List ℕ) (i : ℕ) → i < length xs → get_or xs i 0 ≡ b → i + index_of b (drop i xs) ≡ i
-  index_hit xs i h e = rw (drop-cons xs i 0 h, index_first (get_or xs i 0) (drop (suc i) xs) e) (add-zero i)
-
+  -- a loop that has found no b so far: it goes on, or ends
   pub index_pass : (xs : List ℕ) (i : ℕ) → i < length xs → (get_or xs i 0 ≡ b → ⊥) → i + index_of b (drop i xs) ≡ i + 1 + index_of b (drop (i + 1) xs)
   index_pass xs i h e = rw (add-one, drop-cons xs i 0 h, index_later (get_or xs i 0) (drop (suc i) xs) e) (omega arith)
 
   pub index_end : (xs : List ℕ) (i : ℕ) → length xs ≤ i → i + index_of b (drop i xs) ≡ i
   index_end xs i h = rw (drop_of_length-le xs h, index_none) (add-zero i)
+
+-- what `position` finds
+index_is : (b : ℕ) (xs : List ℕ) → index_of b xs ≡ position_or_len (λ x. eqb x b) xs
+unfolding index_of
+index_is b xs = is_position_or_len (index_of b) (λ x. eqb x b) refl (λ x xs. ap (cond (eqb x b) 0) (omega arith)) xs
+
+first_or_length : (p n : ℕ) (t : Bool) → ltb p n ≡ t → p ≤ n → unwrap_or (cond t (Some p) None) n ≡ p
+first_or_length p n true e h = refl
+first_or_length p n false e h = let l = ltb-false p n e in omega arith
+
+pub index_found : (b : ℕ) (xs : List ℕ) {o : Option ℕ} {r : ℕ} → o ≡ position (λ x. eqb x b) xs → r ≡ unwrap_or o (length xs) → FirstIndex b xs r
+index_found b xs {o} {r} e f =
+    let p : ℕ = position_or_len (λ x. eqb x b) xs in
+    let i = index_is b xs in
+    let h = index_le b xs in
+    let g : r ≡ index_of b xs =
+    f ∙ ap (λ (q : Option ℕ). unwrap_or q (length xs)) e ∙ first_or_length p (length xs) (ltb p (length xs)) refl (omega arith) ∙ sym i in
+    record { index = g; within = omega arith }
 
 -- ---- split
 
@@ -75,6 +95,17 @@ split_first b (x ∷ xs) = pick (eqb x b) (split_first b xs)
         → cond t ([] ∷ split b xs) (on_first x (split b xs)) ≡ take (cond t zero (suc (index_of b xs))) (x ∷ xs) ∷ fields_from b (drop (cond t zero (suc (index_of b xs))) (x ∷ xs))
     pick true ih = refl
     pick false ih = ap (on_first x) ih
+
+-- they are the parts that the library's `split` gives
+pub split_is : (b : ℕ) (xs : List ℕ) → slice_split (λ x. eqb x b) xs ≡ split b xs
+unfolding split
+split_is b [] = refl
+split_is b (x ∷ xs) = pick (eqb x b) (split_is b xs)
+  where
+    pick : (t : Bool) → slice_split (λ y. eqb y b) xs ≡ split b xs
+        → cond t ([] ∷ slice_split (λ y. eqb y b) xs) (onto_first x (slice_split (λ y. eqb y b) xs)) ≡ cond t ([] ∷ split b xs) (on_first x (split b xs))
+    pick true e = ap (λ (l : List (List ℕ)). [] ∷ l) e
+    pick false e = ap (onto_first x) e ∙ rw (split_first b xs)
 
 -- a loop over the fields, the next of which begins at index at: a b stands before each, as if one stood before the first
 pub fields_next : (b : ℕ) (xs : List ℕ) (at : ℕ) → at ≤ length xs
@@ -114,14 +145,6 @@ module _ (b : ℕ) where
   split_behind xs ys w = split_first b (xs ++ b ∷ ys) ∙ rw (index_behind xs ys w, take-append_seam xs (b ∷ ys), drop-append_seam xs (b ∷ ys))
 
 -- ---- put_at
-
--- bytes that fit at an index, compared with no sum
-pub fits_left : (size at n : ℕ) → at ≤ size → leb n (size - at) ≡ leb (at + n) size
-fits_left size at n h = pick (leb (at + n) size) refl
-  where
-    pick : (t : Bool) → leb (at + n) size ≡ t → leb n (size - at) ≡ t
-    pick true e = let l = leb-true (at + n) size e in le-leb n (size - at) (omega arith)
-    pick false e = let l = leb-false (at + n) size e in lt-leb n (size - at) (omega arith)
 
 module _ (out : List ℕ) (at : ℕ) where
   pub put_nil : put_at out at [] ≡ out
@@ -183,6 +206,14 @@ module _ (out : List ℕ) (at : ℕ) where
       rw (e, f, g, ← append_assoc (take at out) bs (b ∷ [])) (append_snoc (take at out ++ bs) b (drop (suc k) out))
 
 -- ---- same_bytes
+
+-- it is the library's comparison
+pub same_pointwise : (xs ys : List ℕ) → pointwise eqb xs ys ≡ same_bytes xs ys
+unfolding same_bytes
+same_pointwise [] [] = refl
+same_pointwise [] (y ∷ ys) = refl
+same_pointwise (x ∷ xs) [] = refl
+same_pointwise (x ∷ xs) (y ∷ ys) = ap (λ (t : Bool). eqb x y && t) (same_pointwise xs ys)
 
 same_first : (x y : ℕ) (xs ys : List ℕ) → x ≡ y → same_bytes (x ∷ xs) (y ∷ ys) ≡ same_bytes xs ys
 unfolding same_bytes

@@ -1,4 +1,4 @@
-// Loops over bytes: a part of them, where a byte stands, whether two slices are the same, and bytes appended to a lent buffer at an index. Each
+// Bytes: a part of them, where a byte stands, whether two slices are the same, and bytes appended to a lent buffer at an index. Each
 // function takes any value of its types.
 #![tactic(auto)]
 
@@ -14,61 +14,35 @@ pub const BLANK: u8 = 32;
 pub fn rest(xs: &[u8], from: usize) -> &[u8]
     ensures { result.now ≡ drop from xs.now }
 {
-    if from <= xs.len() {
-        return &xs[from..];
-    }
-    &xs[..0]
+    &xs[from.min(xs.len())..]
 }
 
 // The first n bytes: all where there are fewer.
 pub fn front(xs: &[u8], n: usize) -> &[u8]
     ensures { result.now ≡ take n xs.now }
 {
-    if n <= xs.len() {
-        return &xs[..n];
-    }
-    xs
+    &xs[..n.min(xs.len())]
 }
 
 // The index of the first b in xs, or its length where there is none.
 pub fn index_of(b: u8, xs: &[u8]) -> usize
     ensures { FirstIndex b xs.now result }
 {
-    let mut i = 0;
-    while i < xs.len() {
-        if xs[i] == b {
-            return i;
-        }
-        i += 1;
-    }
-    i
+    xs.iter().position(|x| *x == b).unwrap_or(xs.len())
 }
 
 // Whether two slices have the same bytes.
 pub fn same(xs: &[u8], ys: &[u8]) -> bool
     ensures { result ≡ same_bytes xs.now ys.now }
 {
-    if xs.len() != ys.len() {
-        return false;
-    }
-    let mut i = 0;
-    while i < xs.len() {
-        if xs[i] != ys[i] {
-            return false;
-        }
-        i += 1;
-    }
-    true
+    xs == ys
 }
 
 // Whether n bytes fit at index at of size bytes. A difference is compared, since the sum may not fit a usize.
 pub fn fits(size: usize, at: usize, n: usize) -> bool
     ensures { result ≡ leb (at + n) size }
 {
-    if size < at {
-        return false;
-    }
-    n <= size - at
+    size.checked_sub(at).is_some_and(|left| n <= left)
 }
 
 // Puts xs in out at index at, and answers the index past it.
@@ -76,12 +50,9 @@ fn put(out: &mut [u8], at: usize, xs: &[u8]) -> usize
     requires { at + length xs.now ≤ length out.old }
     ensures { Put out.old at xs.now result out.new }
 {
-    let mut i = 0;
-    while i < xs.len() {
-        out[at + i] = xs[i];
-        i += 1;
-    }
-    at + xs.len()
+    let end = at + xs.len();
+    out[at..end].copy_from_slice(xs);
+    end
 }
 
 // Appends the bytes of a text, and answers the index past them. What does not fit whole is not written.

@@ -1,7 +1,7 @@
 -- The laws of ranges.
 use mathlib.Core.Bool.{Bool, true, false, ◌&&◌, true≢false}
 use mathlib.Core.Logic.{◌↔◌}
-use mathlib.Core.Option.{none}
+use Rattle.std.specs.Prelude.{None}
 use mathlib.Core.Path.{◌≡◌, refl, sym, ap₂, ◌∙◌, subst}
 use Prim.Native.Nat.{ℕ}
 use native.Mathlib.Omega.{arith}
@@ -110,16 +110,16 @@ module _ (x y : Range) (e : valid_of x ≡ true) (f : valid_of y ≡ true) where
 
   -- it is refused exactly if no label is in both
   pub meet_refused : TypedRange x → TypedRange y
-      → (meet_answer_of x y ≡ refused 33 none) ↔ ((l : Label) → Typed l → Label.valid_of l ≡ true → contains_of x l ≡ true → contains_of y l ≡ true → ⊥)
+      → (meet_answer_of x y ≡ refused 33 None) ↔ ((l : Label) → Typed l → Label.valid_of l ≡ true → contains_of x l ≡ true → contains_of y l ≡ true → ⊥)
   meet_refused s t = (λ h. there (common_of x y) refl (sym tested ∙ h), λ h. back (common_of x y) refl h)
     where
-      there : (p : Bool) → common_of x y ≡ p → require p 33 (granted (meet_of x y)) ≡ refused 33 none
+      there : (p : Bool) → common_of x y ≡ p → require p 33 (granted (meet_of x y)) ≡ refused 33 None
           → (l : Label) → Typed l → Label.valid_of l ≡ true → contains_of x l ≡ true → contains_of y l ≡ true → ⊥
       there true c a l tl vl i j = let z : ◌≡◌ {A = ℕ} 0 1 = cc in omega arith
       there false c a l tl vl i j = let k : true ≡ false = sym (common_label x y l (both i j)) ∙ c in true≢false k
 
       back : (p : Bool) → common_of x y ≡ p
-          → ((l : Label) → Typed l → Label.valid_of l ≡ true → contains_of x l ≡ true → contains_of y l ≡ true → ⊥) → meet_answer_of x y ≡ refused 33 none
+          → ((l : Label) → Typed l → Label.valid_of l ≡ true → contains_of x l ≡ true → contains_of y l ≡ true → ⊥) → meet_answer_of x y ≡ refused 33 None
       back true c h = absurd (h (meet_of x y).low (meet_low_typed x y s t) low_valid (first_true _ _ inside) (second_true (contains_of x (meet_of x y).low) _ inside))
         where
           inside : (contains_of x (meet_of x y).low && contains_of y (meet_of x y).low) ≡ true

@@ -1,6 +1,7 @@
+pub mod ListLaws
+pub mod ResultsLaws
 pub mod SegmentsLaws
 pub mod SlotsLaws
 pub mod SoundLaws
 pub mod OperatorLaws
 pub mod LimitLaws
-pub mod ResultsLaws

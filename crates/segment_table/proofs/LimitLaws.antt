@@ -1,79 +1,42 @@
 -- What is left of a limit, and what fits into it.
 use mathlib.Core.Bool.{Bool, true, false, cond}
-use mathlib.Core.Option.{Option, none, some}
-use mathlib.Core.Path.{◌≡◌, refl, ap, ◌∙◌}
+use mathlib.Core.List.{List}
+use mathlib.Core.Path.{◌≡◌, refl, sym, ap, ◌∙◌}
 use Prim.Native.Nat.{ℕ, ◌+◌, ◌-◌, ◌≤◌, ◌<◌}
-use native.Mathlib.Nat.{add-zero}
 use native.Mathlib.Omega.{arith}
 use borrow.Author.Tests.{le-leb, lt-leb, leb-true}
 use lib.Dec.{leb}
-use Rattle.common.specs.Index.{sum_from}
+use lib.ListN.{length, get_or, take}
+use Rattle.std.specs.List.{sum_by}
+use Rattle.std.specs.Prelude.{None, Some, is_some}
+use Rattle.std.proofs.lemmas.List.{take_all as list_take_all}
+use Rattle.std.proofs.lemmas.List.Sums.{sum_by_more_le}
 use Rattle.common.proofs.BoolLaws.{same_truth}
-use Rattle.common.proofs.SearchLaws.{sum_next, sum_none}
 use Rattle.segment_table.specs.Limits.{fits_in, limit_left}
-use Rattle.segment_table.specs.Internal.Remainders.{kept_in}
 
--- ---- a limit from which the terms of a sum are taken one by one
-
-over_limit : (limit n : ℕ) → limit < n → limit_left limit n ≡ none
+over_limit : (limit n : ℕ) → limit < n → limit_left limit n ≡ None
 over_limit limit n h = rw (lt-leb n limit h)
 
-under_limit : (limit n left : ℕ) → n + left ≡ limit → limit_left limit n ≡ some left
+under_limit : (limit n left : ℕ) → left + n ≡ limit → limit_left limit n ≡ Some left
 under_limit limit n left e =
     let h : n ≤ limit = omega arith in
     let d : limit - n ≡ left = omega arith in
     rw (le-leb n limit h, d)
 
-module _ (f : ℕ → ℕ) (k n limit : ℕ) where
-  -- i terms are taken, and left is what is left
-  pub record Taken (i left : ℕ) : Type 0 where
-    pub upto : i ≤ n
-    pub below : left ≤ limit
-    pub rest : sum_from f k n + left ≡ limit + sum_from f (k + i) (n - i)
+-- a limit from which what f gives of each element of a list is taken, one after another
+module _ {X : Type 0} (f : X → ℕ) (xs : List X) (limit : ℕ) where
+  -- the element at i is too much for what is left
+  pub take_over : (i left : ℕ) (d : X) → i < length xs → left < f (get_or xs i d) → left + sum_by f (take i xs) ≡ limit → limit_left limit (sum_by f xs) ≡ None
+  take_over i left d l h e = let m = sum_by_more_le f xs i d l in over_limit limit (sum_by f xs) (omega arith)
 
-  pub take_none : Taken 0 limit
-  take_none =
-      let z : n - 0 ≡ n = omega arith in
-      record { upto = omega arith; below = omega arith; rest = rw (add-zero, z) (omega arith) }
-
-  pub take_next : (i left : ℕ) → i < n → f (k + i) ≤ left → Taken i left → Taken (i + 1) (left - f (k + i))
-  take_next i left h l t =
-      let e = sum_next f k n i h in
-      let b = t.below in
-      let r = t.rest in
-      record { upto = omega arith; below = omega arith; rest = omega arith }
-
-  pub take_over : (i left : ℕ) → i < n → left < f (k + i) → Taken i left → limit_left limit (sum_from f k n) ≡ none
-  take_over i left h l t =
-      let e = sum_next f k n i h in
-      let r = t.rest in
-      over_limit limit (sum_from f k n) (omega arith)
-
-  pub take_all : (i left : ℕ) → n ≤ i → Taken i left → limit_left limit (sum_from f k n) ≡ some left
-  take_all i left h t =
-      let z : n - i ≡ 0 = omega arith in
-      let e : sum_from f (k + i) (n - i) ≡ 0 = rw (z, sum_none) in
-      let r = t.rest in
-      under_limit limit (sum_from f k n) left (omega arith)
-
--- what is left tells what is used, where that is not over the limit
-pub left_told : (limit used n : ℕ) → used ≤ limit → some n ≡ limit_left limit used → (n ≤ limit) × (limit - n ≡ used)
-left_told limit used n h e =
-    let k : limit_left limit used ≡ some (limit - used) = rw (le-leb used limit h) in
-    let q : n ≡ limit - used = cc in
-    (omega arith, omega arith)
-
-pub left_never : (limit used : ℕ) → used ≤ limit → none ≡ limit_left limit used → ⊥
-left_never limit used h e =
-    let k : limit_left limit used ≡ some (limit - used) = rw (le-leb used limit h) in
-    let z : ◌≡◌ {A = ℕ} 0 1 = cc in
-    omega arith
+  pub take_all : (i left : ℕ) → length xs ≤ i → left + sum_by f (take i xs) ≡ limit → limit_left limit (sum_by f xs) ≡ Some left
+  take_all i left l e = under_limit limit (sum_by f xs) left (sym (ap (λ (ys : List X). left + sum_by f ys) (list_take_all i xs l)) ∙ e)
 
 -- whether the limit is kept is told by what is left of it
-pub kept_exact : (limit n : ℕ) {x : Option ℕ} {r : Bool} → x ≡ limit_left limit n → r ≡ kept_in x → r ≡ leb n limit
-kept_exact limit n e f = f ∙ ap kept_in e ∙ by (leb n limit)
+pub kept_exact : (limit n : ℕ) → is_some (limit_left limit n) ≡ leb n limit
+kept_exact limit n = by (leb n limit)
   where
-    by : (p : Bool) → kept_in (cond p (some (limit - n)) none) ≡ p
+    by : (p : Bool) → is_some (cond p (Some (limit - n)) None) ≡ p
     by true = refl
     by false = refl
 

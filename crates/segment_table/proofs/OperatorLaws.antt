@@ -20,6 +20,7 @@ use Rattle.range.specs.declared.tuple.RegionRange.{RegionRange}
 use Rattle.range.specs.declared.tuple.Tuple.{Tuple}
 use Rattle.range.proofs.TupleLaws.{absent_valid, empty_none}
 use Rattle.segment_table.specs.Operator.{admit_answer, admit_of, make_answer, make_of, set_ceiling_answer, set_ceiling_of}
+use Rattle.segment_table.specs.Internal.SoundParts.{clears, held}
 use Rattle.segment_table.specs.Internal.TableParts.{pool_answer}
 use Rattle.segment_table.specs.Replies.{Grant, done, left}
 use Rattle.segment_table.specs.Segments.{ceiling_at, clearance_at, empty_table, pages_at, pages_valid, segment_at, slot, slot_total, tenant_at, tenant_id, tenant_of, tenant_total, with_tenant, zero_segment, zero_tenant}
@@ -32,7 +33,7 @@ use Rattle.segment_table.specs.declared.Tenant.{Tenant}
 use Rattle.segment_table.specs.declared.TenantId.{TenantId}
 use Rattle.segment_table.proofs.SegmentsLaws.{lengths_stay, tenant_kept, tenant_written}
 use Rattle.segment_table.proofs.SlotsLaws.{by_tenant, count_stays, first_stays, own_bound, owns_stays}
-use Rattle.segment_table.proofs.SoundLaws.{Sound, admitted_parts, clears, clears_parts, held, parts_sound, slot_held, sound_parts, zeros_held}
+use Rattle.segment_table.proofs.SoundLaws.{Sound, admitted_parts, clears_parts, parts_sound, slot_held, sound_parts, zeros_held}
 
 -- ---- another record for a tenant
 
@@ -176,9 +177,9 @@ granted_ceiling s t n h g e =
     (λ k f. f) (omega arith) (leb-true (pages_of s t) n e3.0))
 
 -- what is left is sound where what is granted is
-left_sound : (s next : SegmentTable) (x : Answer Grant) → sound s ≡ true → ((g : Grant) → x ≡ granted g → sound next ≡ true) → sound (left s next x) ≡ true
-left_sound s next (granted g) h f = f g refl
-left_sound s next (refused n detail) h f = h
+left_sound : (s u : SegmentTable) (x : Answer Grant) → sound s ≡ true → ((g : Grant) → x ≡ granted g → sound u ≡ true) → sound (left s u x) ≡ true
+left_sound s u (granted g) h f = f g refl
+left_sound s u (refused n detail) h f = h
 
 pub admit_sound : (s : SegmentTable) (t : TenantId) (n : ℕ) (c : Tuple) → sound s ≡ true → sound (admit_of s t n c).table ≡ true
 unfolding admit_of

@@ -1,10 +1,10 @@
 -- What a state holds after a segment or a tenant's record in it is replaced.
 use mathlib.Core.List.{List}
 use mathlib.Core.Path.{◌≡◌, sym, ap, ap₂, ◌∙◌}
-use Prim.Native.Nat.{◌<◌, ◌≤◌}
+use Prim.Native.Nat.{◌<◌}
 use native.Mathlib.Omega.{arith}
 use lib.ListN.{length, length-set}
-use lib.Seq.{ext_get_or, get_or-set_other, get_or-set_same, set-get_or, set_out}
+use lib.Seq.{ext_get_or, get_or-set_other, get_or-set_same, set-get_or}
 use Rattle.segment_table.specs.Segments.{segment_at, slot, slot_total, table_of, tenant_at, tenant_total, with_segment, with_tenant}
 use Rattle.segment_table.specs.declared.Segment.{Segment}
 use Rattle.segment_table.specs.declared.SegmentTable.{SegmentTable}
@@ -23,9 +23,6 @@ module _ (s : SegmentTable) where
 
   pub segment_kept : (p q : Slot) (x : Segment) → (q.0 ≡ p.0 → ⊥) → segment_at (with_segment s p x) q ≡ segment_at s q
   segment_kept p q x h = get_or-set_other s.segments p.0 q.0 x _ h
-
-  pub segment_out : (p : Slot) (x : Segment) → length s.segments ≡ slot_total → slot_total ≤ p.0 → s ≡ with_segment s p x
-  segment_out p x k h = ap (table_of s.pool s.tenants) (sym (set_out s.segments p.0 x (omega arith)))
 
   pub segment_same : (p : Slot) → with_segment s p (segment_at s p) ≡ s
   segment_same p = ap (table_of s.pool s.tenants) (set-get_or s.segments p.0 _)

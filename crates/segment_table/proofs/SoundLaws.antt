@@ -1,27 +1,23 @@
 -- Soundness part by part, and that a segment put into a slot keeps it where the slot may hold it and its tenant's pages stay under the ceiling.
-use mathlib.Core.Bool.{Bool, true, false, cond, not, ◌&&◌, ◌||◌, and-false, and-true, true≢false}
+use mathlib.Core.Bool.{Bool, true, false, cond, not, ◌&&◌, and-false, true≢false}
 use mathlib.Core.Path.{◌≡◌, refl, sym, ap, ◌∙◌}
-use Prim.Native.Nat.{ℕ, ◌+◌, ◌<◌, ◌≤◌}
+use Prim.Native.Nat.{ℕ, ◌+◌, ◌-◌, ◌<◌, ◌≤◌}
 use native.Mathlib.Omega.{arith}
 use borrow.Author.Tests.{eq-eqb, eqb-true, le-leb, leb-true, ltb-true, ne_eqb}
 use lib.Dec.{eqb, leb, ltb}
 use lib.ListN.{length}
-use Rattle.common.specs.Answer.{granted, require, test_of}
+use Rattle.std.specs.Prelude.{Option, None, Some}
 use Rattle.common.specs.Index.{some_below}
 use Rattle.label.specs.Label
 use Rattle.label.specs.declared.Label.{Label}
-use Rattle.common.specs.declared.answer.Test.{Test}
-use Rattle.common.proofs.AnswerLaws.{read_by, test_read}
 use Rattle.common.proofs.BoolLaws.{both, first_true, not_so, same_truth, second_true, three_true}
 use Rattle.common.proofs.IndexLaws.{every_all, every_at}
 use Rattle.label.proofs.LabelLaws.{equal_exact}
 use Rattle.common.proofs.SearchLaws.{any_of, any_same, any_then, none_of, sum_but, sum_same}
-use Rattle.label.specs.Region.{region_of}
 use Rattle.range.specs.Tuple
-use Rattle.range.specs.declared.tuple.Tuple.{Tuple}
 use Rattle.range.proofs.TupleLaws.{contained_valid}
-use Rattle.segment_table.specs.Internal.Owners.{Owned, owner_or}
-use Rattle.segment_table.specs.Internal.SoundParts.{ceilings_kept, segment_sound, slots_sound, tenants_sound}
+use Rattle.segment_table.specs.Internal.Owners.{Owned}
+use Rattle.segment_table.specs.Internal.SoundParts.{ceilings_kept, clears, held, slots_sound, tenants_sound}
 use Rattle.segment_table.specs.Segments.{ceiling_at, clearance_at, pages_at, pages_valid, segment_at, slot, slot_total, tenant_at, tenant_id, tenant_total, with_segment, zero_segment}
 use Rattle.segment_table.specs.Slots.{ceilings_of, filled, first_slot, owns, pages_of, slot_count}
 use Rattle.segment_table.specs.Sound.{admitted, cleared_by, slot_sound, sound, tenant_sound, under_ceiling, well_sized, is_zero_segment}
@@ -30,10 +26,10 @@ use Rattle.segment_table.specs.declared.SegmentTable.{SegmentTable}
 use Rattle.segment_table.specs.declared.Slot.{Slot}
 use Rattle.segment_table.specs.declared.Tenant.{Tenant}
 use Rattle.segment_table.specs.declared.TenantId.{TenantId}
-use Rattle.segment_table.specs.declared.slots.Owner.{Owner}
-use Rattle.segment_table.specs.declared.slots.Owner.TheVariants.{Tenant as ByTenant, Nobody}
+use Rattle.segment_table.specs.Limits.{fits_in, limit_left}
+use Rattle.segment_table.proofs.LimitLaws.{fits_exact}
 use Rattle.segment_table.proofs.SegmentsLaws.{Lengths, lengths_kept, segment_kept, segment_written}
-use Rattle.segment_table.proofs.SlotsLaws.{by_slot, by_tenant, count_kept, first_kept, own_of, own_parts, own_slot, owner_unique, owns_kept, same_slot}
+use Rattle.segment_table.proofs.SlotsLaws.{by_slot, by_tenant, ceiling_among, count_kept, first_kept, own_of, own_parts, own_slot, owner_unique, owns_kept, same_slot}
 
 -- ---- the parts
 
@@ -79,6 +75,11 @@ parts_sound s h =
     (le-leb _ _ h.ceilings))
     (every_all (λ t. under_ceiling s (tenant_id t)) tenant_total (λ t l. le-leb _ _ (h.pages (tenant_id t) l)))
 
+-- whether the pool has room for another ceiling is told by what is left of it
+pub room : (s : SegmentTable) (t : TenantId) (n : ℕ) → sound s ≡ true → t.0 < tenant_total
+    → fits_in (limit_left s.pool (ceilings_of s)) (ceiling_at s t) n ≡ leb (ceilings_of s - ceiling_at s t + n) s.pool
+room s t n h l = fits_exact _ _ _ _ (sound_parts s h).ceilings (ceiling_among s t l)
+
 -- ---- tenants
 
 -- an admitted tenant is one, and has a ceiling of at least 1
@@ -87,42 +88,25 @@ unfolding admitted
 admitted_parts s t e =
     (ltb-true _ _ (first_true (ltb t.0 tenant_total) (leb 1 (ceiling_at s t)) e), leb-true _ _ (second_true (ltb t.0 tenant_total) (leb 1 (ceiling_at s t)) e))
 
+pub admitted_tenant : (s : SegmentTable) (t : TenantId) → admitted s t ≡ true → t.0 < tenant_total
+admitted_tenant s t e = (admitted_parts s t e).0
+
+-- in a sound state its pages are at most its ceiling
+pub pages_kept : (s : SegmentTable) (t : TenantId) → sound s ≡ true → admitted s t ≡ true → pages_of s t ≤ ceiling_at s t
+pages_kept s t h e = (sound_parts s h).pages t (admitted_tenant s t e)
+
 -- a sound record's clearance is valid
 pub tenant_clearance : (x : Tenant) → tenant_sound x ≡ true → Tuple.valid_of x.clearance ≡ true
 unfolding tenant_sound
 tenant_clearance x e = first_true (Tuple.valid_of x.clearance) (cond (leb 1 x.ceiling) (not (Tuple.empty_of x.clearance)) (Tuple.empty_of x.clearance)) e
 
--- what `tuple::is_empty` answers, read as a yes or no
-
-pub empty_read : (f : Bool → Bool) (t : Tuple) {u v : Test} → u ≡ v → test_of u ≡ require (Tuple.valid_of t) 22 (granted (Tuple.empty_of t))
-    → read_by f (test_of v) ≡ (Tuple.valid_of t && f (Tuple.empty_of t))
-empty_read f t e h = test_read f (Tuple.valid_of t) (Tuple.empty_of t) 22 e h
-
-one_of : (p q : Bool) → (p && not q || not p && q) ≡ cond p (not q) q
-one_of true true = refl
-one_of true false = refl
-one_of false q = refl
-
-pub tenant_read : (x : Tenant) {u v : Test} → u ≡ v → test_of u ≡ require (Tuple.valid_of x.clearance) 22 (granted (Tuple.empty_of x.clearance))
-    → read_by (λ b. leb 1 x.ceiling && not b || not (leb 1 x.ceiling) && b) (test_of v) ≡ tenant_sound x
-unfolding tenant_sound
-tenant_read x e h = empty_read _ x.clearance e h ∙ ap (λ (b : Bool). Tuple.valid_of x.clearance && b) (one_of (leb 1 x.ceiling) (Tuple.empty_of x.clearance))
-
 -- ---- what a slot may hold
-
--- whether tenant t owns slot p and l is in its clearance
-abbrev pub clears : SegmentTable → Slot → Label → ℕ → Bool
-clears s p l t = owns s (tenant_id t) p && Tuple.contains_of (clearance_at s (tenant_id t)) l
 
 pub clears_parts : (s : SegmentTable) (p : Slot) (l : Label) (t : ℕ) → clears s p l t ≡ true → (owns s (tenant_id t) p ≡ true) × (Tuple.contains_of (clearance_at s (tenant_id t)) l ≡ true)
 clears_parts s p l t e =
     let b : Bool = owns s (tenant_id t) p in
     let d : Bool = Tuple.contains_of (clearance_at s (tenant_id t)) l in
     (first_true b d e, second_true b d e)
-
--- whether slot p may hold x
-abbrev pub held : SegmentTable → Slot → Segment → Bool
-held s p x = cond (leb 1 x.pages) (some_below (clears s p x.label) tenant_total) (is_zero_segment x)
 
 pub slot_held : (s : SegmentTable) (p : Slot) → slot_sound s p ≡ held s p (segment_at s p)
 unfolding slot_sound filled cleared_by
@@ -137,43 +121,36 @@ owner_clears s p l t o =
     ap (λ (u : TenantId). Tuple.contains_of (clearance_at s u) l) (owner_unique s t (tenant_id i) p o c.0) ∙ c.1))
     (λ e. any_of (clears s p l) tenant_total t.0 (own_parts s t p o).tenant (both o e))
 
--- so the owner's clearance tells whether a slot is sound, by what it has for the region of the label there
-sound_by_owner : (s : SegmentTable) (p : Slot) (t : TenantId) → owns s t p ≡ true
-    → slot_sound s p ≡ segment_sound (segment_at s p) (ByTenant t) (Tuple.region_range_at (clearance_at s t) (region_of (segment_at s p).label.hierarchy))
-unfolding segment_sound Tuple.contains_of
-sound_by_owner s p t o =
-    rw (and-true (leb 1 (pages_at s p)))
-    (slot_held s p ∙ ap (λ (b : Bool). cond (leb 1 (pages_at s p)) b (is_zero_segment (segment_at s p))) (owner_clears s p (segment_at s p).label t o))
+-- so its owner tells whether a slot may hold a filled segment, and nobody's slot holds none
+pub held_owned : (s : SegmentTable) (p : Slot) (x : Segment) (t : TenantId) → 1 ≤ x.pages → owns s t p ≡ true → held s p x ≡ Tuple.contains_of (clearance_at s t) x.label
+held_owned s p x t h o = rw (le-leb 1 x.pages h) (owner_clears s p x.label t o)
 
--- a slot that nobody owns is sound where it holds zeros
-sound_unowned : (s : SegmentTable) (p : Slot) → some_below (λ t. owns s (tenant_id t) p) tenant_total ≡ false → slot_sound s p ≡ is_zero_segment (segment_at s p)
+pub held_unowned : (s : SegmentTable) (p : Slot) (x : Segment) → 1 ≤ x.pages → some_below (λ t. owns s (tenant_id t) p) tenant_total ≡ false → held s p x ≡ false
+held_unowned s p x h n =
+    rw (le-leb 1 x.pages h)
+    (not_so (some_below (clears s p x.label) tenant_total) (λ e. any_then (clears s p x.label) tenant_total e (λ i l f.
+    true≢false (sym (clears_parts s p x.label i f).0 ∙ none_of (λ t. owns s (tenant_id t) p) tenant_total i n l))))
+
+-- whether a slot of this owner may hold x: a filled one a label in its clearance, an empty one, or one that nobody owns, zeros
+abbrev pub owned_sound : SegmentTable → Option TenantId → Segment → Bool
+owned_sound s (Some t) x = cond (leb 1 x.pages) (Tuple.contains_of (clearance_at s t) x.label) (is_zero_segment x)
+owned_sound s None x = is_zero_segment x
+
+-- what was found of a slot's owner, a tenant or nobody, tells whether the slot is sound
+pub sound_as_owned : (s : SegmentTable) (p : Slot) (o : Option TenantId) → Owned s p o → slot_sound s p ≡ owned_sound s o (segment_at s p)
 unfolding is_zero_segment
-sound_unowned s p n = slot_held s p ∙ go (segment_at s p)
+sound_as_owned s p (Some t) h =
+    slot_held s p ∙ ap (λ (b : Bool). cond (leb 1 (pages_at s p)) b (is_zero_segment (segment_at s p))) (owner_clears s p (segment_at s p).label t h.1)
+sound_as_owned s p None h = slot_held s p ∙ go (segment_at s p)
   where
-    none : (l : Label) → some_below (clears s p l) tenant_total ≡ false
-    none l =
-        not_so (some_below (clears s p l) tenant_total) (λ e. any_then (clears s p l) tenant_total e (λ i h f.
-        true≢false (sym (clears_parts s p l i f).0 ∙ none_of (λ t. owns s (tenant_id t) p) tenant_total i n h)))
-
     go : (x : Segment) → held s p x ≡ is_zero_segment x
     go x = by_pages (leb 1 x.pages) refl
       where
         by_pages : (b : Bool) → leb 1 x.pages ≡ b → held s p x ≡ is_zero_segment x
         by_pages true e =
             let l = leb-true 1 x.pages e in
-            rw (e, none x.label, ne_eqb x.pages 0 (λ z. absurd (omega arith)), and-false (Label.equal_of x.label Label.zero_label))
+            held_unowned s p x l h ∙ sym (rw (ne_eqb x.pages 0 (λ z. absurd (omega arith)), and-false (Label.equal_of x.label Label.zero_label)))
         by_pages false e = rw e
-
--- what was found of a slot's owner, a tenant or nobody, tells whether the slot is sound
-pub sound_as_owned : (s : SegmentTable) (p : Slot) (o : Owner) (n : ℕ) → Owned s p o
-    → slot_sound s p ≡ segment_sound (segment_at s p) o (Tuple.region_range_at (clearance_at s (tenant_id (owner_or o n))) (region_of (segment_at s p).label.hierarchy))
-unfolding segment_sound
-sound_as_owned s p (ByTenant t) n h = sound_by_owner s p t h.1
-sound_as_owned s p Nobody n h = rw (and-false (leb 1 (pages_at s p))) (sound_unowned s p h)
-
-pub owner_within : (s : SegmentTable) (p : Slot) (o : Owner) (n : ℕ) → Owned s p o → n < tenant_total → owner_or o n < tenant_total
-owner_within s p (ByTenant t) n h l = h.0
-owner_within s p Nobody n h l = l
 
 pub held_filled : (s : SegmentTable) (p : Slot) (x : Segment) (u : TenantId) → 1 ≤ x.pages → owns s u p ≡ true → Tuple.contains_of (clearance_at s u) x.label ≡ true → held s p x ≡ true
 held_filled s p x u h o e = rw (le-leb 1 x.pages h) (owner_clears s p x.label u o ∙ e)

@@ -1,4 +1,3 @@
 pub mod Owners
-pub mod Remainders
 pub mod SoundParts
 pub mod TableParts

@@ -54,10 +54,10 @@ abbrev pub empty_table : ℕ → SegmentTable
 empty_table pool = table_of pool (replicate tenant_total zero_tenant) (replicate slot_total zero_segment)
 
 -- what stands past the end of an array of these: no tenant and no slot has it
-abbrev no_tenant : Tenant
+abbrev pub no_tenant : Tenant
 no_tenant = tenant_of 0 (Tuple.tuple_of [])
 
-abbrev no_segment : Segment
+abbrev pub no_segment : Segment
 no_segment = segment_of (Label.label_of 0 []) 0 0
 
 abbrev pub tenant_at : SegmentTable → TenantId → Tenant

@@ -1,13 +1,10 @@
 -- Document 01, "The board": whose a slot is, which slots are filled, and a tenant's pages.
-use Rattle.std.specs.Prelude.{Bool, cond, not, ◌&&◌, ℕ, ◌+◌, ◌*◌, leb, ltb}
-use Rattle.std.proofs.Math.Option.{Option, none, some}
+use Rattle.std.specs.Prelude.{Bool, cond, not, ◌&&◌, ℕ, ◌+◌, ◌*◌, leb, ltb, Option, None, Some}
 use Rattle.common.specs.Index.{first_from, sum_from}
 use Rattle.segment_table.specs.Segments.{ceiling_at, pages_at, slot, tenant_id, tenant_total}
 use Rattle.segment_table.specs.declared.SegmentTable.{SegmentTable}
 use Rattle.segment_table.specs.declared.Slot.{Slot}
 use Rattle.segment_table.specs.declared.TenantId.{TenantId}
-use Rattle.segment_table.specs.declared.slots.SlotOption.{SlotOption}
-use Rattle.segment_table.specs.declared.slots.SlotOption.TheVariants.{At, Nothing}
 
 -- tenant t owns slots 8t to 8t+7: the first, and how many. Nothing else knows this.
 unfoldable pub first_slot : SegmentTable → TenantId → Slot
@@ -28,17 +25,12 @@ abbrev pub empty_at : SegmentTable → ℕ → Bool
 empty_at s p = not (filled s (slot p))
 
 abbrev pub as_slot : Option ℕ → Option Slot
-as_slot none = none
-as_slot (some p) = some (slot p)
+as_slot None = None
+as_slot (Some p) = Some (slot p)
 
 -- the lowest empty slot of t's own, if there is one
 unfoldable pub lowest_empty : SegmentTable → TenantId → Option Slot
-lowest_empty s t = cond (ltb t.0 tenant_total) (as_slot (first_from (empty_at s) (first_slot s t).0 (slot_count s t))) none
-
--- what the enum SlotOption says
-abbrev pub slot_option_of : SlotOption → Option Slot
-slot_option_of (At p) = some p
-slot_option_of Nothing = none
+lowest_empty s t = cond (ltb t.0 tenant_total) (as_slot (first_from (empty_at s) (first_slot s t).0 (slot_count s t))) None
 
 -- a tenant's open pages: the sum of the pages at its slots
 unfoldable pub pages_of : SegmentTable → TenantId → ℕ

@@ -4,11 +4,6 @@
 pub mod operator;
 pub mod slots;
 pub mod state;
-mod tested;
-
-ghost use Rattle.std.specs.Prelude.{◌≡◌};
-ghost use Rattle.segment_table.specs.Internal.TableParts as parts;
-ghost use Rattle.segment_table.specs.Replies.{is_refusal, unlabeled_answer};
 
 use common::errno::Errno;
 use label::Label;
@@ -31,7 +26,7 @@ pub struct TenantId(pub u64);
 #[derive(Clone, Copy)]
 pub struct Slot(pub u64);
 
-// A tenant's record: zeros where the tenant is not admitted.
+// A tenant's record: zeros where the tenant is not admitted, since C has the same struct.
 #[repr(C)]
 #[derive(Clone, Copy)]
 pub struct Tenant {
@@ -39,16 +34,17 @@ pub struct Tenant {
     pub clearance: Tuple,
 }
 
-// What a slot holds (version is document 01's edition): zeros where the slot is empty.
+// What a slot holds (version is document 01's edition): zeros where the slot is empty, since C has the same struct.
 #[repr(C)]
-#[derive(Clone, Copy)]
+#[derive(Clone, Copy, PartialEq, Eq, Default)]
 pub struct Segment {
     pub label: Label,
     pub pages: u64,
     pub version: u64,
 }
 
-// The state (document 01: the board).
+// The state (document 01: the board). Its arrays are as long as the machine has tenants and slots: C has the same struct, and no memory is asked
+// for.
 #[repr(C)]
 #[derive(Clone, Copy)]
 pub struct SegmentTable {
@@ -59,63 +55,17 @@ pub struct SegmentTable {
 
 // ---- what a call answers
 
-// The numbers that a look shows.
-#[derive(Clone, Copy)]
-pub struct Shown {
-    pub pages: u64,
-    pub version: u64,
-}
-
+// What a grant answers: an open its slot, a look what the slot holds, the others nothing more.
 #[derive(Clone, Copy)]
 pub enum Reply {
     Done,
     Opened(Slot),
-    Shown(Shown),
-    Refused(Errno),
-}
-
-// A reply, and the label that a look shows: zeros beside any other.
-#[derive(Clone, Copy)]
-pub struct CallAnswer {
-    pub reply: Reply,
-    pub label: Label,
+    Shown(Segment),
 }
 
 // The state that a call leaves, and its answer.
 #[derive(Clone, Copy)]
 pub struct CallOutcome {
     pub table: SegmentTable,
-    pub answer: CallAnswer,
-}
-
-// Whether a reply is a refusal.
-pub fn refuses(reply: Reply) -> bool
-    ensures { result ≡ is_refusal reply }
-{
-    match reply {
-        Reply::Done => false,
-        Reply::Opened(_) => false,
-        Reply::Shown(_) => false,
-        Reply::Refused(_) => true,
-    }
-}
-
-// A reply that shows no label.
-pub fn no_label(reply: Reply) -> CallAnswer
-    ensures { result ≡ unlabeled_answer reply }
-{
-    CallAnswer {
-        reply,
-        label: label::zero(),
-    }
-}
-
-// A state and a reply that shows no label.
-pub(crate) fn unlabeled(table: SegmentTable, reply: Reply) -> CallOutcome
-    ensures { result ≡ parts.unlabeled table reply }
-{
-    CallOutcome {
-        table,
-        answer: no_label(reply),
-    }
+    pub answer: Result<Reply, Errno>,
 }

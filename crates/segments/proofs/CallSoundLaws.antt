@@ -1,5 +1,6 @@
 -- Every tenant call keeps soundness: what a granted call writes may be held by its slot, and its caller's pages stay under the ceiling.
-use mathlib.Core.Option.{none, some, some-ne-none}
+use Rattle.std.specs.Prelude.{None, Some}
+use Rattle.std.proofs.lemmas.Option.{none-some}
 use mathlib.Core.Bool.{true}
 use mathlib.Core.Path.{◌≡◌, sym, ap, subst, ◌∙◌}
 use Prim.Native.Nat.{ℕ, ◌+◌, ◌-◌, ◌≤◌}
@@ -10,6 +11,7 @@ use Rattle.label.specs.declared.Label.{Label}
 use Rattle.common.proofs.BoolLaws.{first_true, second_true}
 use Rattle.range.specs.Tuple
 use Rattle.segments.specs.Calls.{CallEffect, call_of, call_row, cleared, slot_for, slot_valid, step_of, writable}
+use Rattle.segment_table.specs.Internal.SoundParts.{held}
 use Rattle.segment_table.specs.Segments.{ceiling_at, clearance_at, max_pages, pages_at, pages_valid, segment_at, segment_of, with_segment}
 use Rattle.segment_table.specs.Slots.{owns, pages_of}
 use Rattle.segment_table.specs.Sound.{sound}
@@ -21,7 +23,7 @@ use Rattle.segment_table.specs.declared.Slot.{Slot}
 use Rattle.segment_table.specs.declared.TenantId.{TenantId}
 use Rattle.segments.proofs.CallsLaws.{Effect, Passed, effect, look_next, looking, next_granted, next_refused, refusing, valid_numbers, valid_tenant, writable_at, writable_own, writing}
 use Rattle.segment_table.proofs.SlotsLaws.{lowest_own, own_pages, own_parts, own_slot}
-use Rattle.segment_table.proofs.SoundLaws.{Sound, filled_pages, held, held_cleared, held_filled, parts_sound, slot_held, sound_parts, written_sound, zeros_held}
+use Rattle.segment_table.proofs.SoundLaws.{Sound, filled_pages, held_cleared, held_filled, parts_sound, slot_held, sound_parts, written_sound, zeros_held}
 
 cleared_label : (s : SegmentTable) (t : TenantId) (l : Label) (a : Action) → cleared s (call_of t l a) ≡ true → Tuple.contains_of (clearance_at s t) l ≡ true
 unfolding cleared
@@ -46,7 +48,7 @@ module _ (s : SegmentTable) (t : TenantId) (l : Label) (h : Sound s) where
   label_kept : (p : Slot) (pages version : ℕ) → writable s t l p ≡ true → 1 ≤ pages → held s p (segment_of (segment_at s p).label pages version) ≡ true
   label_kept p pages version w g = own_held p (segment_of (segment_at s p).label pages version) (writable_own s t l p w).0 g (own_cleared p w)
 
-  written_held : {y : CallEffect} (a : Action) (p : Slot) → Passed s t l a y → (call_row a).looked_at ≡ none → slot_for s t (call_row a).named ≡ some p
+  written_held : {y : CallEffect} (a : Action) (p : Slot) → Passed s t l a y → (call_row a).looked_at ≡ None → slot_for s t (call_row a).named ≡ Some p
       → held s p ((call_row a).written (segment_at s p) l) ≡ true
   written_held (Open x) p r n f =
       own_held p (segment_of l x.pages 0) (lowest_own s t p (valid_tenant s t l (Open x) r.is_valid) f)
@@ -57,11 +59,11 @@ module _ (s : SegmentTable) (t : TenantId) (l : Label) (h : Sound s) where
   written_held (Post x) p r n f =
       let w = writable_at s t l x.slot p f r.is_permitted in
       label_kept p (segment_at s p).pages x.version w (filled_pages s p (writable_own s t l p w).1)
-  written_held (Look x) p r n f = absurd (some-ne-none x.slot n)
+  written_held (Look x) p r n f = absurd (none-some x.slot (sym n))
   written_held (Close x) p r n f = zeros_held s p
 
   -- and its caller's pages stay under the ceiling
-  written_fits : {y : CallEffect} (a : Action) (p : Slot) → Passed s t l a y → slot_for s t (call_row a).named ≡ some p → owns s t p ≡ true
+  written_fits : {y : CallEffect} (a : Action) (p : Slot) → Passed s t l a y → slot_for s t (call_row a).named ≡ Some p → owns s t p ≡ true
       → pages_of s t + ((call_row a).written (segment_at s p) l).pages ≤ ceiling_at s t + pages_at s p
   written_fits (Open x) p r f o = let e = leb-true (pages_of s t + x.pages) (ceiling_at s t) r.fits in omega arith
   written_fits (Size x) p r f o =

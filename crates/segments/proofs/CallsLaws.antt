@@ -2,7 +2,8 @@
 -- what is visible of that slot. Nothing above these laws opens `step_of`.
 use mathlib.Core.Bool.{Bool, true, false, cond, not, ◌&&◌, true≢false}
 use mathlib.Core.Logic.{◌⊎◌, inl, inr}
-use mathlib.Core.Option.{Option, none, some, none-ne-some}
+use Rattle.std.specs.Prelude.{Option, None, Some}
+use Rattle.std.proofs.lemmas.Option.{none-some}
 use mathlib.Core.Path.{◌≡◌, refl, sym, ap, ap₂, ◌∙◌}
 use Prim.Native.Nat.{ℕ, ◌+◌, ◌-◌, ◌<◌}
 use borrow.Author.Tests.{ltb-true}
@@ -16,7 +17,7 @@ use Rattle.common.proofs.BoolLaws.{first_true, three_true}
 use Rattle.common.proofs.SearchLaws.{first_same, sum_same}
 use Rattle.range.specs.Tuple
 use Rattle.segments.specs.Calls.{CallEffect, access_of, answered_by, call_of, call_row, call_valid, cleared, decision_on, effect_on, require_slot, slot_for, slot_valid, step_of, table_by, visible, writable}
-use Rattle.segment_table.specs.Replies.{shown}
+use Rattle.segment_table.specs.declared.Reply.TheVariants.{Shown as shown}
 use Rattle.segment_table.specs.Segments.{ceiling_at, pages_at, segment_at, slot, slot_total, tenant_total, with_segment}
 use Rattle.segment_table.specs.Slots.{as_slot, empty_at, filled, first_slot, lowest_empty, owns, pages_of, slot_count}
 use Rattle.segment_table.specs.Sound.{admitted, sound}
@@ -41,16 +42,16 @@ writable_own s t l p e =
     (h.0, h.1)
 
 -- of the slot that a call names
-pub writable_at : (s : SegmentTable) (t : TenantId) (l : Label) (q p : Slot) → some q ≡ some p → writable s t l q ≡ true → writable s t l p ≡ true
+pub writable_at : (s : SegmentTable) (t : TenantId) (l : Label) (q p : Slot) → Some q ≡ Some p → writable s t l q ≡ true → writable s t l p ≡ true
 writable_at s t l q p f e = let i : q ≡ p = cc in rw (← i) e
 
 -- a call that looks, if at all, at a slot of its caller's own
 abbrev pub LooksAtOwn : SegmentTable → TenantId → Action → Type 0
-LooksAtOwn s t a = (p : Slot) → (call_row a).looked_at ≡ some p → owns s t p ≡ true
+LooksAtOwn s t a = (p : Slot) → (call_row a).looked_at ≡ Some p → owns s t p ≡ true
 
 -- such a call is about a slot of its caller's own
 pub target_own : (s : SegmentTable) (t : TenantId) (l : Label) (a : Action) (p : Slot) → t.0 < tenant_total → LooksAtOwn s t a
-    → (call_row a).permitted s t l ≡ true → slot_for s t (call_row a).named ≡ some p → owns s t p ≡ true
+    → (call_row a).permitted s t l ≡ true → slot_for s t (call_row a).named ≡ Some p → owns s t p ≡ true
 target_own s t l (Open x) p h m e f = lowest_own s t p h f
 target_own s t l (Size x) p h m e f = (writable_own s t l p (writable_at s t l x.slot p f e)).0
 target_own s t l (Post x) p h m e f = (writable_own s t l p (writable_at s t l x.slot p f e)).0
@@ -67,19 +68,36 @@ pub valid_numbers : (s : SegmentTable) (t : TenantId) (l : Label) (a : Action) �
 unfolding call_valid
 valid_numbers s t l a e = (three_true (admitted s t) (Label.valid_of l) (call_row a).numbers_valid e).2
 
-slot_in : (q p : Slot) → slot_valid q ≡ true → some q ≡ some p → p.0 < slot_total
+slot_in : (q p : Slot) → slot_valid q ≡ true → Some q ≡ Some p → p.0 < slot_total
 slot_in q p v e = let r : q ≡ p = cc in rw (← r) (ltb-true q.0 slot_total v)
 
 -- the slot that a valid call is about is one
-pub valid_slot : (s : SegmentTable) (t : TenantId) (l : Label) (a : Action) (p : Slot) → call_valid s (call_of t l a) ≡ true → slot_for s t (call_row a).named ≡ some p → p.0 < slot_total
+pub valid_slot : (s : SegmentTable) (t : TenantId) (l : Label) (a : Action) (p : Slot) → call_valid s (call_of t l a) ≡ true → slot_for s t (call_row a).named ≡ Some p → p.0 < slot_total
 valid_slot s t l a p e f = go a (valid_numbers s t l a e) f
   where
-    go : (a : Action) → (call_row a).numbers_valid ≡ true → slot_for s t (call_row a).named ≡ some p → p.0 < slot_total
+    go : (a : Action) → (call_row a).numbers_valid ≡ true → slot_for s t (call_row a).named ≡ Some p → p.0 < slot_total
     go (Open x) n f = own_slot s t p (lowest_own s t p (valid_tenant s t l a e) f)
     go (Size x) n f = slot_in x.slot p (first_true (slot_valid x.slot) _ n) f
     go (Post x) n f = slot_in x.slot p n f
     go (Look x) n f = slot_in x.slot p n f
     go (Close x) n f = slot_in x.slot p n f
+
+-- so is the slot that it names
+pub named_slot : (s : SegmentTable) (c : Call) (p : Slot) → call_valid s c ≡ true → (call_row c.action).named ≡ Some p → slot_valid p ≡ true
+named_slot s c p e f = go c.action (valid_numbers s c.tenant c.label c.action e) f
+  where
+    go : (a : Action) → (call_row a).numbers_valid ≡ true → (call_row a).named ≡ Some p → slot_valid p ≡ true
+    go (Open x) n f = absurd (none-some p f)
+    go (Size x) n f = let q : x.slot ≡ p = cc in rw (← q) (first_true (slot_valid x.slot) _ n)
+    go (Post x) n f = let q : x.slot ≡ p = cc in rw (← q) n
+    go (Look x) n f = let q : x.slot ≡ p = cc in rw (← q) n
+    go (Close x) n f = let q : x.slot ≡ p = cc in rw (← q) n
+
+pub call_tenant : (s : SegmentTable) (c : Call) → call_valid s c ≡ true → c.tenant.0 < tenant_total
+call_tenant s c e = valid_tenant s c.tenant c.label c.action e
+
+pub call_slot : (s : SegmentTable) (c : Call) (p : Slot) → call_valid s c ≡ true → slot_for s c.tenant (call_row c.action).named ≡ Some p → p.0 < slot_total
+call_slot s c p e f = valid_slot s c.tenant c.label c.action p e f
 
 -- ---- two states that are alike for a tenant
 
@@ -116,9 +134,9 @@ unfolding visible filled
 visible_same s u l p e = ap (λ (x : Segment). leb 1 x.pages && Label.dominates_of l x.label) e
 
 -- a slot is there or not alike, with what follows alike where it is there
-slot_same : {A : Type 0} (n : ℕ) (o q : Option Slot) (f g : Slot → Answer A) → o ≡ q → ((p : Slot) → o ≡ some p → f p ≡ g p) → require_slot o n f ≡ require_slot q n g
-slot_same n none q f g e h = rw (← e) refl
-slot_same n (some p) q f g e h = rw (← e) (h p refl)
+slot_same : {A : Type 0} (n : ℕ) (o q : Option Slot) (f g : Slot → Answer A) → o ≡ q → ((p : Slot) → o ≡ Some p → f p ≡ g p) → require_slot o n f ≡ require_slot q n g
+slot_same n None q f g e h = rw (← e) refl
+slot_same n (Some p) q f g e h = rw (← e) (h p refl)
 
 module _ (t : TenantId) (s u : SegmentTable) (k : Alike t s u) where
   ceiling_same : ceiling_at s t ≡ ceiling_at u t
@@ -134,7 +152,7 @@ module _ (t : TenantId) (s u : SegmentTable) (k : Alike t s u) where
   lowest_same : t.0 < tenant_total → lowest_empty s t ≡ lowest_empty u t
   unfolding lowest_empty filled
   lowest_same h =
-      ap (λ (o : Option ℕ). cond (ltb t.0 tenant_total) (as_slot o) none)
+      ap (λ (o : Option ℕ). cond (ltb t.0 tenant_total) (as_slot o) None)
       (first_same (empty_at s) (empty_at u) (first_slot s t).0 (slot_count s t)
       (λ j a b. ap (λ (x : Segment). not (leb 1 x.pages)) (k.own (slot j) (own_of s t (slot j) h a b)))
       ∙ ap₂ (first_from (empty_at u)) (ap (λ (p : Slot). p.0) (first_kept s u t k.records)) (count_kept s u t k.records))
@@ -157,8 +175,8 @@ module _ (t : TenantId) (s u : SegmentTable) (k : Alike t s u) where
   permitted_same l (Close x) m = writable_same l x.slot
 
   slot_for_same : t.0 < tenant_total → (o : Option Slot) → slot_for s t o ≡ slot_for u t o
-  slot_for_same h none = lowest_same h
-  slot_for_same h (some p) = refl
+  slot_for_same h None = lowest_same h
+  slot_for_same h (Some p) = refl
 
   fit_same : t.0 < tenant_total → (l : Label) (a : Action) → (call_row a).permitted s t l ≡ true → (call_row a).pages_fit s t ≡ (call_row a).pages_fit u t
   fit_same h l (Open x) e = ap₂ (λ (used limit : ℕ). leb (used + x.pages) limit) (pages_same h) ceiling_same
@@ -228,7 +246,7 @@ pub record Passed (s : SegmentTable) (t : TenantId) (l : Label) (a : Action) (x 
   pub is_valid : call_valid s (call_of t l a) ≡ true
   pub is_cleared : cleared s (call_of t l a) ≡ true
   pub is_permitted : (call_row a).permitted s t l ≡ true
-  pub slot_is : slot_for s t (call_row a).named ≡ some x.slot
+  pub slot_is : slot_for s t (call_row a).named ≡ Some x.slot
   pub fits : (call_row a).pages_fit s t ≡ true
   pub effect_is : x ≡ effect_on x.slot (segment_at s x.slot) l a
 
@@ -243,8 +261,8 @@ granted_passed s t l a x e =
   where
     at : (o : Option Slot) → slot_for s t (call_row a).named ≡ o → sound s ≡ true → call_valid s (call_of t l a) ≡ true → cleared s (call_of t l a) ≡ true → (call_row a).permitted s t l ≡ true
         → granted x ≡ require_slot o 28 (λ p. require ((call_row a).pages_fit s t) 12 (granted (effect_on p (segment_at s p) l a))) → Passed s t l a x
-    at none i h v c w e = absurd (true≢false (ap is_granted e))
-    at (some p) i h v c w e =
+    at None i h v c w e = absurd (true≢false (ap is_granted e))
+    at (Some p) i h v c w e =
         let f = grant_passed ((call_row a).pages_fit s t) 12 x _ e in
         let g : x ≡ effect_on p (segment_at s p) l a = cc in
         let q : p ≡ x.slot = ap (λ (x : CallEffect). x.slot) (sym g) in
@@ -253,7 +271,7 @@ granted_passed s t l a x e =
           is_valid = v;
           is_cleared = c;
           is_permitted = w;
-          slot_is = i ∙ ap some q;
+          slot_is = i ∙ ap Some q;
           fits = f.0;
           effect_is = g ∙ ap (λ (p : Slot). effect_on p (segment_at s p) l a) q;
         }
@@ -279,15 +297,15 @@ records_kept s c = step_has (λ u. u.tenants ≡ s.tenants) s c refl (λ p x. re
 abbrev look_of : Slot → Action
 look_of p = Look (record { slot = p })
 
-looks : (a : Action) (p : Slot) → (call_row a).looked_at ≡ some p → a ≡ look_of p
-looks (Open x) p e = absurd (none-ne-some p e)
-looks (Size x) p e = absurd (none-ne-some p e)
-looks (Post x) p e = absurd (none-ne-some p e)
+looks : (a : Action) (p : Slot) → (call_row a).looked_at ≡ Some p → a ≡ look_of p
+looks (Open x) p e = absurd (none-some p e)
+looks (Size x) p e = absurd (none-some p e)
+looks (Post x) p e = absurd (none-some p e)
 looks (Look x) p e = let q : x.slot ≡ p = cc in ap look_of q
-looks (Close x) p e = absurd (none-ne-some p e)
+looks (Close x) p e = absurd (none-some p e)
 
 -- a look changes nothing
-pub look_next : (s : SegmentTable) (t : TenantId) (l : Label) (a : Action) (p : Slot) → (call_row a).looked_at ≡ some p → (step_of s (call_of t l a)).table ≡ s
+pub look_next : (s : SegmentTable) (t : TenantId) (l : Label) (a : Action) (p : Slot) → (call_row a).looked_at ≡ Some p → (step_of s (call_of t l a)).table ≡ s
 look_next s t l a p e = ap (λ (a : Action). (step_of s (call_of t l a)).table) (looks a p e) ∙ go (decision_on s (call_of t l (look_of p))) refl
   where
     go : (y : Answer CallEffect) → decision_on s (call_of t l (look_of p)) ≡ y → (step_of s (call_of t l (look_of p))).table ≡ s
@@ -298,7 +316,7 @@ look_next s t l a p e = ap (λ (a : Action). (step_of s (call_of t l a)).table) 
     go (refused n detail) f = next_refused s (call_of t l (look_of p)) n detail f
 
 -- what a look answers once it has passed the checks before: the slot, if it is visible
-pub look_access : (s : SegmentTable) (t : TenantId) (l : Label) (a : Action) (p : Slot) → (call_row a).looked_at ≡ some p
+pub look_access : (s : SegmentTable) (t : TenantId) (l : Label) (a : Action) (p : Slot) → (call_row a).looked_at ≡ Some p
     → answered_by (access_of s (call_of t l a)) ≡ require (visible s l p) 13 (granted (shown (segment_at s p)))
 unfolding access_of
 look_access s t l a p e = ap (λ (a : Action). answered_by (access_of s (call_of t l a))) (looks a p e) ∙ go (visible s l p)
@@ -308,22 +326,22 @@ look_access s t l a p e = ap (λ (a : Action). answered_by (access_of s (call_of
     go false = refl
 
 -- a call that doesn't look
-pub looks_at_own : (s : SegmentTable) (t : TenantId) (a : Action) → (call_row a).looked_at ≡ none → LooksAtOwn s t a
-looks_at_own s t a e p f = absurd (none-ne-some p (sym e ∙ f))
+pub looks_at_own : (s : SegmentTable) (t : TenantId) (a : Action) → (call_row a).looked_at ≡ None → LooksAtOwn s t a
+looks_at_own s t a e p f = absurd (none-some p (sym e ∙ f))
 
 -- what a call does: it looks, is refused, or puts what it writes into a slot of its caller's own
 pub data Effect (s : SegmentTable) (t : TenantId) (l : Label) (a : Action) : Type 0 where
-  looking : (p : Slot) → (call_row a).looked_at ≡ some p → Effect s t l a
-  refusing : (n : ℕ) (detail : Option ℕ) → (call_row a).looked_at ≡ none → decision_on s (call_of t l a) ≡ refused n detail → Effect s t l a
-  writing : (x : CallEffect) → (call_row a).looked_at ≡ none → decision_on s (call_of t l a) ≡ granted x → Passed s t l a x → owns s t x.slot ≡ true → Effect s t l a
+  looking : (p : Slot) → (call_row a).looked_at ≡ Some p → Effect s t l a
+  refusing : (n : ℕ) (detail : Option ℕ) → (call_row a).looked_at ≡ None → decision_on s (call_of t l a) ≡ refused n detail → Effect s t l a
+  writing : (x : CallEffect) → (call_row a).looked_at ≡ None → decision_on s (call_of t l a) ≡ granted x → Passed s t l a x → owns s t x.slot ≡ true → Effect s t l a
 
 pub effect : (s : SegmentTable) (t : TenantId) (l : Label) (a : Action) → Effect s t l a
 effect s t l a = go (call_row a).looked_at refl (decision_on s (call_of t l a)) refl
   where
     go : (o : Option Slot) → (call_row a).looked_at ≡ o → (x : Answer CallEffect) → decision_on s (call_of t l a) ≡ x → Effect s t l a
-    go (some p) m x e = looking p m
-    go none m (refused n detail) e = refusing n detail m e
-    go none m (granted x) e =
+    go (Some p) m x e = looking p m
+    go None m (refused n detail) e = refusing n detail m e
+    go None m (granted x) e =
         let r = granted_passed s t l a x e in
         writing x m e r (target_own s t l a x.slot (valid_tenant s t l a r.is_valid) (looks_at_own s t a m) r.is_permitted r.slot_is)
 
@@ -362,7 +380,7 @@ module _ (t : TenantId) (s u : SegmentTable) (k : Alike t s u) where
 
 -- the checks before the slots are looked into end alike: refused with 22, refused with 1, or passed
 pub data Checked (s u : SegmentTable) (c : Call) : Type 0 where
-  both_refused : (n : ℕ) → (n ≡ 22) ⊎ (n ≡ 1) → (step_of s c).answer ≡ refused n none → (step_of u c).answer ≡ refused n none → Checked s u c
+  both_refused : (n : ℕ) → (n ≡ 22) ⊎ (n ≡ 1) → (step_of s c).answer ≡ refused n None → (step_of u c).answer ≡ refused n None → Checked s u c
   both_passed : (step_of s c).answer ≡ answered_by (access_of s c) → (step_of u c).answer ≡ answered_by (access_of u c) → Checked s u c
 
 pub checked : (t : TenantId) (s u : SegmentTable) → Alike t s u → (l : Label) (a : Action) → Checked s u (call_of t l a)

@@ -1,12 +1,12 @@
 -- Document 01, "The board": the tenant calls.
-use Rattle.std.specs.Prelude.{Bool, true, cond, ◌&&◌, ◌≡◌, ℕ, ◌+◌, ◌-◌, leb, ltb}
-use Rattle.std.proofs.Math.Option.{Option, none, some}
-use Rattle.common.specs.Answer.{Answer, granted, refused, require}
+use Rattle.std.specs.Prelude.{Bool, true, ◌&&◌, ◌≡◌, ℕ, ◌+◌, ◌-◌, leb, ltb, Option, None, Some, Result, Ok, Err}
+use Rattle.common.specs.Answer.{Answer, answer_by, granted, refused, require}
+use Rattle.common.specs.declared.errno.Errno.{Errno}
 use Rattle.label.specs.Label
 use Rattle.label.specs.declared.Label.{Label}
 use Rattle.range.specs.Tuple
-use Rattle.segment_table.specs.Replies.{Answers, Grant, Step, done, is_refusal, opened, shown}
-use Rattle.segment_table.specs.Segments.{ceiling_at, clearance_at, pages_at, pages_valid, segment_at, segment_of, slot, slot_total, with_segment, zero_segment}
+use Rattle.segment_table.specs.Replies.{Step}
+use Rattle.segment_table.specs.Segments.{ceiling_at, clearance_at, pages_at, pages_valid, segment_at, segment_of, slot_total, with_segment, zero_segment}
 use Rattle.segment_table.specs.Slots.{filled, lowest_empty, owns, pages_of}
 use Rattle.segment_table.specs.Sound.{admitted, sound}
 use Rattle.segments.specs.declared.Action.{Action}
@@ -14,6 +14,8 @@ use Rattle.segments.specs.declared.Action.TheVariants.{Open, Size, Post, Look, C
 use Rattle.segments.specs.declared.Call.{Call}
 use Rattle.segments.specs.declared.Change.{Change}
 use Rattle.segment_table.specs.declared.CallOutcome.{CallOutcome}
+use Rattle.segment_table.specs.declared.Reply.{Reply as Grant}
+use Rattle.segment_table.specs.declared.Reply.TheVariants.{Done as done, Opened as opened, Shown as shown}
 use Rattle.segment_table.specs.declared.Segment.{Segment}
 use Rattle.segment_table.specs.declared.SegmentTable.{SegmentTable}
 use Rattle.segment_table.specs.declared.Slot.{Slot}
@@ -75,52 +77,52 @@ abbrev pub call_row : Action → CallRow
 call_row (Open x) =
     record {
       numbers_valid = pages_valid x.pages;
-      named = none;
+      named = None;
       permitted = λ s t l. true;
       pages_fit = λ s t. leb (pages_of s t + x.pages) (ceiling_at s t);
       written = λ held l. segment_of l x.pages 0;
       answered = λ p held. opened p;
-      looked_at = none;
+      looked_at = None;
     }
 call_row (Size x) =
     record {
       numbers_valid = slot_valid x.slot && pages_valid x.pages;
-      named = some x.slot;
+      named = Some x.slot;
       permitted = λ s t l. writable s t l x.slot;
       pages_fit = λ s t. leb (pages_of s t - pages_at s x.slot + x.pages) (ceiling_at s t);
       written = λ held l. segment_of held.label x.pages held.version;
       answered = λ p held. done;
-      looked_at = none;
+      looked_at = None;
     }
 call_row (Post x) =
     record {
       numbers_valid = slot_valid x.slot;
-      named = some x.slot;
+      named = Some x.slot;
       permitted = λ s t l. writable s t l x.slot;
       pages_fit = λ s t. true;
       written = λ held l. segment_of held.label held.pages x.version;
       answered = λ p held. done;
-      looked_at = none;
+      looked_at = None;
     }
 call_row (Look x) =
     record {
       numbers_valid = slot_valid x.slot;
-      named = some x.slot;
+      named = Some x.slot;
       permitted = λ s t l. visible s l x.slot;
       pages_fit = λ s t. true;
       written = λ held l. held;
       answered = λ p held. shown held;
-      looked_at = some x.slot;
+      looked_at = Some x.slot;
     }
 call_row (Close x) =
     record {
       numbers_valid = slot_valid x.slot;
-      named = some x.slot;
+      named = Some x.slot;
       permitted = λ s t l. writable s t l x.slot;
       pages_fit = λ s t. true;
       written = λ held l. zero_segment;
       answered = λ p held. done;
-      looked_at = none;
+      looked_at = None;
     }
 
 -- ---- the calls
@@ -135,8 +137,8 @@ cleared s c = Tuple.contains_of (clearance_at s c.tenant) c.label
 
 -- the slot that a call is about: the one that it names, else the lowest empty one of its tenant's own
 abbrev pub slot_for : SegmentTable → TenantId → Option Slot → Option Slot
-slot_for s t none = lowest_empty s t
-slot_for s t (some p) = some p
+slot_for s t None = lowest_empty s t
+slot_for s t (Some p) = Some p
 
 -- what a grant does: the slot that it is about gets the segment; and what it answers
 pub record CallEffect : Type 0 where
@@ -149,8 +151,8 @@ effect_on p held l a = record { slot = p; segment = (call_row a).written held l;
 
 -- a check that there is a slot: what follows of the slot, else the refusal n
 abbrev pub require_slot : {A : Type 0} → Option Slot → ℕ → (Slot → Answer A) → Answer A
-require_slot none n rest = refused n none
-require_slot (some p) n rest = rest p
+require_slot None n rest = refused n None
+require_slot (Some p) n rest = rest p
 
 -- the checks that look into slots, and the grant
 unfoldable pub access_of : SegmentTable → Call → Answer CallEffect
@@ -176,21 +178,15 @@ table_by s (refused n detail) = s
 unfoldable pub step_of : SegmentTable → Call → Step
 step_of s c = record { table = table_by s (decision_on s c); answer = answered_by (decision_on s c) }
 
--- what a change has beside an answer: the slot that a grant writes and what it gets; zeros beside a refusal
-abbrev pub changed_slot : Answer CallEffect → Slot
-changed_slot (granted e) = e.slot
-changed_slot (refused n detail) = slot 0
+-- what the code's change does
+abbrev pub effect_of : Change → CallEffect
+effect_of x = record { slot = x.slot; segment = x.segment; grant = x.reply }
 
-abbrev pub changed_segment : Answer CallEffect → Segment
-changed_segment (granted e) = e.segment
-changed_segment (refused n detail) = zero_segment
+-- the code's decision is what the call does, whole
+abbrev pub Decides : SegmentTable → Call → Result Change Errno → Type 0
+Decides s c x = answer_by effect_of x ≡ decision_on s c
 
--- the code's change is what the call does, whole
-pub record Decides (s : SegmentTable) (c : Call) (x : Change) : Type 0 where
-  pub slot : x.slot ≡ changed_slot (decision_on s c)
-  pub segment : x.segment ≡ changed_segment (decision_on s c)
-  pub answer : Answers x.answer (answered_by (decision_on s c))
-
--- the outcome of a change: the slot gets the segment, and a refusal leaves the state as it was
-abbrev pub applied : SegmentTable → Change → CallOutcome
-applied s c = record { table = cond (is_refusal c.answer.reply) s (with_segment s c.slot c.segment); answer = c.answer }
+-- the outcome of a decision: the slot gets the segment, and a refusal leaves the state as it was
+abbrev pub applied : SegmentTable → Result Change Errno → CallOutcome
+applied s (Ok c) = record { table = with_segment s c.slot c.segment; answer = Ok c.reply }
+applied s (Err e) = record { table = s; answer = Err e }

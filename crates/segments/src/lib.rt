@@ -2,10 +2,9 @@
 #![tactic(auto)]
 
 pub mod calls;
-mod tested;
 
 use label::Label;
-use segment_table::{CallAnswer, Segment, Slot, TenantId};
+use segment_table::{Reply, Segment, Slot, TenantId};
 
 // ---- the tenant calls, each with its numbers
 
@@ -53,10 +52,10 @@ pub struct Call {
     pub action: Action,
 }
 
-// What a call changes, and its answer: the slot gets the segment. Beside a refusal both are zeros and nothing changes.
+// What a granted call does: the slot gets the segment, and the reply is answered.
 #[derive(Clone, Copy)]
 pub struct Change {
     pub slot: Slot,
     pub segment: Segment,
-    pub answer: CallAnswer,
+    pub reply: Reply,
 }

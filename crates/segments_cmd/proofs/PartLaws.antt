@@ -16,10 +16,9 @@ use Rattle.octets.proofs.ByteLaws.{put_nil}
 use Rattle.hexline.specs.Line.{label_line_of}
 use Rattle.hexline.proofs.KindLaws.{label_line_length}
 use Rattle.label.specs.declared.Label.{Label}
-use Rattle.common.specs.Answer.{Answer, granted, refused, value_or}
-use Rattle.common.specs.Buffer.{WrittenTo, buffer_of, length_of, overlay, written_of}
-use Rattle.common.specs.declared.answer.Written.{Written}
-use Rattle.common.specs.declared.answer.Written.TheVariants.{Length, Refused}
+use Rattle.common.specs.Answer.{Answer, answer_of, granted, refused, value_or}
+use Rattle.common.specs.Buffer.{WrittenTo, buffer_of, length_of, overlay}
+use Rattle.std.specs.Prelude.{Result, Ok, Err}
 use Rattle.common.specs.declared.errno.Errno.{Errno}
 use Rattle.segments_cmd.specs.Answer.{line_text}
 use Rattle.segments_cmd.specs.Internal.Sizes.{hexline_bytes}
@@ -59,14 +58,14 @@ module _ (out : List ℕ) (at : ℕ) (within : at ≤ length out) where
   part_put (granted line) h = rw (fits_in line h, part_is) (overlaid line)
   part_put (refused n detail) h = put_same at (length out - at) out ∙ sym (put_nil out at)
 
-module _ (out : List ℕ) (at : ℕ) (l : Label) (room : at + hexline_bytes ≤ length out) (w : Written) (ys : List ℕ) (e : WrittenTo w (label_line_of l) (mid_of at (length out - at) out) ys) where
-  written_length : value_or 0 (written_of w) ≡ length (line_text l)
+module _ (out : List ℕ) (at : ℕ) (l : Label) (room : at + hexline_bytes ≤ length out) (w : Result ℕ Errno) (ys : List ℕ) (e : WrittenTo w (label_line_of l) (mid_of at (length out - at) out) ys) where
+  written_length : value_or 0 (answer_of w) ≡ length (line_text l)
   written_length = let b = line_bytes_lem l in ap (value_or 0) e.answer ∙ part_length out at (omega arith) (label_line_of l) (omega arith)
 
-  pub written_bytes : value_or 0 (written_of w) ≤ hexline_bytes
+  pub written_bytes : value_or 0 (answer_of w) ≤ hexline_bytes
   written_bytes = rw written_length (line_bytes_lem l)
 
-  line_put : (n : ℕ) → value_or 0 (written_of w) ≡ n → PutWithin (at + hexline_bytes) out at (line_text l) (at + n) (put_mid at (length out - at) out ys)
+  line_put : (n : ℕ) → value_or 0 (answer_of w) ≡ n → PutWithin (at + hexline_bytes) out at (line_text l) (at + n) (put_mid at (length out - at) out ys)
   line_put n h =
       let b = line_bytes_lem l in
       let k = written_length in
@@ -75,8 +74,8 @@ module _ (out : List ℕ) (at : ℕ) (l : Label) (room : at + hexline_bytes ≤ 
         within = omega arith;
       }
 
-  pub line_written : (n : ℕ) → w ≡ Length n → PutWithin (at + hexline_bytes) out at (line_text l) (at + n) (put_mid at (length out - at) out ys)
+  pub line_written : (n : ℕ) → w ≡ Ok n → PutWithin (at + hexline_bytes) out at (line_text l) (at + n) (put_mid at (length out - at) out ys)
   line_written n h = line_put n (rw h)
 
-  pub line_left : (q : Errno) → w ≡ Refused q → PutWithin (at + hexline_bytes) out at (line_text l) at (put_mid at (length out - at) out ys)
+  pub line_left : (q : Errno) → w ≡ Err q → PutWithin (at + hexline_bytes) out at (line_text l) at (put_mid at (length out - at) out ys)
   line_left q h = rw (add-zero) at (line_put 0 (rw h))

@@ -1,5 +1,5 @@
 -- The state as text, a line at a time.
-use Rattle.std.specs.Prelude.{List, [], ◌∷◌, ◌++◌, ℕ, ◌+◌}
+use Rattle.std.specs.Prelude.{List, [], ◌∷◌, ◌++◌, ℕ}
 use Rattle.octets.specs.Bytes.{ascii}
 use Rattle.console.specs.Format.{field}
 use Rattle.label.specs.Words.{members_of}

@@ -4,13 +4,14 @@ ghost use Rattle.octets.specs.Bytes.{Appended};
 ghost use Rattle.console.specs.Format.{field};
 ghost use Rattle.console.specs.Internal.Numbers.{number_bytes};
 ghost use Rattle.octets.specs.Internal.Put.{PutWithin};
-ghost use Rattle.segments_cmd.specs.Answer.{line_text, place_text, reply_text, shown_numbers, shown_text};
+ghost use Rattle.segments_cmd.specs.Answer.{answer_text, grant_text, line_text, place_text, shown_numbers, shown_text};
 ghost use Rattle.segments_cmd.specs.Internal.Sizes.{answer_bytes, hexline_bytes, numbers_bytes};
 
-use common::answer::Written;
+use common::errno::Errno;
 use console::format;
 use label::Label;
-use segment_table::{CallAnswer, Reply, Shown, Slot};
+use segment_table::{Reply, Segment, Slot};
+use std::io;
 
 // The size of the buffer for an answer.
 const ANSWER_BYTES: usize = 512;
@@ -32,7 +33,7 @@ fn put_place(out: &mut [u8], slot: Slot) -> usize
 }
 
 // The numbers that a look shows.
-fn put_numbers(out: &mut [u8], x: Shown) -> usize
+fn put_numbers(out: &mut [u8], x: Segment) -> usize
     requires { answer_bytes ≤ length out.old }
     ensures { PutWithin numbers_bytes out.old 0 (shown_numbers x) result out.new }
 {
@@ -46,44 +47,50 @@ fn put_label(out: &mut [u8], at: usize, label: Label) -> usize
     requires { at + hexline_bytes ≤ length out.old }
     ensures { PutWithin (at + hexline_bytes) out.old at (line_text label) result out.new }
 {
-    let written = hexline::write_label(label, &mut out[at..]);
-    match written {
-        Written::Length(n) => at + n,
-        Written::Refused(_) => at,
+    match hexline::write_label(label, &mut out[at..]) {
+        Ok(n) => at + n,
+        Err(_) => at,
     }
 }
 
-fn put_shown(out: &mut [u8], x: Shown, label: Label) -> usize
+fn put_shown(out: &mut [u8], x: Segment) -> usize
     requires { answer_bytes ≤ length out.old }
-    ensures { PutWithin answer_bytes out.old 0 (shown_text x label) result out.new }
+    ensures { PutWithin answer_bytes out.old 0 (shown_text x) result out.new }
 {
     let at = put_numbers(out, x);
-    put_label(out, at, label)
+    put_label(out, at, x.label)
 }
 
-// Puts a reply at the front of the buffer. Every grant is shown to fit; a refusal's line is written whole or not at all.
-fn put_reply(out: &mut [u8], reply: Reply, label: Label) -> usize
+// Puts what is granted at the front of the buffer, where it is shown to fit.
+fn put_grant(out: &mut [u8], reply: Reply) -> usize
     requires { answer_bytes ≤ length out.old }
-    ensures { Appended out.old 0 (reply_text reply label) result out.new }
+    ensures { Appended out.old 0 (grant_text reply) result out.new }
 {
     match reply {
         Reply::Done => octets::append(out, 0, b"ok\n"),
         Reply::Opened(slot) => put_place(out, slot),
-        Reply::Shown(x) => put_shown(out, x, label),
-        Reply::Refused(e) => format::append_error(out, 0, e),
+        Reply::Shown(x) => put_shown(out, x),
+    }
+}
+
+// Puts an answer at the front of the buffer. A refusal's line is written whole or not at all.
+fn put_answer(out: &mut [u8], answer: Result<Reply, Errno>) -> usize
+    requires { answer_bytes ≤ length out.old }
+    ensures { Appended out.old 0 (answer_text answer) result out.new }
+{
+    match answer {
+        Ok(reply) => put_grant(out, reply),
+        Err(e) => format::append_error(out, 0, e),
     }
 }
 
 // Prints an answer. A write that fails is told on the standard error, and the requests go on.
 pub(crate) fn print_bytes(rt: &(impl Print + Eprint), bytes: &[u8]) {
-    if rt.write_all(bytes).is_err() {
-        let _ = rt.eprintln("segments_cmd: can't write to the standard output");
-    }
+    input::print_bytes(&mut io::writer(rt), rt, "segments_cmd", bytes);
 }
 
-pub(crate) fn print(rt: &(impl Print + Eprint), a: CallAnswer) {
+pub(crate) fn print(rt: &(impl Print + Eprint), answer: Result<Reply, Errno>) {
     let mut out = [0u8; ANSWER_BYTES];
-    let reply = a.reply;
-    let n = put_reply(&mut out, reply, a.label);
+    let n = put_answer(&mut out, answer);
     print_bytes(rt, octets::front(&out, n));
 }

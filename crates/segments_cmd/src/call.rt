@@ -3,9 +3,8 @@ ghost use Rattle.segment_table.specs.Operator.{make_of};
 ghost use Rattle.segment_table.specs.Replies.{Results};
 ghost use Rattle.segments_cmd.specs.Session.{admit_on, call_on, invalid_step, made_in};
 
-use common::answer::granted;
 use common::errno::Errno;
-use segment_table::{CallAnswer, CallOutcome, Reply, SegmentTable, TenantId, operator};
+use segment_table::{CallOutcome, SegmentTable, TenantId, operator};
 use segments::{Action, Call, calls};
 
 // The outcome of a request that makes no call.
@@ -14,10 +13,7 @@ pub(crate) fn refused(table: SegmentTable) -> CallOutcome
 {
     CallOutcome {
         table,
-        answer: CallAnswer {
-            reply: Reply::Refused(Errno::Invalid),
-            label: label::zero(),
-        },
+        answer: Err(Errno::Invalid),
     }
 }
 
@@ -26,23 +22,22 @@ pub(crate) fn make(table: SegmentTable, pool: u64) -> CallOutcome
     ensures { Results result (made_in table (make_of pool)) }
 {
     let made = operator::make(pool);
-    let answer = made.answer;
-    let reply = answer.reply;
-    match reply {
-        Reply::Refused(_) => CallOutcome { table, answer },
-        _ => made,
+    match made.answer {
+        Ok(_) => made,
+        Err(e) => CallOutcome {
+            table,
+            answer: Err(e),
+        },
     }
 }
 
 pub(crate) fn admit(table: SegmentTable, tenant: TenantId, ceiling: u64, line: &[u8]) -> CallOutcome
     ensures { Results result (admit_on table tenant ceiling line.now) }
 {
-    let read = hexline::read_tuple(line);
-    let outcome = read.outcome;
-    if granted(outcome) {
-        return operator::admit(table, tenant, ceiling, read.tuple);
+    match hexline::read_tuple(line) {
+        Ok(clearance) => operator::admit(table, tenant, ceiling, clearance),
+        Err(_) => refused(table),
     }
-    refused(table)
 }
 
 pub(crate) fn of_tenant(
@@ -53,18 +48,15 @@ pub(crate) fn of_tenant(
 ) -> CallOutcome
     ensures { Results result (call_on table tenant action line.now) }
 {
-    let read = hexline::read_label(line);
-    let outcome = read.outcome;
-    let label = read.label;
-    if granted(outcome) {
-        return calls::step(
+    match hexline::read_label(line) {
+        Ok(label) => calls::step(
             table,
             Call {
                 tenant,
                 label,
                 action,
             },
-        );
+        ),
+        Err(_) => refused(table),
     }
-    refused(table)
 }

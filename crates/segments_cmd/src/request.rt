@@ -8,8 +8,6 @@ use segments::{Action, CloseCall, LookCall, OpenCall, PostCall, SizeCall};
 
 #[derive(Clone, Copy)]
 pub(crate) enum Request {
-    // A bad line, an unknown word, or numbers of the wrong count or form.
-    Invalid,
     Make(u64),
     // The tenant and its ceiling. The clearance is the operand.
     Admit(TenantId, u64),
@@ -20,89 +18,84 @@ pub(crate) enum Request {
 }
 
 // The command of that word with no number.
-fn of_none(word: &[u8]) -> Request
+fn of_none(word: &[u8]) -> Option<Request>
     ensures { result ≡ of_none word.now }
 {
     if octets::same(word, b"show") {
-        return Request::Show;
+        return Some(Request::Show);
     }
-    Request::Invalid
+    None
 }
 
 // The command of that word with one number.
-fn of_one(word: &[u8], n: u64) -> Request
+fn of_one(word: &[u8], n: u64) -> Option<Request>
     ensures { result ≡ of_one word.now n }
 {
     if octets::same(word, b"make") {
-        return Request::Make(n);
+        return Some(Request::Make(n));
     }
-    Request::Invalid
+    None
 }
 
 // The command of that word with a tenant and one number more.
-fn of_two(word: &[u8], tenant: TenantId, n: u64) -> Request
+fn of_two(word: &[u8], tenant: TenantId, n: u64) -> Option<Request>
     ensures { result ≡ of_two word.now tenant n }
 {
     if octets::same(word, b"admit") {
-        return Request::Admit(tenant, n);
+        return Some(Request::Admit(tenant, n));
     }
     if octets::same(word, b"ceiling") {
-        return Request::SetCeiling(tenant, n);
+        return Some(Request::SetCeiling(tenant, n));
     }
     if octets::same(word, b"open") {
-        return Request::Call(tenant, Action::Open(OpenCall { pages: n }));
+        return Some(Request::Call(tenant, Action::Open(OpenCall { pages: n })));
     }
     if octets::same(word, b"look") {
-        return Request::Call(tenant, Action::Look(LookCall { slot: Slot(n) }));
+        return Some(Request::Call(tenant, Action::Look(LookCall { slot: Slot(n) })));
     }
     if octets::same(word, b"close") {
-        return Request::Call(tenant, Action::Close(CloseCall { slot: Slot(n) }));
+        return Some(Request::Call(tenant, Action::Close(CloseCall { slot: Slot(n) })));
     }
-    Request::Invalid
+    None
 }
 
 // The command of that word with a tenant, a slot and one number more.
-fn of_three(word: &[u8], tenant: TenantId, slot: Slot, n: u64) -> Request
+fn of_three(word: &[u8], tenant: TenantId, slot: Slot, n: u64) -> Option<Request>
     ensures { result ≡ of_three word.now tenant slot n }
 {
     if octets::same(word, b"size") {
-        return Request::Call(tenant, Action::Size(SizeCall { slot, pages: n }));
+        return Some(Request::Call(tenant, Action::Size(SizeCall { slot, pages: n })));
     }
     if octets::same(word, b"post") {
-        return Request::Call(tenant, Action::Post(PostCall { slot, version: n }));
+        return Some(Request::Call(tenant, Action::Post(PostCall { slot, version: n })));
     }
-    Request::Invalid
+    None
 }
 
-pub(crate) fn of_line(line: &[u8]) -> Request
+// None where the line is bad, the word unknown, or the numbers of the wrong count or form.
+pub(crate) fn of_line(line: &[u8]) -> Option<Request>
     ensures { result ≡ request_of_line line.now }
 {
-    let c = command::parse(line);
-    if !c.valid {
-        return Request::Invalid;
-    }
+    let c = command::parse(line)?;
     let word = octets::front(line, c.word);
     let numbers = c.numbers;
-    let count = c.count;
-    match count {
+    match c.count {
         0 => of_none(word),
         1 => of_one(word, numbers[0]),
         2 => of_two(word, TenantId(numbers[0]), numbers[1]),
         3 => of_three(word, TenantId(numbers[0]), Slot(numbers[1]), numbers[2]),
-        _ => Request::Invalid,
+        _ => None,
     }
 }
 
-// Whether a request has an operand line.
-pub(crate) fn takes_operand(r: Request) -> bool
-    ensures { result ≡ takes_operand r }
-{
-    match r {
-        Request::Invalid => false,
-        Request::Make(_) => false,
-        Request::Admit(_, _) => true,
-        Request::SetCeiling(_, _) => false,
-        Request::Call(_, _) => true,
-        Request::Show => false,
+impl Request {
+    // Whether a request has an operand line.
+    pub(crate) fn takes_operand(self) -> bool
+        ensures { result ≡ takes_operand self }
+    {
+        match self {
+            Request::Admit(_, _) | Request::Call(_, _) => true,
+            Request::Make(_) | Request::SetCeiling(_, _) | Request::Show => false,
+        }
     }
 }

@@ -12,24 +12,20 @@ use segment_table::{CallOutcome, SegmentTable, operator, state};
 #[derive(Clone, Copy)]
 pub(crate) struct Session {
     pub table: SegmentTable,
-    pub request: Request,
+    pub due: Option<Request>,
 }
 
 fn between(table: SegmentTable) -> Session
     ensures { result ≡ between table }
 {
-    Session {
-        table,
-        request: Request::Invalid,
-    }
+    Session { table, due: None }
 }
 
 // The state of zeros, which is what a refused make hands back.
 pub(crate) fn start() -> Session
     ensures { result ≡ between (empty_table 0) }
 {
-    let refused = operator::make(0);
-    between(refused.table)
+    between(operator::make(0).table)
 }
 
 // Prints what a call answers. The state that it leaves takes the old one's place.
@@ -43,27 +39,35 @@ fn reply(rt: &(impl Print + Eprint), o: CallOutcome) -> Session
 fn show(rt: &(impl Print + Eprint), table: SegmentTable) -> Session
     ensures { result ≡ between table }
 {
-    if state::sound(table) {
-        show::print(rt, table);
+    if state::sound(&table) {
+        show::print(rt, &table);
         return between(table);
     }
     reply(rt, call::refused(table))
 }
 
-// Answers a request, with its operand line if it has one.
-fn respond(rt: &(impl Print + Eprint), table: SegmentTable, r: Request, line: &[u8]) -> Session
+// Answers a request, with its operand line if it has one, or refuses a line that asks for nothing that there is.
+fn respond(
+    rt: &(impl Print + Eprint),
+    table: SegmentTable,
+    r: Option<Request>,
+    line: &[u8],
+) -> Session
     ensures { result ≡ between (table_after table r line.now) }
 {
     match r {
-        Request::Invalid => reply(rt, call::refused(table)),
-        Request::Make(pool) => reply(rt, call::make(table, pool)),
-        Request::Admit(tenant, ceiling) => reply(rt, call::admit(table, tenant, ceiling, line)),
-        Request::SetCeiling(tenant, ceiling) => reply(
-            rt,
-            operator::set_ceiling(table, tenant, ceiling),
-        ),
-        Request::Call(tenant, action) => reply(rt, call::of_tenant(table, tenant, action, line)),
-        Request::Show => show(rt, table),
+        None => reply(rt, call::refused(table)),
+        Some(Request::Make(pool)) => reply(rt, call::make(table, pool)),
+        Some(Request::Admit(tenant, ceiling)) => {
+            reply(rt, call::admit(table, tenant, ceiling, line))
+        }
+        Some(Request::SetCeiling(tenant, ceiling)) => {
+            reply(rt, operator::set_ceiling(table, tenant, ceiling))
+        }
+        Some(Request::Call(tenant, action)) => {
+            reply(rt, call::of_tenant(table, tenant, action, line))
+        }
+        Some(Request::Show) => show(rt, table),
     }
 }
 
@@ -74,27 +78,25 @@ fn take_command(rt: &(impl Print + Eprint), table: SegmentTable, line: &[u8]) ->
     if command::is_skipped(line) {
         return between(table);
     }
-    let r = request::of_line(line);
-    if request::takes_operand(r) {
-        return Session { table, request: r };
+    let due = request::of_line(line);
+    match due {
+        Some(r) if r.takes_operand() => Session { table, due },
+        _ => respond(rt, table, due, line),
     }
-    respond(rt, table, r, line)
 }
 
 pub(crate) fn take_line(rt: &(impl Print + Eprint), s: Session, line: &[u8]) -> Session
     ensures { result ≡ after_line s line.now }
 {
-    let r = s.request;
-    if request::takes_operand(r) {
-        return respond(rt, s.table, r, line);
+    if s.due.is_some() {
+        return respond(rt, s.table, s.due, line);
     }
     take_command(rt, s.table, line)
 }
 
 // The end of the input: a request that lacks its operand line is refused, and a read that failed is told.
 pub(crate) fn finish(rt: &(impl Print + Eprint), s: Session, failed: bool) {
-    let r = s.request;
-    if request::takes_operand(r) {
+    if s.due.is_some() {
         reply(rt, call::refused(s.table));
     }
     if failed {

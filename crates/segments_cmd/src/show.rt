@@ -8,13 +8,9 @@ ghost use Rattle.segments_cmd.specs.Show.{category_numbers_text, label_numbers_t
 ghost use Rattle.segments_cmd.specs.Internal.Sizes.{categories_bytes, label_text_size, line_bytes, segment_bytes};
 
 use crate::answer::{print_bytes, put_field};
-use common::answer::Number;
-use label::words::{FoundCategory, WORDS};
+use label::words::WORDS;
 use label::{Label, words};
-use segment_table::{SLOTS, Segment, SegmentTable, TENANTS, TenantId, state};
-
-// How many categories there can be.
-const CATEGORIES: u64 = (64 * WORDS) as u64;
+use segment_table::{Segment, SegmentTable, TENANTS, TenantId, state};
 
 // The longest line is a slot's: five words and four numbers, then a blank and a number for each category.
 const LINE_BYTES: usize = 128 + 21 * 64 * WORDS;
@@ -25,11 +21,8 @@ fn put_members(out: &mut [u8], at: usize, categories: [u64; WORDS]) -> usize
     ensures { PutWithin (at + categories_bytes) out.old at (list_text (members_of categories)) result out.new }
 {
     let mut end = at;
-    let mut from: u64 = 0;
-    while from < CATEGORIES {
-        let FoundCategory::At(c) = words::next(categories, from) else {
-            return end;
-        };
+    let mut from = 0;
+    while let Some(c) = words::next(categories, from) {
         end = put_field(out, end, b" ", c);
         from = c + 1;
     }
@@ -105,54 +98,39 @@ fn print_slot(rt: &(impl Print + Eprint), out: &mut [u8], slot: u64, x: Segment)
     }
 }
 
-fn print_slots(rt: &(impl Print + Eprint), out: &mut [u8], s: SegmentTable)
-    requires { line_bytes ≤ length out.old }
-{
-    let mut i = 0;
-    while i < SLOTS {
-        print_slot(rt, out, i as u64, s.segments[i]);
-        i += 1;
-    }
-}
-
 // Prints a tenant that is admitted.
-fn print_tenant(rt: &(impl Print + Eprint), out: &mut [u8], s: SegmentTable, tenant: usize)
+fn print_tenant(rt: &(impl Print + Eprint), out: &mut [u8], s: &SegmentTable, tenant: usize)
     requires line_bytes_in_bounds { line_bytes ≤ length out.old }
     requires tenant_lt_tenant_total { tenant < tenant_total }
 {
-    let ceiling = s.tenants[tenant].ceiling;
-    let used = state::pages_in_use(s, TenantId(tenant as u64));
-    match used {
-        Number::Value(pages) => {
-            let n = put_tenant(out, tenant as u64, ceiling, pages);
-            print_bytes(rt, octets::front(out, n));
-        }
-        Number::Refused(_) => {}
+    if let Ok(pages) = state::pages_in_use(s, TenantId(tenant as u64)) {
+        let n = put_tenant(out, tenant as u64, s.tenants[tenant].ceiling, pages);
+        print_bytes(rt, octets::front(out, n));
     }
 }
 
-fn print_tenants(rt: &(impl Print + Eprint), out: &mut [u8], s: SegmentTable)
+fn print_tenants(rt: &(impl Print + Eprint), out: &mut [u8], s: &SegmentTable)
     requires { line_bytes ≤ length out.old }
 {
-    let mut i = 0;
-    while i < TENANTS {
-        print_tenant(rt, out, s, i);
-        i += 1;
+    for tenant in 0..TENANTS {
+        print_tenant(rt, out, s, tenant);
     }
 }
 
-fn print_lines(rt: &(impl Print + Eprint), out: &mut [u8], s: SegmentTable)
+fn print_slots(rt: &(impl Print + Eprint), out: &mut [u8], s: &SegmentTable)
     requires { line_bytes ≤ length out.old }
 {
-    let n = put_pool(out, s.pool);
-    print_bytes(rt, octets::front(out, n));
-    print_tenants(rt, out, s);
-    print_slots(rt, out, s);
-    print_bytes(rt, b"end\n");
+    for (slot, x) in s.segments.iter().enumerate() {
+        print_slot(rt, out, slot as u64, *x);
+    }
 }
 
 // Prints a state that is sound.
-pub(crate) fn print(rt: &(impl Print + Eprint), s: SegmentTable) {
+pub(crate) fn print(rt: &(impl Print + Eprint), s: &SegmentTable) {
     let mut out = [0u8; LINE_BYTES];
-    print_lines(rt, &mut out, s);
+    let n = put_pool(&mut out, s.pool);
+    print_bytes(rt, octets::front(&out, n));
+    print_tenants(rt, &mut out, s);
+    print_slots(rt, &mut out, s);
+    print_bytes(rt, b"end\n");
 }

@@ -7,6 +7,5 @@ pub mod NameLaws
 pub mod RoundLaws
 pub mod EndsLaws
 pub mod SightLaws
-pub mod PlainLaws
 pub mod TextLaws
 pub mod TextExamples

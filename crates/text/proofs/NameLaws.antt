@@ -3,7 +3,7 @@
 use mathlib.Core.Bool.{Bool, true, false, cond, ◌&&◌, true≢false}
 use mathlib.Core.List.{List}
 use mathlib.Core.Logic.{⊎_elim}
-use mathlib.Core.Option.{Option, none, some}
+use Rattle.std.specs.Prelude.{Option, None, Some, is_some}
 use mathlib.Core.Path.{◌≡◌, refl, sym, ap, ◌∙◌}
 use Prim.Native.Nat.{ℕ, ◌<◌}
 use native.Mathlib.Omega.{arith}
@@ -29,7 +29,7 @@ use Rattle.alias.specs.Lines.{entry_at}
 use Rattle.alias.specs.Lookup.{called_of, find_of, last_entry_for, same_value, stands_for}
 use Rattle.alias.proofs.TableLaws.{Good, called_once}
 use Rattle.text.specs.Read.{category_by, category_named, entry_named, found_entry, hierarchy_by, hierarchy_named, label_by, label_named, no_categories}
-use Rattle.text.specs.Write.{is_some, name_for, name_or, named, written_name}
+use Rattle.text.specs.Write.{name_for, name_or, named, written_name}
 use Rattle.text.specs.declared.Variant.{Variant}
 use Rattle.text.specs.declared.Variant.TheVariants.{Names, Abbreviations}
 
@@ -38,19 +38,19 @@ use Rattle.text.specs.declared.Variant.TheVariants.{Names, Abbreviations}
 pub stands_hierarchy : (h : ℕ) (l m : Label) (v : Value) → same_value v m (Hierarchy h) l ≡ true → v ≡ Hierarchy h
 unfolding same_value
 stands_hierarchy h l m (Hierarchy g) e = ap Hierarchy (eqb-true g h e)
-stands_hierarchy h l m (Category c) e = absurd (true≢false (sym e))
-stands_hierarchy h l m WholeLabel e = absurd (true≢false (sym e))
+stands_hierarchy h l m (Category c) e = cc
+stands_hierarchy h l m WholeLabel e = cc
 
 pub stands_category : (c : ℕ) (l m : Label) (v : Value) → same_value v m (Category c) l ≡ true → v ≡ Category c
 unfolding same_value
-stands_category c l m (Hierarchy g) e = absurd (true≢false (sym e))
+stands_category c l m (Hierarchy g) e = cc
 stands_category c l m (Category d) e = ap Category (eqb-true d c e)
-stands_category c l m WholeLabel e = absurd (true≢false (sym e))
+stands_category c l m WholeLabel e = cc
 
 pub stands_label : (l m : Label) (v : Value) → same_value v m WholeLabel l ≡ true → (v ≡ WholeLabel) × (Label.equal_of m l ≡ true)
 unfolding same_value
-stands_label l m (Hierarchy g) e = absurd (true≢false (sym e))
-stands_label l m (Category d) e = absurd (true≢false (sym e))
+stands_label l m (Hierarchy g) e = cc
+stands_label l m (Category d) e = cc
 stands_label l m WholeLabel e = (refl, e)
 
 -- ---- a name that is written is a name of its entry, and made of name bytes
@@ -78,19 +78,19 @@ called_letters e text v c k l =
 module _ (es : List Entry) (good : Good es) where
   -- ---- looking a name up
 
-  find_called : (text : List ℕ) (k : ℕ) → k < length es → called_of (entry_at es k) text ≡ true → find_of es text ≡ some k
+  find_called : (text : List ℕ) (k : ℕ) → k < length es → called_of (entry_at es k) text ≡ true → find_of es text ≡ Some k
   unfolding find_of
   find_called text k l c = go (first_from f 0 (length es)) refl
     where
       f : ℕ → Bool
       f j = called_of (entry_at es j) text
 
-      go : (o : Option ℕ) → first_from f 0 (length es) ≡ o → first_from f 0 (length es) ≡ some k
-      go none e = absurd (true≢false (sym c ∙ first_none f 0 (length es) e k (omega arith) (omega arith)))
-      go (some j) e =
+      go : (o : Option ℕ) → first_from f 0 (length es) ≡ o → first_from f 0 (length es) ≡ Some k
+      go None e = absurd (true≢false (sym c ∙ first_none f 0 (length es) e k (omega arith) (omega arith)))
+      go (Some j) e =
           let r = first_least f 0 (length es) j e in
           let b = r.1 in
-          e ∙ ap some (called_once es good text j k (omega arith) l r.0.there c)
+          e ∙ ap Some (called_once es good text j k (omega arith) l r.0.there c)
 
   -- the last entry for a value
   record Last (value : Value) (l : Label) (v : Variant) : Type 0 where
@@ -105,8 +105,8 @@ module _ (es : List Entry) (good : Good es) where
   last_entry value l v e = go (last_entry_for es value l) refl e
     where
       go : (o : Option ℕ) → last_entry_for es value l ≡ o → is_some o ≡ true → Last value l v
-      go none q h = absurd (true≢false (sym h))
-      go (some k) q h =
+      go None q h = cc
+      go (Some k) q h =
           let r = last_holds (λ j. stands_for value l (entry_at es j)) (length es) k q in
           let t : name_for es v value l ≡ written_name v (entry_at es k) = ap (name_or v es) q in
           record {

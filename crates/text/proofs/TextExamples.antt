@@ -1,7 +1,7 @@
 -- Texts, and tables and texts with a fault, computed from the definitions.
 use mathlib.Core.Bool.{true, false}
 use mathlib.Core.List.{List, [], ◌∷◌, ◌++◌}
-use mathlib.Core.Option.{none, some}
+use Rattle.std.specs.Prelude.{None, Some}
 use mathlib.Core.Path.{◌≡◌, refl}
 use Prim.Native.Nat.{ℕ}
 use Rattle.common.specs.Answer.{granted, refused}
@@ -55,8 +55,8 @@ low_east_text = ascii "low:east"
 -- ---- one claim about tables, and one about texts
 
 -- the whole table is good; the later of two repeats is bad, a line that does not end, and the one after the last where the table is cut off
-tables : (check_table false table ≡ granted (indexed_of (lines_of table))) × (check_table false (table ++ low_line) ≡ refused 22 (some 2))
-    × (check_table false (low_line ++ ascii "0") ≡ refused 22 (some 1)) × (check_table true table ≡ refused 22 (some 2))
+tables : (check_table false table ≡ granted (indexed_of (lines_of table))) × (check_table false (table ++ low_line) ≡ refused 22 (Some 2))
+    × (check_table false (low_line ++ ascii "0") ≡ refused 22 (Some 1)) × (check_table true table ≡ refused 22 (Some 2))
 unfolding check_table judged_lines bad_at repeats_at shares_of called_of same_bytes lines_of entries_of standing_in first_from every tabulate contents_of entry_form body_form entry_from layout_of value_size value_by_class label_from text_from text_byte entries.valid_of value_ok name_of name_byte_ok is_name_byte is_letter Label.valid_of equal_of same_of includes_of framed_of spelled_of bytes_of body_of digit_value is_digit sum_of
 tables = (refl, refl, refl, refl)
 
@@ -65,8 +65,8 @@ entries_here = entries_of (lines_of table)
 
 -- for the subject (20,{}) (20,{7}) is out of sight, and [(20,{}),(20,{7})] is `-L low -H ?` with status 1; category 9 has no name. The text
 -- reads back, and is refused for that subject, as is `low:east,e`
-texts : (write_label_of entries_here (subject low) style low_east ≡ refused 13 none)
-    × (write_label_of entries_here (subject (example_of 20 (9 ∷ []))) style (example_of 20 (9 ∷ [])) ≡ refused 2 none)
+texts : (write_label_of entries_here (subject low) style low_east ≡ refused 13 None)
+    × (write_label_of entries_here (subject (example_of 20 (9 ∷ []))) style (example_of 20 (9 ∷ [])) ≡ refused 2 None)
     × (write_range_of entries_here (subject low) style (Range.range_of low low_east) ≡ granted (record { status = 1; text = ascii "-L low -H ?" }))
     × (read_label_text entries_here (subject low_east) low_east_text ≡ granted low_east)
     × (read_label_text entries_here (subject low) low_east_text ≡ plain)

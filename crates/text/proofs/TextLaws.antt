@@ -5,7 +5,6 @@ use mathlib.Core.Bool.{Bool}
 use mathlib.Core.List.{List}
 use mathlib.Core.Path.{◌≡◌, refl, ap, ◌∙◌}
 use Prim.Native.Nat.{ℕ}
-use native.Mathlib.Omega.{arith}
 use Rattle.common.specs.Answer.{Answer, and_then, granted, refused}
 use Rattle.label.specs.Label
 use Rattle.label.specs.declared.Label.{Label}
@@ -23,7 +22,7 @@ use Rattle.text.specs.Subject.{with_table}
 use Rattle.text.specs.Write.{Shown, write_label_of, write_range_of}
 use Rattle.text.specs.declared.Style.{Style}
 use Rattle.text.proofs.EndsLaws.{label_reads, range_reads, range_refused}
-use Rattle.text.proofs.SightLaws.{InSight, Plain, RangeInSight, label_read, range_read, reads_grant, reads_plain}
+use Rattle.text.proofs.SightLaws.{InSight, Plain, RangeInSight, label_plain, label_sight, range_plain, range_sight}
 
 module _ (more : Bool) (table : List ℕ) where
   abbrev es : List Entry
@@ -39,7 +38,7 @@ module _ (more : Bool) (table : List ℕ) where
     where
       go : (c : Answer LineStarts) → check_table more table ≡ c → and_then c (λ (x : LineStarts). f es) ≡ granted y → P
       go (granted x) q h = next (checked_good more table x q) (λ B g. by_table g x q) h
-      go (refused n detail) q h = let z : ◌≡◌ {A = ℕ} 0 1 = cc in absurd (omega arith)
+      go (refused n detail) q h = cc
 
   module _ (s : Caller) where
     -- a label that was written reads back as that label
@@ -62,15 +61,15 @@ module _ (more : Bool) (table : List ℕ) where
 
     -- a label that is read is valid, and one that the subject may see
     pub label_in_sight : (text : List ℕ) (l : Label) → with_table more table (λ es. read_label_text es s text) ≡ granted l → InSight s l
-    label_in_sight text l e = tabled (λ es. read_label_text es s text) l e (λ good by h. reads_grant l (label_read es good s text) h)
+    label_in_sight text l e = tabled (λ es. read_label_text es s text) l e (λ good by h. label_sight es good s text l h)
 
     -- so is each end of a range
     pub range_in_sight : (text : List ℕ) (x : Range) → with_table more table (λ es. read_range_text es s text) ≡ granted x → RangeInSight s x
-    range_in_sight text x e = tabled (λ es. read_range_text es s text) x e (λ good by h. reads_grant x (range_read es good s text) h)
+    range_in_sight text x e = tabled (λ es. read_range_text es s text) x e (λ good by h. range_sight es good s text x h)
 
     -- under a good table every other text gets the plain 22
     pub label_else_plain : (text : List ℕ) (x : LineStarts) → check_table more table ≡ granted x → Plain (with_table more table (λ es. read_label_text es s text))
-    label_else_plain text x e = rw (by_table (λ es. read_label_text es s text) x e) (reads_plain (label_read es (checked_good more table x e) s text))
+    label_else_plain text x e = rw (by_table (λ es. read_label_text es s text) x e) (label_plain es s text)
 
     pub range_else_plain : (text : List ℕ) (x : LineStarts) → check_table more table ≡ granted x → Plain (with_table more table (λ es. read_range_text es s text))
-    range_else_plain text x e = rw (by_table (λ es. read_range_text es s text) x e) (reads_plain (range_read es (checked_good more table x e) s text))
+    range_else_plain text x e = rw (by_table (λ es. read_range_text es s text) x e) (range_plain es s text)

@@ -1,19 +1,19 @@
--- Forms and variants by their numbers, as programs and C have them. What no number names is refused: `named` is false, and what stands beside it is
--- of the number 0.
-use Rattle.std.specs.Prelude.{Bool, true, false, cond, ℕ, eqb}
+-- Forms and variants by their numbers, as programs and C have them.
+use Rattle.std.specs.Prelude.{cond, ℕ, eqb, Option, None, Some, option_and_then, option_map}
 use Rattle.text.specs.declared.Form.{Form}
 use Rattle.text.specs.declared.Form.TheVariants.{Definition, Alias}
+use Rattle.text.specs.declared.Style.{Style}
 use Rattle.text.specs.declared.Variant.{Variant}
 use Rattle.text.specs.declared.Variant.TheVariants.{Names, Abbreviations}
-use Rattle.text.specs.declared.numbers.NamedStyle.{NamedStyle}
 
-abbrev pub named_style : Bool → Form → Variant → NamedStyle
-named_style named form variant = record { named = named; style = record { form = form; variant = variant } }
+-- a form's number: 0 definition, 1 alias
+unfoldable pub form_named : ℕ → Option Form
+form_named f = cond (eqb f 0) (Some Definition) (cond (eqb f 1) (Some Alias) None)
 
--- a form with the variant that a number names: 0 names, 1 abbreviations
-unfoldable pub variant_named : Form → ℕ → NamedStyle
-variant_named form v = cond (eqb v 0) (named_style true form Names) (cond (eqb v 1) (named_style true form Abbreviations) (named_style false Definition Names))
+-- a variant's number: 0 names, 1 abbreviations
+unfoldable pub variant_named : ℕ → Option Variant
+variant_named v = cond (eqb v 0) (Some Names) (cond (eqb v 1) (Some Abbreviations) None)
 
--- what two numbers name: the form, 0 definition and 1 alias, and the variant
-unfoldable pub style_named : ℕ → ℕ → NamedStyle
-style_named f v = cond (eqb f 0) (variant_named Definition v) (cond (eqb f 1) (variant_named Alias v) (named_style false Definition Names))
+-- what two numbers name: a form and a variant, where each names one
+unfoldable pub style_named : ℕ → ℕ → Option Style
+style_named f v = option_and_then (λ form. option_map (λ variant. record { form = form; variant = variant }) (variant_named v)) (form_named f)

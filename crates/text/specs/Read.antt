@@ -1,7 +1,6 @@
 -- Document 01, "Names and text": labels and ranges read from text. Malformed text, an unknown name and a label out of sight are the same plain 22.
 --
-use Rattle.std.specs.Prelude.{Bool, cond, not, List, [], ◌∷◌, ℕ, ◌+◌, ltb, drop, length, replicate, take}
-use Rattle.std.proofs.Math.Option.{Option, none, some}
+use Rattle.std.specs.Prelude.{Bool, cond, not, List, [], ◌∷◌, ℕ, ◌+◌, ltb, drop, length, replicate, take, Option, None, Some}
 use Rattle.common.specs.Answer.{Answer, and_then, granted, refused, require}
 use Rattle.label.specs.Caller.{caller_valid, sees_of}
 use Rattle.label.specs.Label
@@ -19,13 +18,13 @@ use Rattle.alias.specs.Lookup.{find_of}
 use Rattle.text.specs.Write.{colon, comma, hidden_high, high_marker, low_marker}
 
 abbrev pub plain : {A : Type 0} → Answer A
-plain = refused 22 none
+plain = refused 22 None
 
 -- ---- names, abbreviations among them
 
 abbrev pub found_entry : List Entry → Option ℕ → Answer Entry
-found_entry es none = plain
-found_entry es (some k) = granted (entry_at es k)
+found_entry es None = plain
+found_entry es (Some k) = granted (entry_at es k)
 
 -- the entry that a text names
 unfoldable pub entry_named : List Entry → List ℕ → Answer Entry

@@ -1,6 +1,5 @@
 -- Document 01, "Names and text": labels and ranges as text.
-use Rattle.std.specs.Prelude.{Bool, true, false, cond, ◌&&◌, List, [], ◌∷◌, ◌++◌, ◌≡◌, ℕ, leb, length}
-use Rattle.std.proofs.Math.Option.{Option, none, some}
+use Rattle.std.specs.Prelude.{Bool, true, false, cond, ◌&&◌, List, [], ◌∷◌, ◌++◌, ◌≡◌, ℕ, is_some, leb, length, Option, None, Some, Result, Ok, Err}
 use Rattle.common.specs.Answer.{Answer, and_then, granted, is_granted, refused, require}
 use Rattle.common.specs.Buffer.{WrittenTo, length_of}
 use Rattle.label.specs.Caller.{caller_valid, sees_of}
@@ -19,6 +18,7 @@ use Rattle.alias.specs.Lines.{entry_at}
 use Rattle.alias.specs.Lookup.{last_entry_for}
 use Rattle.text.specs.declared.Form.{Form}
 use Rattle.text.specs.declared.Form.TheVariants.{Definition, Alias}
+use Rattle.common.specs.declared.errno.Errno.{Errno}
 use Rattle.text.specs.declared.RangeWritten.{RangeWritten}
 use Rattle.text.specs.declared.Style.{Style}
 use Rattle.text.specs.declared.Variant.{Variant}
@@ -51,16 +51,12 @@ written_name Names e = name_bytes e
 written_name Abbreviations e = cond (leb 1 (length (abbreviation_bytes e))) (abbreviation_bytes e) (name_bytes e)
 
 abbrev pub name_or : Variant → List Entry → Option ℕ → List ℕ
-name_or v es none = []
-name_or v es (some k) = written_name v (entry_at es k)
+name_or v es None = []
+name_or v es (Some k) = written_name v (entry_at es k)
 
 -- the name for a value: that of the last entry for it, and nothing where there is none
 unfoldable pub name_for : List Entry → Variant → Value → Label → List ℕ
 name_for es v value l = name_or v es (last_entry_for es value l)
-
-abbrev pub is_some : Option ℕ → Bool
-is_some none = false
-is_some (some k) = true
 
 -- whether a value has a name
 unfoldable pub named : List Entry → Value → Label → Bool
@@ -142,7 +138,16 @@ status_or true (granted t) = t.status
 status_or true (refused n detail) = 0
 status_or false x = 0
 
+-- of what the code answers of a range that was written, the length; and the status, 0 beside a refusal
+abbrev pub length_written : Result RangeWritten Errno → Result ℕ Errno
+length_written (Ok w) = Ok w.length
+length_written (Err e) = Err e
+
+abbrev pub status_written : Result RangeWritten Errno → ℕ
+status_written (Ok w) = w.status
+status_written (Err e) = 0
+
 -- the code's answer to the writing of x, and what becomes of the buffer
-pub record RangeWrittenTo (r : RangeWritten) (x : Answer Shown) (before after : List ℕ) : Type 0 where
-  pub written : WrittenTo r.written (text_of x) before after
-  pub status : r.status ≡ status_or (is_granted (length_of (text_of x) (length before))) x
+pub record RangeWrittenTo (r : Result RangeWritten Errno) (x : Answer Shown) (before after : List ℕ) : Type 0 where
+  pub written : WrittenTo (length_written r) (text_of x) before after
+  pub status : status_written r ≡ status_or (is_granted (length_of (text_of x) (length before))) x

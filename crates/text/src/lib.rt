@@ -5,10 +5,7 @@
 mod name;
 pub mod numbers;
 pub mod read;
-mod tested;
 pub mod write;
-
-use common::answer::Written;
 
 // Whether hierarchy and categories are named, or a whole label where it has a name.
 #[derive(Clone, Copy)]
@@ -30,9 +27,9 @@ pub struct Style {
     pub variant: Variant,
 }
 
-// The status of a range that was written, 0 or 1, stands beside its length; beside a refusal it is 0.
+// What was written of a range: its length, and its status, a number as programs and C have it: 0 with both ends, and 1 with the low end only.
 #[derive(Clone, Copy)]
 pub struct RangeWritten {
+    pub length: usize,
     pub status: u8,
-    pub written: Written,
 }

@@ -1,48 +1,49 @@
-// Forms and variants by their numbers, as programs and C have them. A number that names nothing is refused: named is false, and what stands beside it
-// is of the number 0.
+// Forms and variants by their numbers, as programs and C have them. A number that names nothing has none.
 ghost use Rattle.std.specs.Prelude.{◌≡◌};
-ghost use Rattle.text.specs.Numbers.{named_style, style_named, variant_named};
+ghost use Rattle.std.specs.Result.{result_ok};
+ghost use Rattle.text.specs.Numbers.{form_named, style_named, variant_named};
 
 use crate::{Form, Style, Variant};
+use common::errno::Errno;
 
-// What two numbers name: a form and a variant.
-#[derive(Clone, Copy)]
-pub struct NamedStyle {
-    pub named: bool,
-    pub style: Style,
-}
+// The form of a number: 0 definition, 1 alias.
+impl TryFrom<u64> for Form {
+    type Error = Errno;
 
-fn style_with(named: bool, form: Form, variant: Variant) -> NamedStyle
-    ensures { result ≡ named_style named form variant }
-{
-    NamedStyle {
-        named,
-        style: Style { form, variant },
+    ghost try_from_gives = { λ n r. result_ok r ≡ form_named n };
+
+    #[tactic(auto, unfolding(crate::specs::Numbers::form_named))]
+    fn try_from(form: u64) -> Result<Self, Errno> {
+        match form {
+            0 => Ok(Form::Definition),
+            1 => Ok(Form::Alias),
+            _ => Err(Errno::Invalid),
+        }
     }
 }
 
-// A form with the variant that a number names.
-fn variant_of(form: Form, variant: u64) -> NamedStyle
-    ensures { result ≡ variant_named form variant }
-{
-    if variant == 0 {
-        return style_with(true, form, Variant::Names);
+// The variant of a number: 0 names, 1 abbreviations.
+impl TryFrom<u64> for Variant {
+    type Error = Errno;
+
+    ghost try_from_gives = { λ n r. result_ok r ≡ variant_named n };
+
+    #[tactic(auto, unfolding(crate::specs::Numbers::variant_named))]
+    fn try_from(variant: u64) -> Result<Self, Errno> {
+        match variant {
+            0 => Ok(Variant::Names),
+            1 => Ok(Variant::Abbreviations),
+            _ => Err(Errno::Invalid),
+        }
     }
-    if variant == 1 {
-        return style_with(true, form, Variant::Abbreviations);
-    }
-    style_with(false, Form::Definition, Variant::Names)
 }
 
-// The form of a number, 0 definition and 1 alias, and the variant of another, 0 names and 1 abbreviations.
-pub fn style_of(form: u64, variant: u64) -> NamedStyle
+// The style of two numbers, a form's and a variant's.
+#[tactic(auto, unfolding(crate::specs::Numbers::style_named))]
+pub fn style_of(form: u64, variant: u64) -> Option<Style>
     ensures { result ≡ style_named form variant }
 {
-    if form == 0 {
-        return variant_of(Form::Definition, variant);
-    }
-    if form == 1 {
-        return variant_of(Form::Alias, variant);
-    }
-    style_with(false, Form::Definition, Variant::Names)
+    let form = Form::try_from(form).ok()?;
+    let variant = Variant::try_from(variant).ok()?;
+    Some(Style { form, variant })
 }

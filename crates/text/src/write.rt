@@ -1,234 +1,200 @@
 // Labels and ranges written as text: measured first, so that a refusal writes nothing, and then put in the buffer.
-ghost use Rattle.std.specs.Prelude.{◌≡◌, ◌∷◌, ◌++◌, cond, ◌+◌, ◌*◌, ◌<◌, ◌≤◌, length};
-ghost use Rattle.common.specs.Answer.{Answered, granted, is_granted, require};
-ghost use Rattle.common.specs.Buffer.{WrittenTo, written_of};
+ghost use Rattle.std.specs.Prelude.{◌≡◌, ◌∷◌, ◌++◌, ◌+◌, ◌≤◌, length};
+ghost use Rattle.common.specs.Answer.{answer_by, answer_of, granted, require};
+ghost use Rattle.common.specs.Buffer.{WrittenTo};
 ghost use Rattle.label.specs.Label.{zero_label};
 ghost use Rattle.label.specs.Words.{members_of};
 ghost use Rattle.alias_entry.specs.declared.Value.TheVariants.{Category};
 ghost use Rattle.octets.specs.Internal.Put.{Put};
-ghost use Rattle.alias.specs.Lines.{entries_by};
-ghost use Rattle.text.specs.Internal.Measure.{MeasuredText, max_categories, max_label, max_range, measure_of, range_named, range_text, room_of, status_of};
+ghost use Rattle.alias.specs.Lines.{table_entries};
+ghost use Rattle.text.specs.Internal.Measure.{MeasuredText, max_categories, max_label, max_range, range_named, range_text, room_of};
 ghost use Rattle.text.specs.Subject.{with_table};
 ghost use Rattle.text.specs.Internal.Allowed.{allowed_of};
 ghost use Rattle.text.specs.Write.{RangeWrittenTo, all_named, categories_named, categories_text, colon, definition_named, definition_text, label_text, name_for, write_label_of, write_range_of};
 
-use crate::name::{Measure, measure_name, put_found, put_name};
-use crate::tested::sees;
-use crate::{Form, RangeWritten, Style, Variant};
-use alias::{FoundEntry, lookup};
+use crate::{Form, RangeWritten, Style};
+use alias::lookup::Table;
 use alias_entry::Value;
-use common::answer::{Outcome, Written};
 use common::errno::Errno;
 use label::caller::Caller;
-use label::words::{FoundCategory, WORDS};
+use label::words::WORDS;
 use label::{Label, words};
 use range::Range;
 
-// One past the last category.
-const CATEGORIES: u64 = (WORDS * 64) as u64;
+// A table whose names are written, in a style. A method `measure_..` says how long a text is, and `put_..` puts the same text in a buffer at an index
+// and answers the index past it. They stay two, since a refusal writes nothing: a text is measured before its first byte is put. The buffer and the
+// index stay two parameters, as `octets::append` takes them.
+#[derive(Clone, Copy)]
+pub(crate) struct Writer<'a> {
+    pub(crate) table: Table<'a>,
+    pub(crate) style: Style,
+}
 
-// How long the names of categories are, each with its mark.
-fn measure_categories(
-    table: &[u8],
-    starts: &[usize],
-    v: Variant,
-    categories: [u64; WORDS],
-) -> Measure
-    ensures { MeasuredText (categories_named (entries_by table.now starts.now) (members_of categories)) (categories_text (entries_by table.now starts.now) v colon (members_of categories)) max_categories result }
-{
-    let mut total = 0;
-    let mut c: u64 = 0;
-    while c < CATEGORIES {
-        let FoundCategory::At(k) = words::next(categories, c) else {
-            return Measure::Bytes(total);
-        };
-        let name = measure_name(table, starts, v, Value::Category(k), label::zero());
-        let Measure::Bytes(n) = name else {
-            return Measure::Missing;
-        };
-        total += 1 + n;
-        c = k + 1;
+impl<'a> Writer<'a> {
+    // How long the names of categories are, each with its mark.
+    #[tactic(auto, using(label::proofs::ListingLaws::next_within))]
+    fn measure_categories(&self, categories: [u64; WORDS]) -> Option<usize>
+        ensures { MeasuredText (categories_named (table_entries self.now.table) (members_of categories)) (categories_text (table_entries self.now.table) self.now.style.variant colon (members_of categories)) max_categories result }
+    {
+        let mut total = 0;
+        let mut c = 0;
+        while let Some(k) = words::next(categories, c) {
+            total += 1 + self.measure_name(Value::Category(k), label::zero())?;
+            c = k + 1;
+        }
+        Some(total)
     }
-    Measure::Bytes(total)
-}
 
-// Puts a mark and the name of a category in out at index at, and answers the index past them.
-fn put_category(
-    table: &[u8],
-    starts: &[usize],
-    v: Variant,
-    mark: u8,
-    c: u64,
-    out: &mut [u8],
-    at: usize,
-) -> usize
-    requires { at + 1 + length (name_for (entries_by table.now starts.now) v (Category c) zero_label) ≤ length out.old }
-    ensures { Put out.old at (mark ∷ name_for (entries_by table.now starts.now) v (Category c) zero_label) result out.new }
-{
-    out[at] = mark;
-    put_name(
-        table,
-        starts,
-        v,
-        Value::Category(c),
-        label::zero(),
-        out,
-        at + 1,
-    )
-}
-
-// Puts the names of categories, each with its mark, in out at index at, and answers the index past them.
-fn put_categories(
-    table: &[u8],
-    starts: &[usize],
-    v: Variant,
-    categories: [u64; WORDS],
-    out: &mut [u8],
-    at: usize,
-) -> usize
-    requires { at + length (categories_text (entries_by table.now starts.now) v colon (members_of categories)) ≤ length out.old }
-    ensures { Put out.old at (categories_text (entries_by table.now starts.now) v colon (members_of categories)) result out.new }
-{
-    let mut past = at;
-    let mut mark = b':';
-    let mut c: u64 = 0;
-    while c < CATEGORIES {
-        let FoundCategory::At(k) = words::next(categories, c) else {
-            return past;
-        };
-        past = put_category(table, starts, v, mark, k, out, past);
-        mark = b',';
-        c = k + 1;
+    // Puts a mark and the name of a category.
+    fn put_category(&self, mark: u8, c: u64, out: &mut [u8], at: usize) -> usize
+        requires { at + 1 + length (name_for (table_entries self.now.table) self.now.style.variant (Category c) zero_label) ≤ length out.old }
+        ensures { Put out.old at (mark ∷ name_for (table_entries self.now.table) self.now.style.variant (Category c) zero_label) result out.new }
+    {
+        out[at] = mark;
+        self.put_name(Value::Category(c), label::zero(), out, at + 1)
     }
-    past
-}
 
-// How long the definition form of a label is.
-fn measure_definition(table: &[u8], starts: &[usize], v: Variant, l: Label) -> Measure
-    ensures { MeasuredText (definition_named (entries_by table.now starts.now) l) (definition_text (entries_by table.now starts.now) v l) max_label result }
-{
-    let hierarchy = measure_name(
-        table,
-        starts,
-        v,
-        Value::Hierarchy(l.hierarchy),
-        label::zero(),
-    );
-    let Measure::Bytes(m) = hierarchy else {
-        return Measure::Missing;
-    };
-    let set = l.categories;
-    let categories = measure_categories(table, starts, v, set);
-    let Measure::Bytes(n) = categories else {
-        return Measure::Missing;
-    };
-    Measure::Bytes(m + n)
-}
+    // Puts the names of categories, each with its mark.
+    #[tactic(auto, using(label::proofs::ListingLaws::next_within))]
+    fn put_categories(&self, categories: [u64; WORDS], out: &mut [u8], at: usize) -> usize
+        requires { at + length (categories_text (table_entries self.now.table) self.now.style.variant colon (members_of categories)) ≤ length out.old }
+        ensures { Put out.old at (categories_text (table_entries self.now.table) self.now.style.variant colon (members_of categories)) result out.new }
+    {
+        let mut past = at;
+        let mut mark = b':';
+        let mut c = 0;
+        while let Some(k) = words::next(categories, c) {
+            past = self.put_category(mark, k, out, past);
+            mark = b',';
+            c = k + 1;
+        }
+        past
+    }
 
-fn put_definition(
-    table: &[u8],
-    starts: &[usize],
-    v: Variant,
-    l: Label,
-    out: &mut [u8],
-    at: usize,
-) -> usize
-    requires { at + length (definition_text (entries_by table.now starts.now) v l) ≤ length out.old }
-    ensures { Put out.old at (definition_text (entries_by table.now starts.now) v l) result out.new }
-{
-    let past = put_name(
-        table,
-        starts,
-        v,
-        Value::Hierarchy(l.hierarchy),
-        label::zero(),
-        out,
-        at,
-    );
-    let set = l.categories;
-    put_categories(table, starts, v, set, out, past)
-}
+    // How long the definition form of a label is.
+    #[tactic(auto, unfolding(crate::specs::Write::definition_text, crate::specs::Write::definition_named))]
+    fn measure_definition(&self, l: Label) -> Option<usize>
+        ensures { MeasuredText (definition_named (table_entries self.now.table) l) (definition_text (table_entries self.now.table) self.now.style.variant l) max_label result }
+    {
+        let m = self.measure_name(Value::Hierarchy(l.hierarchy), label::zero())?;
+        let n = self.measure_categories(l.categories)?;
+        Some(m + n)
+    }
 
-// How long the text of a label is.
-fn measure_label(table: &[u8], starts: &[usize], style: Style, l: Label) -> Measure
-    ensures { MeasuredText (all_named (entries_by table.now starts.now) style l) (label_text (entries_by table.now starts.now) style l) max_label result }
-{
-    let form = style.form;
-    let v = style.variant;
-    match form {
-        Form::Definition => measure_definition(table, starts, v, l),
-        Form::Alias => {
-            let alias = measure_name(table, starts, v, Value::WholeLabel, l);
-            match alias {
-                Measure::Bytes(_) => alias,
-                Measure::Missing => measure_definition(table, starts, v, l),
-            }
+    #[tactic(auto, unfolding(crate::specs::Write::definition_text))]
+    fn put_definition(&self, l: Label, out: &mut [u8], at: usize) -> usize
+        requires { at + length (definition_text (table_entries self.now.table) self.now.style.variant l) ≤ length out.old }
+        ensures { Put out.old at (definition_text (table_entries self.now.table) self.now.style.variant l) result out.new }
+    {
+        let past = self.put_name(Value::Hierarchy(l.hierarchy), label::zero(), out, at);
+        self.put_categories(l.categories, out, past)
+    }
+
+    // How long the text of a label is.
+    #[tactic(auto, unfolding(crate::specs::Write::text_in, crate::specs::Write::named_in))]
+    fn measure_label(&self, l: Label) -> Option<usize>
+        ensures { MeasuredText (all_named (table_entries self.now.table) self.now.style l) (label_text (table_entries self.now.table) self.now.style l) max_label result }
+    {
+        match self.style.form {
+            Form::Definition => self.measure_definition(l),
+            // By cases: the closure of an `or_else` would have to say again what `measure_definition` ensures.
+            Form::Alias => match self.measure_name(Value::WholeLabel, l) {
+                Some(n) => Some(n),
+                None => self.measure_definition(l),
+            },
         }
     }
-}
 
-// Puts the text of a label in out at index at, and answers the index past it.
-fn put_label(
-    table: &[u8],
-    starts: &[usize],
-    style: Style,
-    l: Label,
-    out: &mut [u8],
-    at: usize,
-) -> usize
-    requires { at + length (label_text (entries_by table.now starts.now) style l) ≤ length out.old }
-    ensures { Put out.old at (label_text (entries_by table.now starts.now) style l) result out.new }
-{
-    let form = style.form;
-    let v = style.variant;
-    match form {
-        Form::Definition => put_definition(table, starts, v, l, out, at),
-        Form::Alias => {
-            match lookup::last(table, starts, Value::WholeLabel, l) {
-                FoundEntry::At(k) => put_found(table, starts, v, k, out, at),
-                FoundEntry::Nothing => put_definition(table, starts, v, l, out, at),
-            }
+    // Puts the text of a label.
+    #[tactic(auto, using(crate::proofs::WriteLaws::found_below), unfolding(crate::specs::Write::text_in, crate::specs::Write::named, crate::specs::Write::name_for))]
+    fn put_label(&self, l: Label, out: &mut [u8], at: usize) -> usize
+        requires { at + length (label_text (table_entries self.now.table) self.now.style l) ≤ length out.old }
+        ensures { Put out.old at (label_text (table_entries self.now.table) self.now.style l) result out.new }
+    {
+        match self.style.form {
+            Form::Definition => self.put_definition(l, out, at),
+            Form::Alias => match self.table.last(Value::WholeLabel, l) {
+                Some(k) => self.put_found(k, out, at),
+                None => self.put_definition(l, out, at),
+            },
         }
+    }
+
+    // Writes the text of a label that the subject may see at the front of out.
+    fn write_text(&self, l: Label, out: &mut [u8]) -> Result<usize, Errno>
+        ensures { WrittenTo result (require (all_named (table_entries self.now.table) self.now.style l) 2 (granted (label_text (table_entries self.now.table) self.now.style l))) out.old out.new }
+    {
+        let n = room(self.measure_label(l), out.len())?;
+        self.put_label(l, out, 0);
+        Ok(n)
+    }
+
+    // How long the text of a range is, with both ends or with the low end only.
+    fn measure_range(&self, x: Range, whole: bool) -> Option<usize>
+        ensures { MeasuredText (range_named (table_entries self.now.table) self.now.style x whole) (range_text (table_entries self.now.table) self.now.style x whole) max_range result }
+    {
+        let m = self.measure_label(x.low)?;
+        if whole {
+            let n = self.measure_label(x.high)?;
+            return Some(m + n + 7);
+        }
+        Some(m + 8)
+    }
+
+    // Puts a marker and the text of a label.
+    fn put_marked(&self, marker: &[u8], l: Label, out: &mut [u8], at: usize) -> usize
+        requires { at + length (marker.now ++ label_text (table_entries self.now.table) self.now.style l) ≤ length out.old }
+        ensures { Put out.old at (marker.now ++ label_text (table_entries self.now.table) self.now.style l) result out.new }
+    {
+        let past = octets::append(out, at, marker);
+        self.put_label(l, out, past)
+    }
+
+    fn put_range(&self, x: Range, whole: bool, out: &mut [u8]) -> usize
+        requires { length (range_text (table_entries self.now.table) self.now.style x whole) ≤ length out.old }
+        ensures { Put out.old 0 (range_text (table_entries self.now.table) self.now.style x whole) result out.new }
+    {
+        let past = self.put_marked(b"-L ", x.low, out, 0);
+        if whole {
+            return self.put_marked(b" -H ", x.high, out, past);
+        }
+        octets::append(out, past, b" -H ?")
+    }
+
+    // The same of a range, with both ends or with the low end only. One function of both would take what is measured and put as closures, each with
+    // its contract again.
+    fn write_ends(&self, x: Range, whole: bool, out: &mut [u8]) -> Result<usize, Errno>
+        ensures { WrittenTo result (require (range_named (table_entries self.now.table) self.now.style x whole) 2 (granted (range_text (table_entries self.now.table) self.now.style x whole))) out.old out.new }
+    {
+        let n = room(self.measure_range(x, whole), out.len())?;
+        self.put_range(x, whole, out);
+        Ok(n)
     }
 }
 
 // What is answered of a text of that measure where a buffer has so many bytes.
-fn room(m: Measure, size: usize) -> Written
-    ensures { written_of result ≡ room_of (measure_of m) size }
+fn room(m: Option<usize>, size: usize) -> Result<usize, Errno>
+    ensures { answer_of result ≡ room_of m size }
 {
-    match m {
-        Measure::Bytes(n) => {
-            if size < n {
-                return Written::Refused(Errno::TooBig(n));
-            }
-            Written::Length(n)
-        }
-        Measure::Missing => Written::Refused(Errno::NoEnt),
+    let n = m.ok_or(Errno::NoEnt)?;
+    if size < n {
+        return Err(Errno::TooBig(n));
     }
-}
-
-// Writes the text of a label that the subject may see.
-fn write_text(table: &[u8], starts: &[usize], style: Style, l: Label, out: &mut [u8]) -> Written
-    ensures { WrittenTo result (require (all_named (entries_by table.now starts.now) style l) 2 (granted (label_text (entries_by table.now starts.now) style l))) out.old out.new }
-{
-    let w = room(measure_label(table, starts, style, l), out.len());
-    if let Written::Length(_) = w {
-        put_label(table, starts, style, l, out, 0);
-    }
-    w
+    Ok(n)
 }
 
 // Whether a label may be shown to a subject, where what is asked for is valid.
-fn allowed(valid: bool, caller: Caller, l: Label) -> Outcome
-    ensures { Answered result l l (allowed_of valid caller l) }
+#[tactic(auto, unfolding(crate::specs::Internal::Allowed::allowed_of))]
+fn allowed(valid: bool, caller: Caller, l: Label) -> Result<(), Errno>
+    ensures { answer_by (λ u. l) result ≡ allowed_of valid caller l }
 {
     if !(valid & label::valid(caller.label)) {
-        return Outcome::Refused(Errno::Invalid);
+        return Err(Errno::Invalid);
     }
-    if !sees(caller, l) {
-        return Outcome::Refused(Errno::Access);
+    if !caller.sees(&l) {
+        return Err(Errno::Access);
     }
-    Outcome::Granted
+    Ok(())
 }
 
 // Writes a label as text at the front of out.
@@ -239,106 +205,16 @@ pub fn write_label(
     style: Style,
     l: Label,
     out: &mut [u8],
-) -> Written
+) -> Result<usize, Errno>
     ensures { WrittenTo result (with_table more table.now (λ es. write_label_of es caller style l)) out.old out.new }
 {
-    let t = alias::check(table, more);
-    let outcome = t.outcome;
-    if let Outcome::Refused(e) = outcome {
-        return Written::Refused(e);
-    }
-    if let Outcome::Refused(e) = allowed(label::valid(l), caller, l) {
-        return Written::Refused(e);
-    }
-    let lines = t.lines;
-    let starts = lookup::starts_to(&lines.starts, lines.count);
-    write_text(table, starts, style, l, out)
-}
-
-// How long the text of a range is, with both ends or with the low end only.
-fn measure_range(table: &[u8], starts: &[usize], style: Style, x: Range, whole: bool) -> Measure
-    ensures { MeasuredText (range_named (entries_by table.now starts.now) style x whole) (range_text (entries_by table.now starts.now) style x whole) max_range result }
-{
-    let low = measure_label(table, starts, style, x.low);
-    let Measure::Bytes(m) = low else {
-        return Measure::Missing;
+    let lines = alias::check(table, more)?;
+    allowed(label::valid(l), caller, l)?;
+    let writer = Writer {
+        table: lines.table(table),
+        style,
     };
-    if whole {
-        let high = measure_label(table, starts, style, x.high);
-        let Measure::Bytes(n) = high else {
-            return Measure::Missing;
-        };
-        return Measure::Bytes(m + n + 7);
-    }
-    Measure::Bytes(m + 8)
-}
-
-// Puts a marker and the text of a label in out at index at, and answers the index past them.
-fn put_marked(
-    table: &[u8],
-    starts: &[usize],
-    style: Style,
-    marker: &[u8],
-    l: Label,
-    out: &mut [u8],
-    at: usize,
-) -> usize
-    requires { at + length (marker.now ++ label_text (entries_by table.now starts.now) style l) ≤ length out.old }
-    ensures { Put out.old at (marker.now ++ label_text (entries_by table.now starts.now) style l) result out.new }
-{
-    let past = octets::append(out, at, marker);
-    put_label(table, starts, style, l, out, past)
-}
-
-fn put_range(
-    table: &[u8],
-    starts: &[usize],
-    style: Style,
-    x: Range,
-    whole: bool,
-    out: &mut [u8],
-) -> usize
-    requires { length (range_text (entries_by table.now starts.now) style x whole) ≤ length out.old }
-    ensures { Put out.old 0 (range_text (entries_by table.now starts.now) style x whole) result out.new }
-{
-    let past = put_marked(table, starts, style, b"-L ", x.low, out, 0);
-    if whole {
-        return put_marked(table, starts, style, b" -H ", x.high, out, past);
-    }
-    octets::append(out, past, b" -H ?")
-}
-
-// Writes a range with both ends, or with the low end only.
-fn write_ends(
-    table: &[u8],
-    starts: &[usize],
-    style: Style,
-    x: Range,
-    whole: bool,
-    out: &mut [u8],
-) -> Written
-    ensures { WrittenTo result (require (range_named (entries_by table.now starts.now) style x whole) 2 (granted (range_text (entries_by table.now starts.now) style x whole))) out.old out.new }
-{
-    let w = room(measure_range(table, starts, style, x, whole), out.len());
-    if let Written::Length(_) = w {
-        put_range(table, starts, style, x, whole, out);
-    }
-    w
-}
-
-// What was written with its status: 0 with both ends, 1 with the low end only, and 0 beside a refusal.
-fn with_status(whole: bool, written: Written) -> RangeWritten
-    ensures { (result.written ≡ written) × (result.status ≡ cond (is_granted (written_of written)) (status_of whole) 0) }
-{
-    match written {
-        Written::Length(_) => {
-            if whole {
-                return RangeWritten { status: 0, written };
-            }
-            RangeWritten { status: 1, written }
-        }
-        Written::Refused(_) => RangeWritten { status: 0, written },
-    }
+    writer.write_text(l, out)
 }
 
 // Writes a range as text at the front of out, with its status: 0 with both ends, 1 where the subject may see the low end only.
@@ -349,19 +225,19 @@ pub fn write_range(
     style: Style,
     x: Range,
     out: &mut [u8],
-) -> RangeWritten
+) -> Result<RangeWritten, Errno>
     ensures { RangeWrittenTo result (with_table more table.now (λ es. write_range_of es caller style x)) out.old out.new }
 {
-    let t = alias::check(table, more);
-    let outcome = t.outcome;
-    if let Outcome::Refused(e) = outcome {
-        return with_status(true, Written::Refused(e));
-    }
-    if let Outcome::Refused(e) = allowed(range::valid(x), caller, x.low) {
-        return with_status(true, Written::Refused(e));
-    }
-    let lines = t.lines;
-    let starts = lookup::starts_to(&lines.starts, lines.count);
-    let whole = sees(caller, x.high);
-    with_status(whole, write_ends(table, starts, style, x, whole, out))
+    let lines = alias::check(table, more)?;
+    allowed(range::valid(x), caller, x.low)?;
+    let writer = Writer {
+        table: lines.table(table),
+        style,
+    };
+    let whole = caller.sees(&x.high);
+    let length = writer.write_ends(x, whole, out)?;
+    Ok(RangeWritten {
+        length,
+        status: if whole { 0 } else { 1 },
+    })
 }

@@ -8,35 +8,25 @@ mod kept;
 mod request;
 mod session;
 
-ghost use Rattle.std.specs.Prelude.{◌-◌, ◌≤◌};
-
 use crate::kept::MAX_CAPACITY;
 use crate::session::Session;
-use input::Lines;
+use input::{Input, Lines};
 use std::io::Read;
-
-// The line at hand, and where the requests stand.
-#[derive(Clone, Copy)]
-struct Place {
-    lines: Lines,
-    session: Session,
-}
 
 // The next line, in the buffer that it is for. Which one it is changes only between two lines, when nothing is held of a line.
 fn next(
     reader: &mut impl Read,
     s: Session,
-    l: Lines,
+    i: Input,
     chunk: &mut [u8],
     line: &mut [u8],
     text: &mut [u8],
-) -> Lines
-    ensures { result.left ≤ l.left - 1 }
-{
+) -> Lines {
     if session::takes_text(s) {
-        return input::next(reader, l, chunk, text);
+        input::next(reader, i, chunk, text)
+    } else {
+        input::next(reader, i, chunk, line)
     }
-    input::next(reader, l, chunk, line)
 }
 
 // Does what the line of that length asks for, in the buffer that it is in.
@@ -49,32 +39,13 @@ fn take(
     table: &mut [u8],
     out: &mut [u8],
 ) -> Session {
-    if session::takes_text(s) {
-        return session::take_line(rt, s, octets::front(text, length), table, out);
-    }
-    session::take_line(rt, s, octets::front(line, length), table, out)
-}
-
-// Does what the line at hand asks for, and goes on to the next.
-fn step(
-    rt: &(impl Print + Eprint),
-    reader: &mut impl Read,
-    p: Place,
-    chunk: &mut [u8],
-    line: &mut [u8],
-    text: &mut [u8],
-    table: &mut [u8],
-    out: &mut [u8],
-) -> Place
-    ensures { result.lines.left ≤ p.lines.left - 1 }
-{
-    let session = take(rt, p.session, p.lines.length, line, text, table, out);
-    let lines = next(reader, session, p.lines, chunk, line, text);
-    Place { lines, session }
+    let at_hand = if session::takes_text(s) { text } else { line };
+    session::take_line(rt, s, octets::front(at_hand, length), table, out)
 }
 
 // Answers the requests of the input, which is read into the chunk. The line at hand is in the second buffer, or in the third if it is a line of
-// text; the fourth keeps the table, and the last has the text that is written.
+// text; the fourth keeps the table, and the last has the text that is written. A proved loop has to end, and nothing says that the input does, so
+// lines are counted, up to a number that no run uses up.
 fn run(
     rt: &(impl Print + Eprint),
     reader: &mut impl Read,
@@ -84,14 +55,15 @@ fn run(
     table: &mut [u8],
     out: &mut [u8],
 ) {
-    let mut p = Place {
-        lines: input::next(reader, input::start(), chunk, line),
-        session: session::start(),
-    };
-    while p.lines.left > 0 {
-        p = step(rt, reader, p, chunk, line, text, table, out);
+    let mut session = session::start();
+    let mut input = input::start();
+    for _ in 0..u64::MAX {
+        let lines = next(reader, session, input, chunk, line, text);
+        input = lines.input;
+        let Some(length) = lines.line else { break };
+        session = take(rt, session, length, line, text, table, out);
     }
-    session::finish(rt, p.session, p.lines.input.failed, table, out);
+    session::finish(rt, session, matches!(input, Input::Failed), table, out);
 }
 
 fn main(rt: HostRuntime) {

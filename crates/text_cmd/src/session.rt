@@ -2,20 +2,18 @@
 use crate::kept::Kept;
 use crate::request::{Operand, Request};
 use crate::{answer, call, kept, request};
+use common::errno::Errno;
 use console::command;
 
 // What is kept, and the request whose operand is due. Between two requests none is.
 #[derive(Clone, Copy)]
 pub(crate) struct Session {
-    pub kept: Kept,
-    pub request: Request,
+    kept: Kept,
+    due: Option<Request>,
 }
 
 fn between(kept: Kept) -> Session {
-    Session {
-        kept,
-        request: Request::Invalid,
-    }
+    Session { kept, due: None }
 }
 
 pub(crate) fn start() -> Session {
@@ -24,37 +22,59 @@ pub(crate) fn start() -> Session {
 
 // Whether the next line is a line of text.
 pub(crate) fn takes_text(s: Session) -> bool {
-    let r = s.request;
-    match request::operand_of(r) {
-        Operand::Text => true,
-        _ => false,
+    match s.due {
+        Some(r) => r.operand() == Some(Operand::Text),
+        None => false,
     }
+}
+
+// Makes the call of a request, with its operand line if it has one, and prints what is granted.
+fn answer(
+    rt: &(impl Print + Eprint),
+    kept: &mut Kept,
+    r: Request,
+    line: &[u8],
+    table: &[u8],
+    out: &mut [u8],
+) -> Result<(), Errno> {
+    match r {
+        Request::Table => answer::print_count(rt, call::entry_count(*kept, table)?),
+        Request::Subject(read_override) => {
+            kept.subject = call::subject(read_override, line)?;
+            answer::print_ok(rt);
+        }
+        Request::Capacity(n) => {
+            kept.capacity = call::capacity(n)?;
+            answer::print_ok(rt);
+        }
+        Request::Label(form, variant) => {
+            let length = call::write_label(*kept, form, variant, line, table, out)?;
+            answer::print_text(rt, length, out);
+        }
+        Request::Range(form, variant) => {
+            let written = call::write_range(*kept, form, variant, line, table, out)?;
+            answer::print_status(rt, written.status);
+            answer::print_text(rt, written.length, out);
+        }
+        Request::ReadLabel => answer::print_label(rt, call::read_label(*kept, line, table)?)?,
+        Request::ReadRange => answer::print_range(rt, call::read_range(*kept, line, table)?)?,
+    }
+    Ok(())
 }
 
 // Answers a request, with its operand line if it has one.
 fn respond(
     rt: &(impl Print + Eprint),
-    kept: Kept,
+    mut kept: Kept,
     r: Request,
     line: &[u8],
     table: &[u8],
     out: &mut [u8],
-) -> Kept {
-    match r {
-        Request::Invalid => answer::print_invalid(rt),
-        Request::Table => call::check_table(rt, kept, table),
-        Request::Subject(read_override) => return call::take_subject(rt, kept, read_override, line),
-        Request::Capacity(n) => return call::take_capacity(rt, kept, n),
-        Request::Label(form, variant) => call::write_label(
-            rt, kept, form, variant, line, table, out,
-        ),
-        Request::Range(form, variant) => call::write_range(
-            rt, kept, form, variant, line, table, out,
-        ),
-        Request::ReadLabel => call::read_label(rt, kept, line, table),
-        Request::ReadRange => call::read_range(rt, kept, line, table),
+) -> Session {
+    if let Err(e) = answer(rt, &mut kept, r, line, table, out) {
+        answer::print_refusal(rt, e);
     }
-    kept
+    between(kept)
 }
 
 // A line where a command line is due. A bad line comes as no bytes at all.
@@ -68,14 +88,17 @@ fn take_command(
     if command::is_skipped(line) {
         return between(kept);
     }
-    let request = request::of_line(line);
-    match request::operand_of(request) {
-        Operand::Nothing => between(respond(rt, kept, request, line, table, out)),
-        Operand::Lines => Session {
+    let Some(r) = request::of_line(line) else {
+        answer::print_refusal(rt, Errno::Invalid);
+        return between(kept);
+    };
+    match r.operand() {
+        None => respond(rt, kept, r, line, table, out),
+        Some(Operand::Lines) => Session {
             kept: kept::without_table(kept),
-            request,
+            due: Some(r),
         },
-        _ => Session { kept, request },
+        Some(_) => Session { kept, due: Some(r) },
     }
 }
 
@@ -85,14 +108,14 @@ fn take_table_line(
     kept: Kept,
     line: &[u8],
     table: &mut [u8],
+    out: &mut [u8],
 ) -> Session {
-    if octets::same(line, b"\n") {
-        call::check_table(rt, kept, table);
-        return between(kept);
+    if line == b"\n".as_slice() {
+        return respond(rt, kept, Request::Table, line, table, out);
     }
     Session {
         kept: kept::with_line(kept, table, line),
-        request: Request::Table,
+        due: Some(Request::Table),
     }
 }
 
@@ -103,11 +126,10 @@ pub(crate) fn take_line(
     table: &mut [u8],
     out: &mut [u8],
 ) -> Session {
-    let r = s.request;
-    match request::operand_of(r) {
-        Operand::Nothing => take_command(rt, s.kept, line, table, out),
-        Operand::Lines => take_table_line(rt, s.kept, line, table),
-        _ => between(respond(rt, s.kept, r, line, table, out)),
+    match s.due {
+        None => take_command(rt, s.kept, line, table, out),
+        Some(Request::Table) => take_table_line(rt, s.kept, line, table, out),
+        Some(r) => respond(rt, s.kept, r, line, table, out),
     }
 }
 
@@ -122,11 +144,7 @@ pub(crate) fn finish(
     if failed {
         let _ = rt.eprintln("text_cmd: can't read the standard input");
     }
-    let r = s.request;
-    match request::operand_of(r) {
-        Operand::Nothing => {}
-        _ => {
-            respond(rt, s.kept, r, b"", table, out);
-        }
+    if let Some(r) = s.due {
+        respond(rt, s.kept, r, b"", table, out);
     }
 }

@@ -1,29 +1,31 @@
-use mathlib.Core.List.{List}
+use borrow.Author.Rules.{rules}
 use mathlib.Core.Path.{◌≡◌, refl, sym, ap, ◌∙◌}
-use Prim.Native.Nat.{ℕ}
-use Rattle.common.proofs.AnswerLaws.{answers_grant}
-use Rattle.alias.specs.Lines.{entries_by, no_lines}
-use Rattle.alias.specs.Lookup.{found_entry_of}
-use Rattle.alias.specs.Internal.Walk.{first_repeat}
-use Rattle.alias.specs.Internal.Walk.{lines_from}
-use Rattle.alias.specs.declared.FoundEntry.{FoundEntry}
-use Rattle.alias.specs.declared.LineStarts.{LineStarts}
-use Rattle.alias.proofs.WalkLaws.{check_granted, check_repeat, check_stopped, starts_to, walk_hashes}
+use Rattle.std.specs.Prelude.{Err}
+use Rattle.common.specs.declared.errno.Errno.TheVariants.{BadLine}
+use Rattle.common.specs.Answer.{answer_of}
+use Rattle.alias.proofs.WalkLaws.{check_granted, check_repeat, check_stopped, walk_hashes, walked, walked_repeat}
 use Rattle.alias.proofs.check.Goals as goal
 
--- the first repeat among the lines of the walk
-told : (table : List ℕ) {starts xs : List ℕ} {r s : FoundEntry} → s ≡ r → found_entry_of s ≡ first_repeat (entries_by table xs) → xs ≡ starts → found_entry_of r ≡ first_repeat (entries_by table starts)
-told table e f g = sym (ap found_entry_of e) ∙ f ∙ ap (λ xs. first_repeat (entries_by table xs)) g
+pub first-requires : goal.first-requires
+first-requires c =
+    let w = walked c.walk-walked.result c.walk-walked.ensures.walks in
+    rw (c.table.ensures.bytes_value, c.table.ensures.starts_value) (walk_hashes w.1 c.walk-walked.ensures.hashes_kept)
 
-pub first-repeat-requires : goal.first-repeat-requires
-first-repeat-requires c = rw c.starts_to-starts.ensures (walk_hashes c.walk-w.ensures.walks c.walk-w.ensures.hashes_kept)
+pub returns-in-Some : goal.returns-in-Some
+returns-in-Some c =
+    let w = walked c.walk-walked.result c.walk-walked.ensures.walks in
+    let t = c.table.ensures in
+    sym (check_repeat w.1 (walked_repeat w.1 c.table.result t.bytes_value t.starts_value (sym c.in-Some.is ∙ c.first.ensures)))
 
-pub returns-then-w : goal.returns-then-w
-returns-then-w c = rw (check_stopped c.walk-w.ensures.walks c.if-w.true (told c.args.table.now c.in-Nothing.is c.first-repeat.ensures c.starts_to-starts.ensures)) c.bad-then-w.ensures
+pub returns-in_err-walked : goal.returns-in_err-walked
+returns-in_err-walked c =
+    let w = c.in_err-walked.ensures.walks in
+    let t = c.table.ensures in
+    let e : c.from_residual.result ≡ Err (BadLine c.walk-walked.new.lines.count) = search rules in
+    ap answer_of e ∙ sym (check_stopped w.1 refl (walked_repeat w.1 c.table.result t.bytes_value t.starts_value (sym c.in_default.is ∙ c.first.ensures)))
 
-pub returns-in-At : goal.returns-in-At
-returns-in-At c = rw (check_repeat c.walk-w.ensures.walks (told c.args.table.now c.in-At.is c.first-repeat.ensures c.starts_to-starts.ensures)) c.bad.ensures
-
-pub returns-else-w : goal.returns-else-w
-returns-else-w c =
-    answers_grant _ no_lines _ _ (check_granted c.walk-w.ensures.walks c.if-w.false (told c.args.table.now c.in-Nothing.is c.first-repeat.ensures c.starts_to-starts.ensures)) refl
+pub returns : goal.returns
+returns c =
+    let w = c.in_ok-walked.ensures.walks in
+    let t = c.table.ensures in
+    sym (check_granted w refl (walked_repeat w c.table.result t.bytes_value t.starts_value (sym c.in_default.is ∙ c.first.ensures)))

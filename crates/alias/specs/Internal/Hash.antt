@@ -7,6 +7,9 @@ use Rattle.label.specs.Words.{bit}
 use Rattle.octets.specs.Bytes.{same_bytes}
 use Rattle.alias_entry.specs.Entry.{abbreviation_bytes, name_bytes}
 use Rattle.alias_entry.specs.declared.Entry.{Entry}
+use Rattle.alias.specs.declared.filter.Filter.{Filter}
+use Rattle.alias.specs.declared.hash.Hashes.{Hashes}
+use Rattle.alias.specs.declared.hash.LineHashes.{LineHashes}
 use Rattle.alias.specs.Lines.{entry_at, max_lines}
 
 -- the modulus is 2 ^ 48. The multiplier is below 2 ^ 16, so that the product and a byte fit a word of 64 bits; near 2 ^ 16, so that a byte soon
@@ -51,11 +54,6 @@ name_hash es k = hash_of (name_bytes (entry_at es k))
 abbrev pub other_hash : List Entry → ℕ → ℕ
 other_hash es k = hash_of (other_bytes (entry_at es k))
 
--- the first n of each are the hashes of the entries' names, and of their other names
-pub record Hashes (es : List Entry) (n : ℕ) (names others : List ℕ) : Type 0 where
-  pub name : take n names ≡ tabulate (name_hash es) n
-  pub other : take n others ≡ tabulate (other_hash es) n
-
 -- whether an entry has its name as its abbreviation too
 abbrev pub repeats_within : Entry → Bool
 repeats_within e = same_bytes (name_bytes e) (abbreviation_bytes e)
@@ -65,29 +63,30 @@ abbrev pub NoneWithin : List Entry → ℕ → Type 0
 NoneWithin es n = (k : ℕ) → k < n → repeats_within (entry_at es k) ≡ false
 
 -- the hashes of an entry's names, and whether its name may be its abbreviation too
-pub record HashesOf (e : Entry) (name other : ℕ) (unclear : Bool) : Type 0 where
-  pub name_is : name ≡ hash_of (name_bytes e)
-  pub other_is : other ≡ hash_of (other_bytes e)
-  pub within : unclear ≡ false → repeats_within e ≡ false
+pub record HashesOf (e : Entry) (h : LineHashes) : Type 0 where
+  pub name_is : h.name ≡ hash_of (name_bytes e)
+  pub other_is : h.other ≡ hash_of (other_bytes e)
+  pub within : h.unclear ≡ false → repeats_within e ≡ false
 
--- the same of the first n entries
-pub record HashesKept (es : List Entry) (n : ℕ) (names others : List ℕ) (unclear : Bool) : Type 0 where
-  pub hashes : Hashes es n names others
-  pub within : unclear ≡ false → NoneWithin es n
+-- the same of the first n entries: the first n of each are the hashes of their names, and of their other names
+pub record HashesKept (es : List Entry) (n : ℕ) (h : Hashes) : Type 0 where
+  pub name : take n h.names ≡ tabulate (name_hash es) n
+  pub other : take n h.others ≡ tabulate (other_hash es) n
+  pub within : h.unclear ≡ false → NoneWithin es n
 
 -- a collision: whether one of the hashes a and b is one of c and d
 abbrev pub collide : ℕ → ℕ → ℕ → ℕ → Bool
 collide a b c d = (eqb a c || eqb b c) || (eqb a d || eqb b d)
 
-abbrev pub collide_at : List ℕ → List ℕ → ℕ → ℕ → Bool
-collide_at names others k j = collide (get_or names j 0) (get_or others j 0) (get_or names k 0) (get_or others k 0)
+abbrev pub collide_at : Hashes → ℕ → ℕ → Bool
+collide_at h k j = collide (get_or h.names j 0) (get_or h.others j 0) (get_or h.names k 0) (get_or h.others k 0)
 
 -- whether entry k, by its hashes, may have a name in common with an earlier entry: one that has no hashes may
-unfoldable pub collides_before : List ℕ → List ℕ → ℕ → Bool
-collides_before names others k = leb max_lines k || some_below (collide_at names others k) k
+unfoldable pub collides_before : Hashes → ℕ → Bool
+collides_before h k = leb max_lines k || some_below (collide_at h k) k
 
-abbrev pub NoneCollide : List ℕ → List ℕ → ℕ → Type 0
-NoneCollide names others n = (k : ℕ) → k < n → collides_before names others k ≡ false
+abbrev pub NoneCollide : Hashes → ℕ → Type 0
+NoneCollide h n = (k : ℕ) → k < n → collides_before h k ≡ false
 
 -- ---- a bitmap filter of the hashes so far: a bit for each remainder of a hash, in so many words of 64 bits. A hash whose bit is not set is none
 -- of them. With 16,384 bits for at most 1,024 hashes, one in sixteen is set at most
@@ -95,15 +94,15 @@ abbrev pub filter_words : ℕ
 filter_words = 256
 
 -- whether the bit of a hash is set
-abbrev pub in_filter : List ℕ → ℕ → Bool
-in_filter filter hash = bit (get_or filter (hash / 64 % filter_words) 0) (hash % 64)
+abbrev pub in_filter : Filter → ℕ → Bool
+in_filter f hash = bit (get_or f.words (hash / 64 % filter_words) 0) (hash % 64)
 
 -- with the bit of one more hash
-abbrev pub with_hash : List ℕ → ℕ → List ℕ
-with_hash filter hash = set filter (hash / 64 % filter_words) (bit_or (get_or filter (hash / 64 % filter_words) 0) (2 ^ (hash % 64)))
+abbrev pub with_hash : Filter → ℕ → Filter
+with_hash f hash = record { words = set f.words (hash / 64 % filter_words) (bit_or (get_or f.words (hash / 64 % filter_words) 0) (2 ^ (hash % 64))) }
 
 -- the bits of the hashes of the first k entries are set
-pub record Filtered (names others : List ℕ) (k : ℕ) (filter : List ℕ) : Type 0 where
-  pub size : length filter ≡ filter_words
-  pub name : (j : ℕ) → j < k → in_filter filter (get_or names j 0) ≡ true
-  pub other : (j : ℕ) → j < k → in_filter filter (get_or others j 0) ≡ true
+pub record Filtered (h : Hashes) (k : ℕ) (f : Filter) : Type 0 where
+  pub size : length f.words ≡ filter_words
+  pub name : (j : ℕ) → j < k → in_filter f (get_or h.names j 0) ≡ true
+  pub other : (j : ℕ) → j < k → in_filter f (get_or h.others j 0) ≡ true

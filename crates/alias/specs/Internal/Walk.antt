@@ -1,8 +1,7 @@
 -- A table's lines up to the first that is bad by itself: for functions that are not public.
-use Rattle.std.specs.Prelude.{Bool, true, false, not, ◌||◌, List, ◌≡◌, ℕ, ◌<◌, leb, length, take}
-use Rattle.std.proofs.Math.Option.{Option}
+use Rattle.std.specs.Prelude.{Bool, true, false, not, ◌||◌, List, ◌≡◌, ℕ, ◌+◌, ◌<◌, leb, length, set, take, Option}
 use Rattle.common.specs.Answer.{is_granted}
-use Rattle.common.specs.Index.{first_from}
+use Rattle.common.specs.Index.{first_from, tabulate}
 use Rattle.hexline.specs.Line.{read_entry_line}
 use Rattle.alias_entry.specs.declared.Entry.{Entry}
 use Rattle.octets.specs.Lines.{line_at, lines_of}
@@ -17,8 +16,13 @@ faulty_of k line = leb max_lines k || not (is_granted (read_entry_line line))
 abbrev pub faulty_at : List (List ℕ) → ℕ → Bool
 faulty_at ls k = faulty_of k (line_at ls k)
 
-abbrev pub lines_from : ℕ → List ℕ → LineStarts
-lines_from count starts = record { count = count; starts = starts }
+-- the starts before the first line
+abbrev pub no_lines : LineStarts
+no_lines = record { count = 0; starts = tabulate (λ k. 0) (max_lines + 1) }
+
+-- with one line more, which ends at an index
+abbrev pub more_lines : LineStarts → ℕ → LineStarts
+more_lines l end = record { count = l.count + 1; starts = set l.starts (l.count + 1) end }
 
 -- these are the lines before the first that is bad by itself, and whether there is one
 pub record Walks (more : Bool) (bytes : List ℕ) (lines : LineStarts) (stopped : Bool) : Type 0 where

@@ -1,16 +1,17 @@
-use mathlib.Core.Path.{sym, ◌∙◌}
-use native.Mathlib.Omega.{arith}
-use Rattle.common.proofs.IndexLaws.{test_all, test_next, test_none, test_stop}
+use borrow.Author.Rules.{rules}
+use mathlib.Core.Path.{refl, ◌∙◌}
+use Prim.Native.Nat.{ℕ}
+use lib.ListN.{length}
+use Rattle.std.proofs.lemmas.Iterator.{YieldsList-from_slice}
+use Rattle.std.proofs.lemmas.Iterator.Consumers.{YieldsList-from_enumerate}
+use Rattle.std.proofs.lemmas.Iterator.Search.{all_from_yields_List}
+use Rattle.common.proofs.ChainLaws.{every_indexed}
+use Rattle.alias_entry.specs.Entry.{name_byte_at, name_byte_ok}
 use Rattle.alias_entry.proofs.all_name_bytes.Goals as goal
 
-pub loop-i-init : goal.loop-i-init
-loop-i-init c = test_none
-
-pub returns-then-not-name_byte_ok : goal.returns-then-not-name_byte_ok
-returns-then-not-name_byte_ok c = test_stop c.loop-i.invariant (omega arith) (sym c.name_byte_ok.ensures ∙ c.if-not-name_byte_ok.true)
-
-pub loop-i-preserved : goal.loop-i-preserved
-loop-i-preserved c = test_next c.loop-i.invariant (omega arith) (sym c.name_byte_ok.ensures ∙ c.if-not-name_byte_ok.false)
-
 pub returns : goal.returns
-returns c = test_all c.loop-i.invariant (omega arith)
+returns c =
+    let bs = c.args.bytes.now in
+    let n = c.args.n in
+    all_from_yields_List (λ (p : ℕ × ℕ). name_byte_ok n p.0 p.1) _ _ c.all.result c.all.ensures.ran (YieldsList-from_enumerate (YieldsList-from_slice bs cc) (cc)) (λ x b q k. search rules)
+    ∙ every_indexed _ (name_byte_at bs n) bs (length bs) 0 refl (λ i l. refl)

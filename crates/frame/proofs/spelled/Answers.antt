@@ -1,12 +1,12 @@
-use Rattle.std.proofs.Common.{◌-◌, Bool, ◌&&◌, eqb, length, get_or, sym, ap, ◌∙◌, arith}
+use Rattle.std.proofs.Common.{sym, arith}
 use Rattle.frame.proofs.FrameLoops.{spelled_even, spelled_odd}
 use Rattle.frame.proofs.spelled.Goals as goal
 
-pub returns-then-n-eq0 : goal.returns-then-n-eq0
-returns-then-n-eq0 c = sym (spelled_even _ c.if-n-eq0.true)
+pub returns-in_default : goal.returns-in_default
+returns-in_default c = let e = c.in_default.ensures.cases in sym (spelled_even _ (omega arith))
+
+pub returns-then-pairs-ne0 : goal.returns-then-pairs-ne0
+returns-then-pairs-ne0 c = let e = c.in-Some.ensures.cases in sym (spelled_even _ (omega arith))
 
 pub returns : goal.returns
-returns c =
-    let line = c.args.line.now in
-    let n = length line - 1 in
-    ap (λ (b : Bool). b && eqb (get_or line n 0) 10) c.all_digits.ensures ∙ spelled_odd line n (omega arith) (omega arith)
+returns c = let e = c.in-Some.ensures.cases in spelled_odd _ _ _ e.0 (omega arith) c.all_digits.ensures

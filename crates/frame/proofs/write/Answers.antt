@@ -1,6 +1,6 @@
 -- A body that is too long, and a buffer that is too short, write nothing. Else the digits of the body, those of the check byte (`check_of`) and
 -- the LF together are the frame (`frame_more`).
-use Rattle.std.proofs.Common.{ℕ, ◌+◌, ◌-◌, ◌*◌, ◌/◌, ◌%◌, List, length, set, sym, refl, ap, ◌∙◌, arith, le-leb}
+use Rattle.std.proofs.Common.{ℕ, ◌+◌, ◌*◌, ◌/◌, ◌%◌, List, length, set, sym, refl, ap, ◌∙◌, arith, le-leb}
 use borrow.Author.Tests.{lt-leb}
 use Rattle.common.specs.declared.errno.Errno.TheVariants.{Invalid}
 use Rattle.common.proofs.AnswerLaws.{passed, stopped}
@@ -24,8 +24,8 @@ returns c =
     let body = c.args.body.now in
     let out = c.args.out.now in
     let n = length body in
-    let b = (256 - c.spell-s.result) % 256 in
-    let e = check_of body c.spell-s.result c.spell-s.ensures.value in
+    let b = c.wrapping_neg.result in
+    let e = check_of body c.spell-s.result b c.spell-s.ensures.value (omega arith) c.wrapping_neg.ensures in
     let len = frame_length body in
     let two = c.put.ensures ∙ ap (λ (l : List ℕ). set (set l (2 * n) (digit_of (b / 16))) (2 * n + 1) (digit_of (b % 16))) c.spell-s.ensures.out_after in
     writes (frame_of body) _ out _ (passed _ 22 _ (le-leb n max_body c.if-n-gt-MAX_BODY.false)) _ (sym len) (omega arith)

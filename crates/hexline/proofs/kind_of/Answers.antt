@@ -10,6 +10,6 @@ use Rattle.hexline.proofs.kind_of.Goals as goal
 pub returns : goal.returns
 returns c =
     let line = c.args.line.now in
-    c.kind_numbered.ensures
+    c.try_from.ensures
     ∙ ap kind_numbered (c.byte.ensures ∙ ap (λ (bs : List ℕ). byte_at bs 0) (decoded_front line _ c.decode-n.ensures.value c.decode-n.ensures.out_after c.front.ensures))
     ∙ kind_told line

@@ -2,11 +2,24 @@
 -- has to be believed.
 use Rattle.std.specs.Prelude.{Bool, cond, not, ◌&&◌, ◌||◌, ℕ}
 use Rattle.common.specs.Answer.{Answer, granted, require}
-use Rattle.monitor.specs.Monitor.{asks, destructive_read, intent_execute, intent_get, intent_read, intent_search, intent_set, intent_write, met_of}
-use Rattle.monitor.specs.declared.Access.TheVariants.{Observe, Modify}
+use Rattle.monitor.specs.Monitor.{asks, destructive_read, intent_execute, intent_get, intent_read, intent_search, intent_set, intent_write, met_of, Observe, Modify}
+use Rattle.label.specs.declared.Label.{Label}
+use Rattle.monitor.specs.declared.Met.{Met}
+use Rattle.monitor.specs.declared.Object.{Object}
+use Rattle.monitor.specs.declared.intent.Intent.{Intent}
+use Rattle.monitor.specs.declared.intent.Intent.TheVariants.{Write, Read, Execute, Search, GetAttribute, SetAttribute}
 use Rattle.monitor.specs.declared.ObjectClass.{ObjectClass}
 use Rattle.monitor.specs.declared.Privileges.{Privileges}
 use Rattle.monitor.specs.declared.Request.{Request}
+
+-- the bit of the code's intent
+abbrev pub intent_number : Intent → ℕ
+intent_number Write = intent_write
+intent_number Read = intent_read
+intent_number Execute = intent_execute
+intent_number Search = intent_search
+intent_number GetAttribute = intent_get
+intent_number SetAttribute = intent_set
 
 -- whether a row that observes is asked for
 unfoldable pub observes_of : ℕ → Bool
@@ -15,6 +28,10 @@ observes_of intents = asks intents intent_read || asks intents intent_execute ||
 -- whether a row that modifies is asked for
 unfoldable pub modifies_of : ℕ → ObjectClass → Bool
 modifies_of intents c = asks intents intent_write || (asks intents intent_read && destructive_read c) || asks intents intent_set
+
+-- the tests of both accesses
+abbrev pub tests_of : Label → Object → Met
+tests_of subject o = record { observe = met_of subject o Observe; modify = met_of subject o Modify }
 
 unfoldable pub needed_of : Request → Privileges
 needed_of r =

@@ -1,16 +1,13 @@
-use Rattle.std.proofs.Common.{sym, ◌∙◌, arith}
-use Rattle.octets.proofs.ByteLaws.{index_end, index_hit, index_pass}
+use Rattle.std.proofs.Common.{rules, tests, eqb, ℕ}
+use Rattle.std.proofs.lemmas.Iterator.{YieldsList-from_slice}
+use Rattle.std.proofs.lemmas.Iterator.Search.{position_from_yields_List}
+use Rattle.octets.proofs.ByteLaws.{index_found}
 use Rattle.octets.proofs.index_of.Goals as goal
-
-pub returns-then-xs-i : goal.returns-then-xs-i
-returns-then-xs-i c =
-    let a = c.args in
-    record { index = sym (c.loop-i.invariant.1 ∙ index_hit a.b a.xs.now c.loop-i.i (omega arith) c.if-xs-i.true); within = omega arith }
-
-pub loop-i-preserved : goal.loop-i-preserved
-loop-i-preserved c = let a = c.args in (omega arith, c.loop-i.invariant.1 ∙ index_pass a.b a.xs.now c.loop-i.i (omega arith) c.if-xs-i.false)
 
 pub returns : goal.returns
 returns c =
     let a = c.args in
-    record { index = sym (c.loop-i.invariant.1 ∙ index_end a.b a.xs.now c.loop-i.i (omega arith)); within = omega arith }
+    let b : ℕ = a.b in
+    index_found b a.xs.now
+    (position_from_yields_List (λ x. eqb x b) _ _ c.position.result c.position.ensures.ran (YieldsList-from_slice a.xs.now cc) (λ x r q k. search (rules, tests)))
+    c.unwrap_or.ensures

@@ -1,6 +1,5 @@
 -- How long a text is, for functions that are not public: a writer measures a text before it writes it.
-use Rattle.std.specs.Prelude.{Bool, true, false, cond, ◌&&◌, List, ◌++◌, ◌≡◌, ℕ, ◌+◌, ◌*◌, ◌≤◌, leb, length}
-use Rattle.std.proofs.Math.Option.{Option, none, some}
+use Rattle.std.specs.Prelude.{Bool, true, false, cond, ◌&&◌, List, ◌++◌, ◌≡◌, ℕ, ◌+◌, ◌*◌, ◌≤◌, leb, length, Option, None, Some}
 use Rattle.common.specs.Answer.{Answer, granted, refused}
 use Rattle.label.specs.Words.{words}
 use Rattle.range.specs.declared.Range.{Range}
@@ -12,18 +11,11 @@ use Rattle.text.specs.Write.{all_named, hidden_high, high_marker, label_text, lo
 use Rattle.text.specs.declared.Style.{Style}
 use Rattle.text.specs.declared.Variant.{Variant}
 use Rattle.text.specs.declared.Variant.TheVariants.{Names, Abbreviations}
-use Rattle.text.specs.declared.name.Measure.{Measure}
-use Rattle.text.specs.declared.name.Measure.TheVariants.{Bytes, Missing}
-
--- what the enum Measure says
-abbrev pub measure_of : Measure → Option ℕ
-measure_of (Bytes n) = some n
-measure_of Missing = none
 
 -- what is answered of a text of a measure where a buffer has room for so many bytes
 abbrev pub room_of : Option ℕ → ℕ → Answer ℕ
-room_of none room = refused 2 none
-room_of (some n) room = cond (leb n room) (granted n) (refused 7 (some n))
+room_of None room = refused 2 None
+room_of (Some n) room = cond (leb n room) (granted n) (refused 7 (Some n))
 
 -- where the name that is written stands in the line of an entry
 unfoldable pub written_in : Variant → List ℕ → Span
@@ -59,6 +51,6 @@ abbrev pub max_range : ℕ
 max_range = 7 + max_label + max_label
 
 -- r is the length of a text where all its names are there. The second follows, and is stated for callers
-pub record MeasuredText (is_named : Bool) (text : List ℕ) (most : ℕ) (r : Measure) : Type 0 where
-  pub measure : measure_of r ≡ cond is_named (some (length text)) none
-  pub at_most_lem : (n : ℕ) → r ≡ Bytes n → n ≤ most
+pub record MeasuredText (is_named : Bool) (text : List ℕ) (most : ℕ) (r : Option ℕ) : Type 0 where
+  pub measure : r ≡ cond is_named (Some (length text)) None
+  pub at_most_lem : (n : ℕ) → r ≡ Some n → n ≤ most

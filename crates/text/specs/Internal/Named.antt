@@ -4,14 +4,7 @@ use Rattle.common.specs.Answer.{Answer, and_then, granted, require}
 use Rattle.label.specs.Words.{includes_of, single_of, union_of}
 use Rattle.alias_entry.specs.declared.Entry.{Entry}
 use Rattle.alias_entry.specs.declared.Value.{Value}
-use Rattle.text.specs.Read.{category_named, entry_named, plain}
-use Rattle.text.specs.declared.read.Named.{Named}
-use Rattle.text.specs.declared.read.Named.TheVariants.{As, Nothing}
-
--- what the enum Named says
-abbrev pub value_named_of : Named → Answer Value
-value_named_of (As v) = granted v
-value_named_of Nothing = plain
+use Rattle.text.specs.Read.{category_named, entry_named}
 
 unfoldable pub value_named : List Entry → List ℕ → Answer Value
 value_named es text = and_then (entry_named es text) (λ (e : Entry). granted e.value)

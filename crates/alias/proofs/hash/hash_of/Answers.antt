@@ -1,22 +1,15 @@
-use mathlib.Core.Path.{refl, ◌∙◌}
-use native.Mathlib.Omega.{arith}
-use Rattle.alias.proofs.HashLaws.{hash_end, hash_next, hash_start}
+use mathlib.Core.Path.{◌≡◌, ap, ◌∙◌}
+use borrow.Author.Rules.{rules}
+use lib.ListN.{length}
+use Rattle.std.specs.List.{fold}
+use Rattle.std.proofs.iter.runs.Made.{chains}
+use Rattle.alias.specs.Internal.Hash.{folded_hash, hash_of, next_hash}
+use Rattle.alias.proofs.HashLaws.{hash_folded}
 use Rattle.alias.proofs.hash.hash_of.Goals as goal
 
-pub loop-i-init : goal.loop-i-init
-loop-i-init c = hash_start c.args.bytes.now
-
-pub overflow_mul-hash : goal.overflow_mul-hash
-overflow_mul-hash c = omega arith
-
-pub overflow_cast-hash : goal.overflow_cast-hash
-overflow_cast-hash c = omega (arith, c.type_inv.bytes c.loop-i.i)
-
-pub overflow_add-hash : goal.overflow_add-hash
-overflow_add-hash c = omega (arith, c.type_inv.bytes c.loop-i.i)
-
-pub loop-i-preserved : goal.loop-i-preserved
-loop-i-preserved c = hash_next c.args.bytes.now c.loop-i.invariant (omega arith) refl
-
 pub returns : goal.returns
-returns c = c.folded.ensures ∙ hash_end c.args.bytes.now c.loop-i.invariant (omega arith)
+unfolding hash_of
+returns c =
+    let bs = c.args.bytes.now in
+    let e : c.fold.result ≡ fold next_hash (length bs) bs = search (rules, chains) in
+    c.folded.ensures ∙ ap folded_hash (e ∙ hash_folded (length bs) bs)

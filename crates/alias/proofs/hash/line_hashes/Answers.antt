@@ -4,11 +4,21 @@ use Rattle.frame.proofs.FrameLoops.{decoded_front}
 use Rattle.hexline.specs.Accept.{accepted_body}
 use Rattle.hexline.specs.Line.{standing_in}
 use Rattle.hexline.proofs.AcceptLaws.{accepted_by, accepted_whole}
+use Rattle.hexline.specs.Line.{entry_in}
+use Rattle.label_codec.specs.Body.{line_words}
+use Rattle.alias.proofs.HashLaws.{hashes_if}
 use Rattle.alias.proofs.hash.line_hashes.Goals as goal
 
-pub returns : goal.returns
-unfolding standing_in
-returns c =
+pub returns-clause-accepted : goal.returns-clause-accepted
+returns-clause-accepted c =
     let line = c.args.line.now in
     let b = decoded_front line _ c.decode-n.ensures.value c.decode-n.ensures.out_after c.front.ensures in
-    let a = c.body_hashes.ensures.accepted_value ∙ ap accepted_body b ∙ sym (accepted_by line) in record { accepted_value = a; hashes_of = λ e. rw (b ∙ accepted_whole line (sym a ∙ e)) at (c.body_hashes.ensures.hashes_of e) }
+    c.body_hashes.ensures.accepted ∙ ap accepted_body b ∙ sym (accepted_by line)
+
+pub returns-clause-hashes_of : goal.returns-clause-hashes_of
+unfolding standing_in
+returns-clause-hashes_of c =
+    let line = c.args.line.now in
+    let b = decoded_front line _ c.decode-n.ensures.value c.decode-n.ensures.out_after c.front.ensures in
+    let a = c.body_hashes.ensures.accepted ∙ ap accepted_body b ∙ sym (accepted_by line) in
+    hashes_if c.body_hashes.result (λ e. ap (entry_in line_words) (b ∙ accepted_whole line (sym a ∙ e))) c.body_hashes.ensures.hashes_of

@@ -1,23 +1,23 @@
--- The bytes at two spans of as many bytes are the same exactly if they are from the i-th on, where the first i were equal.
 use borrow.Author.Rules.{rules}
-use mathlib.Core.Path.{refl}
-use Prim.Native.Nat.{◌-◌}
+use mathlib.Core.Path.{sym, ap, ◌∙◌}
+use Prim.Native.Nat.{ℕ, ◌+◌}
 use native.Mathlib.Omega.{arith}
-use Rattle.alias.proofs.LookupLaws.{alike_differ, alike_end, alike_pass, alike_stop}
+use Rattle.frame.specs.Frame.{body_of}
+use Rattle.label_codec.specs.Body.{byte_at}
+use Rattle.alias_entry.specs.Internal.Spans.{span_bytes}
+use Rattle.hexline.proofs.StandingLaws.{span_at, span_length}
+use Rattle.alias.specs.Internal.Names.{span_is}
+use Rattle.alias.proofs.LookupLaws.{span_same}
 use Rattle.alias.proofs.names.alike.Goals as goal
 
-pub loop-i-init : goal.loop-i-init
-loop-i-init c = record { within = search rules; rest = refl }
-
-pub loop-i-preserved : goal.loop-i-preserved
-loop-i-preserved c =
-    alike_pass _ _ _ _ c.if-s-t.false c.loop-i.i c.loop-i.invariant (omega arith) c.byte.ensures c.byte-in-loop-i.ensures c.if-byte.false
-
-pub returns-then-s-t : goal.returns-then-s-t
-returns-then-s-t c = search alike_differ
-
-pub returns-then-byte : goal.returns-then-byte
-returns-then-byte c = search alike_stop
+pub matches-requires : goal.matches-requires
+matches-requires c κs within = search rules fits 3000
 
 pub returns : goal.returns
-returns c = search alike_end
+returns c =
+    let a = c.args in
+    let other = body_of a.b.now in
+    let f = λ (i : ℕ). byte_at other (a.t.at + i) in
+    let n = span_length other a.t in
+    c.matches.ensures ∙ ap (span_is (body_of a.a.now) a.s f) (sym n)
+    ∙ span_same (body_of a.a.now) a.s f (span_bytes other a.t) (λ i l. sym (span_at other a.t i (omega arith)))

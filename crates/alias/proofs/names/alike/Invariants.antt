@@ -1,11 +1,7 @@
-use Prim.Native.Nat.{◌-◌}
+use Prim.Native.Nat.{◌+◌}
 use Rattle.frame.specs.Frame.{body_of}
-use Rattle.alias_entry.specs.Internal.Spans.{span_bytes}
-use Rattle.alias.proofs.LookupLaws.{SameSoFar}
+use Rattle.label_codec.specs.Body.{byte_at}
 use Rattle.alias.proofs.names.alike.Given as goal
 
-abbrev pub invariant-loop-i : goal.invariant-loop-i
-invariant-loop-i l = SameSoFar (body_of l.a) l.s (span_bytes (body_of l.b) l.t) l.i
-
-abbrev pub decreases-loop-i : goal.decreases-loop-i
-decreases-loop-i l = l.s.length - l.i
+abbrev pub ghost-matches : goal.ghost-matches
+ghost-matches a i = byte_at (body_of a.other.0.now) (a.other.1.now + i)

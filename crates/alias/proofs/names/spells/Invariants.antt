@@ -1,10 +1,5 @@
-use Prim.Native.Nat.{◌-◌}
-use Rattle.frame.specs.Frame.{body_of}
-use Rattle.alias.proofs.LookupLaws.{SameSoFar}
+use lib.ListN.{get_or}
 use Rattle.alias.proofs.names.spells.Given as goal
 
-abbrev pub invariant-loop-i : goal.invariant-loop-i
-invariant-loop-i l = SameSoFar (body_of l.line) l.s l.text l.i
-
-abbrev pub decreases-loop-i : goal.decreases-loop-i
-decreases-loop-i l = l.s.length - l.i
+abbrev pub ghost-matches : goal.ghost-matches
+ghost-matches a i = get_or a.other.0.now i 0

@@ -1,35 +1,26 @@
--- Each arm has told the class of the entry and that of the value: the same class is compared, and another is no match (`other_class`).
-use native.Mathlib.Omega.{arith}
+use borrow.Author.Rules.{rules}
+use mathlib.Core.Path.{◌≡◌, ◌∙◌}
+use Rattle.alias_entry.specs.declared.Value.TheVariants.{WholeLabel}
 use Rattle.alias.specs.Lookup.{same_value, stands_for}
-use Rattle.alias.proofs.LookupLaws.{other_class}
+use Rattle.alias.proofs.LookupLaws.{equal_values, other_values}
 use Rattle.alias.proofs.names.stands_for.Goals as goal
 
-pub returns-in-Hierarchy-v : goal.returns-in-Hierarchy-v
-unfolding stands_for same_value
-returns-in-Hierarchy-v c = rw (← c.value-u.ensures, c.in-Hierarchy.is, c.in-Hierarchy-v.is)
-
-pub returns-in_default : goal.returns-in_default
+pub returns-then-ne : goal.returns-then-ne
 unfolding stands_for
-returns-in_default c =
-    let a = c.args in
-    rw (← c.value-u.ensures, c.in-Hierarchy.is) (other_class _ a.v _ a.l (λ e. omega arith))
+returns-then-ne c =
+    let e : c.value.result ≡ c.args.v = search rules in
+    let d : c.args.v ≡ WholeLabel → ⊥ = search rules in
+    c.if-ne.true ∙ rw (← c.value.ensures, e) (equal_values c.args.v _ c.args.l.now d)
 
-pub returns-in-Category-v : goal.returns-in-Category-v
+pub returns-else-ne : goal.returns-else-ne
 unfolding stands_for same_value
-returns-in-Category-v c = rw (← c.value-u.ensures, c.in-Category.is, c.in-Category-v.is)
+returns-else-ne c =
+    let e : c.value.result ≡ c.args.v = search rules in
+    let d : c.args.v ≡ WholeLabel = search rules in
+    rw (← c.value.ensures, e, d, c.has_label.ensures)
 
-pub returns-in_default-v : goal.returns-in_default-v
+pub returns-else-eq : goal.returns-else-eq
 unfolding stands_for
-returns-in_default-v c =
-    let a = c.args in
-    rw (← c.value-u.ensures, c.in-Category.is) (other_class _ a.v _ a.l (λ e. omega arith))
-
-pub returns-in-WholeLabel-v : goal.returns-in-WholeLabel-v
-unfolding stands_for same_value
-returns-in-WholeLabel-v c = rw (← c.value-u.ensures, c.in-WholeLabel.is, c.in-WholeLabel-v.is, c.has_label.ensures)
-
-pub returns-in_default-v-2 : goal.returns-in_default-v-2
-unfolding stands_for
-returns-in_default-v-2 c =
-    let a = c.args in
-    rw (← c.value-u.ensures, c.in-WholeLabel.is) (other_class _ a.v _ a.l (λ e. omega arith))
+returns-else-eq c =
+    let d : c.value.result ≡ c.args.v → ⊥ = search rules in
+    c.if-eq.false ∙ rw (← c.value.ensures) (other_values _ _ _ _ d)

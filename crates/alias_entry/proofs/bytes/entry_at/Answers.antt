@@ -11,5 +11,5 @@ unfolding entry_from
 returns c =
     let w = width c.args.words in
     let bs = c.args.bytes.now in
-    rw (c.value_from.ensures, c.label_from.ensures, c.byte.ensures, c.copy_text.ensures, c.copy_text-2.ensures, c.layout_from-p.ensures.value, c.rest-own.ensures)
+    rw (c.value_from.ensures, c.from.ensures, c.from-2.ensures, c.label_from.ensures, c.byte.ensures, c.read_text.ensures, c.read_text-2.ensures, c.layout_from-p.ensures.value, c.rest-own.ensures)
     (same_entry w (drop c.args.at bs) bs 0 c.args.at (rest_same bs c.args.at))

@@ -1,15 +1,10 @@
-use mathlib.Core.Path.{◌≡◌}
-use Prim.Native.Nat.{◌%◌}
-use native.Mathlib.Nat.{mod-eq_of_lt}
 use native.Mathlib.Omega.{arith}
 use Rattle.octets.proofs.ByteLaws.{appended_put, then_appended}
 use Rattle.alias_entry.proofs.bytes.put_text.Goals as goal
 
 pub returns : goal.returns
 returns c =
-    let n = c.args.n in
-    let e : n % 256 ≡ n = mod-eq_of_lt c.requires.1 in
     let r = c.requires.2 in
-    let b = appended_put (omega arith) (rw e at c.append_byte-next.ensures) in
+    let b = appended_put (omega arith) c.append_byte-next.ensures in
     let k = b.past in
     then_appended (omega (arith, c.requires.2)) b (rw c.front.ensures at c.append.ensures)

@@ -1,20 +1,21 @@
-use Rattle.std.proofs.Common.{◌≡◌, ℕ, refl, arith, eqb, false, ◌||◌, List, [], ◌∷◌, length, get_or}
+use Rattle.std.proofs.Common.{◌≡◌, ℕ, refl, eqb, false, ◌||◌, List, [], ◌∷◌, Some, None}
+use Rattle.std.specs.List.{slice_get}
 use Rattle.octets.specs.Bytes.{lf}
 use Rattle.console.specs.Command.{skipped_of}
 use Rattle.console.proofs.command.is_skipped.Goals as goal
 
-no_bytes : (line : List ℕ) → length line ≡ 0 → false ≡ skipped_of line
+by_first : (line : List ℕ) (b : ℕ) → Some b ≡ slice_get line 0 → (eqb b lf || eqb b 35) ≡ skipped_of line
 unfolding skipped_of
-no_bytes [] e = refl
-no_bytes (b ∷ bs) e = absurd (omega arith)
+by_first [] b e = cc
+by_first (x ∷ xs) b e = let d : b ≡ x = cc in rw d
 
-by_first : (line : List ℕ) → (length line ≡ 0 → ⊥) → (eqb (get_or line 0 0) lf || eqb (get_or line 0 0) 35) ≡ skipped_of line
+no_first : (line : List ℕ) → None ≡ slice_get line 0 → false ≡ skipped_of line
 unfolding skipped_of
-by_first [] h = absurd (h refl)
-by_first (b ∷ bs) h = refl
+no_first [] e = refl
+no_first (x ∷ xs) e = cc
 
-pub returns-then-line-eq0 : goal.returns-then-line-eq0
-returns-then-line-eq0 c = no_bytes c.args.line.now c.if-line-eq0.true
+pub returns-in-Some : goal.returns-in-Some
+returns-in-Some c = by_first c.args.line.now _ c.in-Some.ensures.value
 
-pub returns : goal.returns
-returns c = by_first c.args.line.now c.if-line-eq0.false
+pub returns-in-None : goal.returns-in-None
+returns-in-None c = no_first c.args.line.now c.in-None.ensures.value

@@ -1,12 +1,6 @@
-use Rattle.octets.proofs.ByteLaws.{Tested, appended, left_out, room_for}
+use Rattle.octets.proofs.ByteLaws.{Tested, appended, left_out}
 use Rattle.console.specs.Format.{decimal_of}
 use Rattle.console.proofs.format.append_decimal.Goals as goal
-
-pub put_decimal-requires : goal.put_decimal-requires
-put_decimal-requires c =
-    let a = c.args in
-    let t : Tested a.out.now a.at (decimal_of a.n) c.decimal_length.result c.fits.result = record { count = c.decimal_length.ensures.count; room = c.fits.ensures } in
-    room_for t c.if-fits.true
 
 pub returns-then-fits : goal.returns-then-fits
 returns-then-fits c =

@@ -1,11 +1,11 @@
 use Rattle.std.proofs.Common.{arith}
-use Rattle.console.proofs.DecimalLaws.{decimal_length, length_more, length_one}
+use Rattle.console.proofs.DecimalLaws.{length_by_power, length_one}
 use Rattle.console.proofs.format.decimal_length.Goals as goal
 
-pub loop-left-preserved : goal.loop-left-preserved
-loop-left-preserved c = (omega arith, omega (arith, length_more c.loop-left.left (omega arith)))
+pub returns-in-Some : goal.returns-in-Some
+returns-in-Some c =
+    let e = c.in-Some.ensures in
+    let l = length_by_power c.args.n c.in-Some.k e.power_le e.next_power_gt in record { count = omega arith; at_most_lem = omega arith }
 
-pub returns : goal.returns
-returns c =
-    let e = length_one c.loop-left.left (omega arith) in
-    let l = decimal_length c.args.n 19 (omega arith) in record { count = omega arith; at_most_lem = omega arith }
+pub returns-in-None : goal.returns-in-None
+returns-in-None c = let e = c.in-None.ensures.none in let l = length_one c.args.n (omega arith) in record { count = omega arith; at_most_lem = omega arith }

@@ -1,4 +1,4 @@
-use Prim.Native.Nat.{◌+◌, ◌-◌}
+use Prim.Native.Nat.{◌+◌}
 use lib.ListN.{length}
 use Rattle.common.proofs.IndexLaws.{Filled}
 use Rattle.frame.specs.Frame.{body_of}
@@ -7,6 +7,3 @@ use Rattle.hexline.proofs.parts.bytes_from.Given as goal
 
 abbrev pub invariant-loop-k : goal.invariant-loop-k
 invariant-loop-k l = Filled (λ j. byte_at (body_of l.line) (l.at + j)) (length l.initial.out) l.out l.k
-
-abbrev pub decreases-loop-k : goal.decreases-loop-k
-decreases-loop-k l = length l.initial.out - l.k

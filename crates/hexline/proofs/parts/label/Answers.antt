@@ -1,7 +1,7 @@
 use mathlib.Core.List.{List}
 use mathlib.Core.Path.{ap, ◌∙◌}
 use Prim.Native.Nat.{ℕ, ◌+◌}
-use borrow.Author.Tests.{eq-eqb, ne_eqb}
+use borrow.Author.Tests.{eq-eqb}
 use Rattle.common.specs.Index.{tabulate}
 use Rattle.frame.specs.Frame.{body_of}
 use Rattle.label_codec.specs.Body.{byte_at, label_at, label_size, line_words}
@@ -18,7 +18,3 @@ returns-then-byte-eq3 c =
     rw (← c.byte.ensures, eq-eqb _ _ c.if-byte-eq3.true)
     (c.label_at.ensures ∙ ap (λ (xs : List ℕ). label_at line_words xs 0) c.bytes_from.ensures
     ∙ moved_label line_words bs (body_of line) 0 2 (copied_at (body_of line) 2 (label_size line_words)))
-
-pub returns : goal.returns
-unfolding standing_in entry_from layout_of label_from
-returns c = rw (← c.byte.ensures, ne_eqb _ _ c.if-byte-eq3.false, c.zero.ensures)

@@ -1,41 +1,26 @@
--- A word adds its set bits to the number of categories (`below_more`). All words make the whole set.
+-- A set has as many categories as its words have set bits.
 use borrow.Author.Rules.{rules}
-use mathlib.Core.Path.{◌≡◌, refl, sym, ap, ◌∙◌}
-use Prim.Native.Nat.{ℕ, ◌+◌, ◌*◌}
+use mathlib.Core.Path.{◌≡◌, ◌∙◌}
 use native.Mathlib.Omega.{arith}
-use lib.Count.{ones, ones-le}
+use lib.Count.{ones}
 use lib.ListN.{length}
 use mir.Syntax.{w64}
 use mir.Val.{Fits}
-use Rattle.label.specs.Words.{members_below, members_of, word_at, words}
-use Rattle.label.proofs.ListingLaws.{below_more}
+use Rattle.std.proofs.lemmas.Iterator.{YieldsList-from_map, YieldsList-from_slice}
+use Rattle.std.proofs.lemmas.Iterator.Consumers.{fits_by_from_yields_list, sum_by_from_yields_List}
+use Rattle.label.specs.Words.{word_at, words}
+use Rattle.label.proofs.ListingLaws.{count_at_most, count_words}
 use Rattle.label.proofs.words.count.Goals as goal
 
-pub loop-i-init : goal.loop-i-init
-unfolding members_below
-loop-i-init c = (search rules, search rules, refl)
-
-pub overflow_cast-n : goal.overflow_cast-n
-overflow_cast-n c =
-    let fits : Fits w64 (word_at c.args.a c.loop-i.i) = search rules in
-    omega (arith, ones-le 64 _ fits.fits)
-
-pub overflow_add-n : goal.overflow_add-n
-overflow_add-n c =
-    let fits : Fits w64 (word_at c.args.a c.loop-i.i) = search rules in
-    omega (arith, ones-le 64 _ fits.fits)
-
-pub loop-i-preserved : goal.loop-i-preserved
-loop-i-preserved c =
-    let a = c.args.a in
-    let i = c.loop-i.i in
-    let fits : Fits w64 (word_at a i) = search rules in
-    (search rules, omega (arith, ones-le 64 _ fits.fits), ap (λ (n : ℕ). n + ones (word_at a i)) c.loop-i.invariant.2 ∙ sym (below_more a i fits.fits))
-
-pub returns : goal.returns
-unfolding members_of
-returns c =
+pub sum-requires-clause-fits : goal.sum-requires-clause-fits
+sum-requires-clause-fits c =
     let a = c.args.a in
     let l : length a ≡ words = search rules in
-    let e : c.loop-i.i ≡ length a = omega arith in
-    c.loop-i.invariant.2 ∙ ap (λ (k : ℕ). length (members_below a (k * 64))) e
+    fits_by_from_yields_list ones a c.map.result _ (YieldsList-from_map _ ones (YieldsList-from_slice a (search rules)) (search rules) (λ x r q k. search rules))
+    (omega (arith, count_at_most a (λ i. let fits : Fits w64 (word_at a i) = search rules in fits.fits)))
+
+pub returns : goal.returns
+returns c =
+    let a = c.args.a in
+    sum_by_from_yields_List ones a c.map.result _ c.sum.ensures.ran (YieldsList-from_map _ ones (YieldsList-from_slice a (search rules)) (search rules) (λ x r q k. search rules))
+    ∙ count_words a (λ i. let fits : Fits w64 (word_at a i) = search rules in fits.fits)

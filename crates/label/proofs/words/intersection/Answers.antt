@@ -1,17 +1,13 @@
 use borrow.Author.Rules.{rules}
-use mathlib.Core.Path.{refl, ◌∙◌}
+use mathlib.Core.Path.{◌∙◌}
 use lib.Bits.{bit_and}
-use Rattle.label.specs.Words.{intersection_of, words}
-use Rattle.common.proofs.IndexLaws.{fill_all, fill_next, fill_none}
+use Rattle.common.proofs.ChainLaws.{tabulate_made}
+use Rattle.label.specs.Words.{combined_at, intersection_of, words}
 use Rattle.label.proofs.WordLaws.{combine_is}
 use Rattle.label.proofs.words.intersection.Goals as goal
 
-pub loop-i-init : goal.loop-i-init
-loop-i-init c = fill_none refl
-
-pub loop-i-preserved : goal.loop-i-preserved
-loop-i-preserved c = fill_next c.loop-i.invariant c.loop-i-test.true refl
-
 pub returns : goal.returns
 unfolding intersection_of
-returns c = fill_all c.loop-i.invariant c.loop-i-test.false ∙ combine_is bit_and _ _ words (search rules) (search rules)
+returns c =
+    tabulate_made (combined_at bit_and c.args.a c.args.b) 0 (λ i y t l k. search rules) c.from_fn.ensures.items
+    ∙ combine_is bit_and _ _ words (search rules) (search rules)

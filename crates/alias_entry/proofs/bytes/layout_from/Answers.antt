@@ -1,8 +1,0 @@
-use borrow.Author.Rules.{rules}
-use Rattle.alias_entry.specs.Entry.{layout_of}
-use Rattle.alias_entry.proofs.bytes.layout_from.Goals as goal
-
-pub returns : goal.returns
-unfolding layout_of
-returns c =
-    record { value = rw (c.span_in-abbreviation.ensures.value, c.span_in-name.ensures.value, c.value_size.ensures.value, c.byte-class.ensures); at_bound = search rules }

@@ -1,4 +1,0 @@
-use Rattle.lurmenize.proofs.labels.lurm_equal.Goals as goal
-
-pub returns : goal.returns
-returns c = rw (c.of_test.ensures, c.equal.ensures)

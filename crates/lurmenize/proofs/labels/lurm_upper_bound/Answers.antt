@@ -1,7 +1,0 @@
-use mathlib.Core.Path.{◌∙◌}
-use Rattle.abi.specs.Answer.{with_label}
-use Rattle.abi.proofs.AnswerLaws.{pair_answered}
-use Rattle.lurmenize.proofs.labels.lurm_upper_bound.Goals as goal
-
-pub returns : goal.returns
-returns c = c.of_label.ensures ∙ pair_answered with_label c.upper_bound-x.ensures

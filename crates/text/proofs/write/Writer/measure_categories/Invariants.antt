@@ -1,0 +1,11 @@
+use Prim.Native.Nat.{◌*◌, ◌-◌}
+use Rattle.label.specs.Words.{words}
+use Rattle.alias.specs.Lines.{table_entries}
+use Rattle.text.proofs.WriteLaws.{Measured}
+use Rattle.text.proofs.write.Writer.measure_categories.Given as goal
+
+abbrev pub invariant-loop-k : goal.invariant-loop-k
+invariant-loop-k l = Measured (table_entries l.self.table) l.self.style.variant l.categories l.total l.c
+
+abbrev pub decreases-loop-k : goal.decreases-loop-k
+decreases-loop-k l = words * 64 - l.c
