@@ -200,6 +200,7 @@ fn bare<T: Copy>(r: Result<T, Errno>) -> CAnswer
     }
 }
 
+// One for each struct that C has: see there.
 impl From<Result<Label, Errno>> for CLabelAnswer {
     ghost from_gives = { λ r x. x ≡ label_answer (answer_of r) };
 

@@ -15,6 +15,16 @@ pub struct CCaller {
     pub read_override: u64,
 }
 
+// The caller of any numbers, where what is no flag counts as 0: for what was tested. The conversion refuses it.
+pub fn decode(c: CCaller) -> Caller
+    ensures { result ≡ caller_of c }
+{
+    Caller {
+        label: c.label,
+        read_override: c.read_override == 1,
+    }
+}
+
 impl TryFrom<CCaller> for Caller {
     type Error = Errno;
 

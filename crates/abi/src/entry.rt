@@ -18,6 +18,19 @@ pub struct CEntry {
     pub abbreviation: Abbreviation,
 }
 
+// The entry of any numbers, where what names nothing names a label: for what was tested. The conversion refuses it.
+pub fn decode(e: CEntry) -> Entry
+    ensures { result ≡ decoded_of e }
+{
+    let (names, number) = (e.names, e.number);
+    Entry {
+        value: value_from(names, number),
+        label: e.label,
+        name: e.name,
+        abbreviation: e.abbreviation,
+    }
+}
+
 // An entry names what can be named: a label has no number.
 impl TryFrom<CEntry> for Entry {
     type Error = Errno;

@@ -6,7 +6,8 @@ ghost use Rattle.abi.specs.Request.{credentials_formed, credentials_of, object_f
 use crate::flag;
 use common::errno::Errno;
 use label::Label;
-use monitor::{Credentials, Object, Presence, Privileges, numbers};
+use monitor::numbers::ObjectType;
+use monitor::{Credentials, FileKind, Object, ObjectClass, Presence, Privileges, numbers};
 use range::Range;
 use range::tuple::Tuple;
 
@@ -30,6 +31,42 @@ pub struct CObject {
     pub has_tuple: u64,
     pub label: Label,
     pub tuple: Tuple,
+}
+
+// The credentials of any numbers, where what is no flag counts as 0: for what was tested. The conversion refuses them.
+pub fn decode_credentials(c: CCredentials) -> Credentials
+    ensures { result ≡ credentials_of c }
+{
+    Credentials {
+        label: c.label,
+        range: c.range,
+        privileges: Privileges {
+            read: c.read_override == 1,
+            write: c.write_override == 1,
+            relabel: c.relabel == 1,
+        },
+    }
+}
+
+// The object of any numbers, where those that name none, and what is no flag, are as 0: for what was tested. The conversion refuses them.
+pub fn decode_object(o: CObject) -> Object
+    ensures { result ≡ object_of o }
+{
+    let (class, kind) = (o.class, o.kind);
+    let named = numbers::type_of(class, kind).unwrap_or(ObjectType {
+        class: ObjectClass::File,
+        kind: FileKind::Regular,
+    });
+    Object {
+        class: named.class,
+        kind: named.kind,
+        present: Presence {
+            label: o.has_label == 1,
+            tuple: o.has_tuple == 1,
+        },
+        label: o.label,
+        tuple: o.tuple,
+    }
 }
 
 impl TryFrom<CCredentials> for Credentials {

@@ -4,7 +4,7 @@ ghost use Rattle.common.specs.Answer.{answer_of, granted, require};
 ghost use Rattle.abi.specs.Style.{formed_of, style_of};
 
 use common::errno::Errno;
-use text::{Style, numbers};
+use text::{Form, Style, Variant, numbers};
 
 // Form: 0 definition, 1 alias. Variant: 0 names, 1 abbreviations.
 #[repr(C)]
@@ -12,6 +12,17 @@ use text::{Style, numbers};
 pub struct CStyle {
     pub form: u64,
     pub variant: u64,
+}
+
+// The style of any numbers, where those that name none are as 0: for what was tested. The conversion refuses them.
+pub fn decode(s: CStyle) -> Style
+    ensures { result ≡ style_of s }
+{
+    let (form, variant) = (s.form, s.variant);
+    numbers::style_of(form, variant).unwrap_or(Style {
+        form: Form::Definition,
+        variant: Variant::Names,
+    })
 }
 
 impl TryFrom<CStyle> for Style {

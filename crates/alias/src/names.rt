@@ -55,7 +55,7 @@ fn some_name<F: Fn(Span) -> bool>(line: &[u8], test: F) -> bool
     test(t.name) | ((1 <= t.abbreviation.length) & test(t.abbreviation))
 }
 
-// Whether a text is a name of the entry in a line.
+// Whether a text is a name of the entry in a line. This and `shares` are what `some_name` says, of a text and of another line.
 pub(crate) fn called(line: &[u8], text: &[u8]) -> bool
     ensures { result ≡ called_of (standing_in line.now) text.now }
 {

@@ -144,6 +144,10 @@ form_of bs n kind e k = both (eq-eqb (length bs) n e) (eq-eqb (byte_at bs 0) kin
 
 -- ---- how a writer ends: it tests the contents first, and then puts a body together
 
+-- where the test answers what valid is, a line is due where the test holds
+pub line_due : {valid test : Bool} → test ≡ valid → test ≡ true → valid ≡ true
+line_due e t = sym e ∙ t
+
 pub refuses_line : {A : Type 0} (valid : Bool) (x : A) {e : Errno} {r : Result ℕ Errno} (body before : List ℕ)
     → refused_by e ≡ require valid 22 (granted x) → r ≡ Err e → WrittenTo r (line_of valid body) before before
 refuses_line valid x {e} body before h t = rw t (writes_nothing e _ before before (by valid h) refl)

@@ -60,7 +60,7 @@ pub(crate) trait Contents<const N: usize>: Copy {
         ensures written { Appended body.old 1 (bytes self) result body.new }
         ensures short { 1 + length (bytes self) ≤ N };
 
-    // What is read of a body.
+    // What is read of a body. Each kind has its own form, so each has a function, also where two read alike.
     fn of_body(body: &[u8]) -> Result<Self, Errno>
         ensures { answer_of result ≡ contents_of form inside valid_of body.now };
 

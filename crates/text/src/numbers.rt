@@ -6,7 +6,7 @@ ghost use Rattle.text.specs.Numbers.{form_named, style_named, variant_named};
 use crate::{Form, Style, Variant};
 use common::errno::Errno;
 
-// The form of a number: 0 definition, 1 alias.
+// The form of a number: 0 definition, 1 alias. This and the next have a table each: what they share is a `match`.
 impl TryFrom<u64> for Form {
     type Error = Errno;
 

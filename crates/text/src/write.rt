@@ -37,6 +37,7 @@ impl<'a> Writer<'a> {
         ensures { MeasuredText (categories_named (table_entries self.now.table) (members_of categories)) (categories_text (table_entries self.now.table) self.now.style.variant colon (members_of categories)) max_categories result }
     {
         let mut total = 0;
+        // The next category is searched from the one before it, so this is no walk over numbers.
         let mut c = 0;
         while let Some(k) = words::next(categories, c) {
             total += 1 + self.measure_name(Value::Category(k), label::zero())?;
@@ -62,6 +63,7 @@ impl<'a> Writer<'a> {
     {
         let mut past = at;
         let mut mark = b':';
+        // As above, searched from the one before.
         let mut c = 0;
         while let Some(k) = words::next(categories, c) {
             past = self.put_category(mark, k, out, past);

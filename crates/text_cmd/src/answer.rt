@@ -42,7 +42,7 @@ pub(crate) fn print_status(rt: &(impl Print + Eprint), status: u8) {
     print_bytes(rt, if status == 0 { b"0 " } else { b"1 " });
 }
 
-// Prints the hex line of a label that was read.
+// Prints the hex line of a label that was read. A function over a closure for this and the next was longer, since it needs a clause for the closure.
 pub(crate) fn print_label(rt: &(impl Print + Eprint), l: Label) -> Result<(), Errno> {
     let mut out = [0u8; ANSWER_BYTES];
     let n = hexline::write_label(l, &mut out)?;

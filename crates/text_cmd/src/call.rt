@@ -97,7 +97,8 @@ pub(crate) fn write_range(
     )
 }
 
-// Reads a label from a line of text. A bad line, which comes as no bytes at all, has no text.
+// Reads a label from a line of text. A bad line, which comes as no bytes at all, has no text. For this and the next it is as for the two writers: a
+// function over a closure would need a clause for it, and be longer.
 pub(crate) fn read_label(k: Kept, line: &[u8], table: &[u8]) -> Result<Label, Errno> {
     let [text @ .., _] = line else {
         return Err(operand_refusal(k, table));
