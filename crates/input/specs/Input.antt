@@ -1,5 +1,5 @@
 -- Lines of an input: one step at a time, and one line at a time.
-use Rattle.std.specs.Prelude.{Bool, true, false, ◌&&◌, cond, List, ◌≡◌, ℕ, zero, suc, ◌≤◌, ◌<◌, eqb, ltb, drop, length, take, Option, None, Some}
+use Rattle.std.specs.Prelude.{Bool, true, false, ◌&&◌, cond, List, ◌≡◌, ℕ, zero, suc, ◌-◌, ◌≤◌, ◌<◌, eqb, ltb, drop, length, take, Option, None, Some}
 use Rattle.std.specs.Io.KnownBytes.{Appends}
 use Rattle.console.specs.Lines.{piece_buffer, line_at_end, piece_of}
 use Rattle.console.specs.declared.lines.Line.{Line}
@@ -7,6 +7,7 @@ use Rattle.console.specs.declared.lines.Line.TheVariants.{More, Whole, Bad}
 use Rattle.console.specs.declared.lines.Partial.{Partial}
 use Rattle.console.specs.declared.lines.Partial.TheVariants.{Held}
 use Rattle.console.specs.declared.lines.Piece.{Piece}
+use Rattle.input.specs.declared.LineOrEnd.{LineOrEnd}
 use Rattle.input.specs.declared.Input.{Input}
 use Rattle.input.specs.declared.Input.TheVariants.{Open, Ended, Failed}
 use Rattle.input.specs.declared.Lines.{Lines}
@@ -130,14 +131,48 @@ found_of Bad = Some 0
 
 -- r and the two buffers are what the next line makes: where the input is at its end nothing is read. All but the first two follow, and are stated for
 -- callers
-pub record NextLine (i : Input) (chunk line : List ℕ) (r : Lines) (chunk_then line_then : List ℕ) : Type 0 where
+pub record FoundNext (i : Input) (chunk line : List ℕ) (r : LineOrEnd) (chunk_then line_then : List ℕ) : Type 0 where
   pub turn : Turn
   pub waited : Waited i chunk line turn chunk_then line_then
-  pub lines_is : r ≡ record { input = turn.input; line = found_of turn.line }
+  pub found_is : r ≡ record { input = turn.input; line = found_of turn.line }
   pub over : waits_of (before_step i) ≡ false → (r ≡ record { input = i; line = None }) × (chunk_then ≡ chunk) × (line_then ≡ line)
   pub same_chunk_length : length chunk_then ≡ length chunk
   pub same_line_length : length line_then ≡ length line
   pub within : (n : ℕ) → r.line ≡ Some n → n ≤ length line_then
+
+-- no line is at hand yet
+abbrev pub start_lines : Lines
+start_lines = record { input = start_input; line = None; left = most_lines }
+
+-- no line is at hand, and none may come
+abbrev pub no_more : Input → Lines
+no_more i = record { input = i; line = None; left = 0 }
+
+-- the lines after one was found, or none, where so many may still come with it
+abbrev pub lines_by : ℕ → Input → Option ℕ → Lines
+lines_by left i (Some n) = cond (ltb 0 left) (record { input = i; line = Some n; left = left }) (no_more i)
+lines_by left i None = no_more i
+
+abbrev pub lines_after : ℕ → LineOrEnd → Lines
+lines_after left f = lines_by left f.input f.line
+
+-- r and the two buffers are what is found next, where lines may still come
+pub record LineFound (l : Lines) (chunk line : List ℕ) (r : Lines) (chunk_then line_then : List ℕ) : Type 0 where
+  pub found : LineOrEnd
+  pub next : FoundNext l.input chunk line found chunk_then line_then
+  pub lines_is : r ≡ lines_after (l.left - 1) found
+
+-- r and the two buffers are what the next line makes: where none is left, or the input is at its end, nothing is read. All but the first two follow, and
+-- are stated for callers and for the measure of a loop
+pub record NextLine (l : Lines) (chunk line : List ℕ) (r : Lines) (chunk_then line_then : List ℕ) : Type 0 where
+  pub over : eqb l.left 0 ≡ true → (r ≡ no_more l.input) × (chunk_then ≡ chunk) × (line_then ≡ line)
+  pub found : eqb l.left 0 ≡ false → LineFound l chunk line r chunk_then line_then
+  pub ended : waits_of (before_step l.input) ≡ false → (r ≡ no_more l.input) × (chunk_then ≡ chunk) × (line_then ≡ line)
+  pub same_chunk_length : length chunk_then ≡ length chunk
+  pub same_line_length : length line_then ≡ length line
+  pub within : (n : ℕ) → r.line ≡ Some n → n ≤ length line_then
+  pub at_hand : (n : ℕ) → r.line ≡ Some n → 0 < r.left
+  pub fewer : r.left ≤ l.left - 1
 
 -- ---- lines that are handed on
 
@@ -155,7 +190,7 @@ pub record LineMore {F : Type 0} (call : F → List ℕ → F → Type 0) (P : F
   pub line : List ℕ
   pub before : P state_before input chunk line
   pub length : ℕ
-  pub found : NextLine input chunk line (record { input = i; line = Some length }) chunk_then line_then
+  pub found : FoundNext input chunk line (record { input = i; line = Some length }) chunk_then line_then
   pub called : call state_before (take length line_then) state
 
 -- the state, the input and the buffers are what n lines make, each of them handed on in its turn
@@ -166,7 +201,7 @@ Fed call first chunk line (suc n) state i chunk_then line_then = LineMore call (
 -- the input at `end` and the buffers are what the next line makes, where there is none; and r says whether a read failed
 pub record NoneLeft (i : Input) (chunk line : List ℕ) (r : Bool) (chunk_then line_then : List ℕ) : Type 0 where
   pub end : Input
-  pub found : NextLine i chunk line (record { input = end; line = None }) chunk_then line_then
+  pub found : FoundNext i chunk line (record { input = end; line = None }) chunk_then line_then
   pub failed : r ≡ failed_of end
 
 -- r and the two buffers are what is left when each line was handed on, beginning with the state `first`, unless there were too many of them

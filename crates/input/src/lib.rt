@@ -4,7 +4,7 @@
 
 ghost use Rattle.std.specs.Prelude.{◌≡◌, length};
 ghost use Rattle.std.specs.Fn.{CalledAt};
-ghost use Rattle.input.specs.Input.{AllFed, NextLine, Pieced, Refilled, Stepped, Waited, Written, failed_of, found_of, start_input, waits_of};
+ghost use Rattle.input.specs.Input.{AllFed, FoundNext, NextLine, Pieced, Refilled, Stepped, Waited, Written, failed_of, found_of, lines_after, no_more, start_input, start_lines, turn_after_read, waits_of};
 
 use console::lines;
 use console::lines::{Line, Partial};
@@ -38,16 +38,37 @@ pub struct Lines {
     pub input: Input,
     // How many bytes the line has at the front of the buffer, none where it is a bad line. There is no line at the end.
     pub line: Option<usize>,
+    // How many lines may still come, with the one at hand: none at the end. A proved loop has to end, and nothing says that the input does, so they are
+    // counted down, from a number that no run uses up.
+    pub left: u64,
+}
+
+// What steps find: a line, or none at the end, and where the input stands then.
+#[derive(Clone, Copy)]
+struct LineOrEnd {
+    input: Input,
+    line: Option<usize>,
 }
 
 // Nothing is held and nothing is left to take.
-pub fn start() -> Input
+fn start_input() -> Input
     ensures { result ≡ start_input }
 {
     Input::Open {
         partial: lines::start(),
         at: 0,
         filled: 0,
+    }
+}
+
+// No line is at hand yet.
+pub fn start() -> Lines
+    ensures { result ≡ start_lines }
+{
+    Lines {
+        input: start_input(),
+        line: None,
+        left: u64::MAX,
     }
 }
 
@@ -66,17 +87,17 @@ fn next_piece(partial: Partial, at: usize, filled: usize, chunk: &[u8], line: &m
     }
 }
 
-// Reads once. No bytes are the end of the input, and a read that fails ends it too. What a reader answers is open, and these lines are all that
-// depends on it.
-fn refill<R: Read>(reader: &mut R, partial: Partial, chunk: &mut [u8]) -> Turn
-    ensures { Refilled partial (length chunk.old) result }
+// What a read makes of so many bytes, or of none where it failed. No bytes are the end of the input, and a read that fails ends it too.
+#[tactic(auto, unfolding(crate::specs::Input::turn_after_read))]
+fn after_read(partial: Partial, count: Option<usize>) -> Turn
+    ensures { result ≡ turn_after_read partial count }
 {
-    match reader.read(chunk) {
-        Ok(0) => Turn {
+    match count {
+        Some(0) => Turn {
             input: Input::Ended,
             line: lines::last(partial),
         },
-        Ok(filled) => Turn {
+        Some(filled) => Turn {
             input: Input::Open {
                 partial,
                 at: 0,
@@ -84,10 +105,20 @@ fn refill<R: Read>(reader: &mut R, partial: Partial, chunk: &mut [u8]) -> Turn
             },
             line: Line::More,
         },
-        Err(_) => Turn {
+        None => Turn {
             input: Input::Failed,
             line: lines::last(partial),
         },
+    }
+}
+
+// Reads once. What a reader answers is open, and these lines are all that depends on it.
+fn refill<R: Read>(reader: &mut R, partial: Partial, chunk: &mut [u8]) -> Turn
+    ensures { Refilled partial (length chunk.old) result }
+{
+    match reader.read(chunk) {
+        Ok(n) => after_read(partial, Some(n)),
+        Err(_) => after_read(partial, None),
     }
 }
 
@@ -153,15 +184,51 @@ fn found(line: Line) -> Option<usize>
     }
 }
 
-// The next line, by as many steps as it takes. At the end there is none, and nothing is read.
-pub fn next<R: Read>(reader: &mut R, i: Input, chunk: &mut [u8], line: &mut [u8]) -> Lines
-    ensures { NextLine i chunk.old line.old result chunk.new line.new }
+// Finds the next line, by as many steps as it takes. At the end there is none, and nothing is read.
+fn find<R: Read>(reader: &mut R, i: Input, chunk: &mut [u8], line: &mut [u8]) -> LineOrEnd
+    ensures { FoundNext i chunk.old line.old result chunk.new line.new }
 {
     let t = steps(reader, i, chunk, line);
-    Lines {
+    LineOrEnd {
         input: t.input,
         line: found(t.line),
     }
+}
+
+// No line is at hand, and none may come.
+fn no_more(input: Input) -> Lines
+    ensures { result ≡ no_more input }
+{
+    Lines {
+        input,
+        line: None,
+        left: 0,
+    }
+}
+
+// The lines after one was found, or none, where so many may still come with it.
+fn after_find(left: u64, f: LineOrEnd) -> Lines
+    ensures { result ≡ lines_after left f }
+{
+    match f.line {
+        Some(_) if left > 0 => Lines {
+            input: f.input,
+            line: f.line,
+            left,
+        },
+        _ => no_more(f.input),
+    }
+}
+
+// The next line. At the end there is none, and nothing is read.
+pub fn next<R: Read>(reader: &mut R, l: Lines, chunk: &mut [u8], line: &mut [u8]) -> Lines
+    ensures { NextLine l chunk.old line.old result chunk.new line.new }
+{
+    if l.left == 0 {
+        return no_more(l.input);
+    }
+    let f = find(reader, l.input, chunk, line);
+    after_find(l.left - 1, f)
 }
 
 // Whether a read failed.
@@ -184,9 +251,9 @@ pub fn for_each_line<R: Read, F: FnMut(&[u8])>(
     requires { F.IsAlwaysCallable f }
     ensures { AllFed (λ p x q. CalledAt F.FnMut p x tt q) f chunk.old line.old result chunk.new line.new }
 {
-    let mut i = start();
+    let mut i = start_input();
     for _ in 0..u64::MAX {
-        let l = next(reader, i, chunk, line);
+        let l = find(reader, i, chunk, line);
         let Some(n) = l.line else {
             return has_failed(l.input);
         };

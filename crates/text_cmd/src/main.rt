@@ -8,6 +8,8 @@ mod kept;
 mod request;
 mod session;
 
+ghost use Rattle.std.specs.Prelude.{◌≡◌, ◌-◌, ◌≤◌, ◌<◌, Some, ℕ};
+
 use crate::kept::MAX_CAPACITY;
 use crate::session::Session;
 use input::{Input, Lines};
@@ -17,15 +19,18 @@ use std::io::Read;
 fn next(
     reader: &mut impl Read,
     s: Session,
-    i: Input,
+    l: Lines,
     chunk: &mut [u8],
     line: &mut [u8],
     text: &mut [u8],
-) -> Lines {
+) -> Lines
+    ensures fewer { result.left ≤ l.left - 1 }
+    ensures at_hand { (n : ℕ) → result.line ≡ Some n → 0 < result.left }
+{
     if session::takes_text(s) {
-        input::next(reader, i, chunk, text)
+        input::next(reader, l, chunk, text)
     } else {
-        input::next(reader, i, chunk, line)
+        input::next(reader, l, chunk, line)
     }
 }
 
@@ -44,8 +49,7 @@ fn take(
 }
 
 // Answers the requests of the input, which is read into the chunk. The line at hand is in the second buffer, or in the third if it is a line of
-// text; the fourth keeps the table, and the last has the text that is written. A proved loop has to end, and nothing says that the input does, so
-// lines are counted, up to a number that no run uses up.
+// text; the fourth keeps the table, and the last has the text that is written.
 fn run(
     rt: &(impl Print + Eprint),
     reader: &mut impl Read,
@@ -56,14 +60,13 @@ fn run(
     out: &mut [u8],
 ) {
     let mut session = session::start();
-    let mut input = input::start();
-    for _ in 0..u64::MAX {
-        let lines = next(reader, session, input, chunk, line, text);
-        input = lines.input;
-        let Some(length) = lines.line else { break };
+    let mut lines = next(reader, session, input::start(), chunk, line, text);
+    while let Some(length) = lines.line {
         session = take(rt, session, length, line, text, table, out);
+        lines = next(reader, session, lines, chunk, line, text);
     }
-    session::finish(rt, session, matches!(input, Input::Failed), table, out);
+    let failed = matches!(lines.input, Input::Failed);
+    session::finish(rt, session, failed, table, out);
 }
 
 fn main(rt: HostRuntime) {

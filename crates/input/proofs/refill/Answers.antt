@@ -1,12 +1,10 @@
-use Rattle.std.proofs.Common.{arith}
-use Rattle.input.proofs.InputLaws.{read_failed, read_none, read_some}
+use Rattle.std.proofs.Common.{◌≡◌, None, Some, arith}
 use Rattle.input.proofs.refill.Goals as goal
 
-pub returns-in-Ok-eq0 : goal.returns-in-Ok-eq0
-returns-in-Ok-eq0 g c = read_none c.args.partial _ c.last.ensures
-
 pub returns-in-Ok : goal.returns-in-Ok
-returns-in-Ok g c = let b = c.in-Ok.ensures.bound in read_some c.args.partial _ c.in-Ok.filled (omega (arith, c.read.auto.buf)) c.in-Ok.filled-test.1
+returns-in-Ok g c =
+    let b = c.in-Ok.ensures.bound in
+    record { count = Some c.in-Ok.n; within = λ m f. let z : c.in-Ok.n ≡ m = cc in omega (arith, c.read.auto.buf); turn_is = c.after_read.ensures }
 
 pub returns-in-Err : goal.returns-in-Err
-returns-in-Err g c = read_failed c.args.partial _ c.last-in-Err.ensures
+returns-in-Err g c = record { count = None; within = λ m f. cc; turn_is = c.after_read-in-Err.ensures }
