@@ -1,6 +1,6 @@
 -- What a valid request has.
 use mathlib.Core.Bool.{Bool, true, ◌&&◌}
-use mathlib.Core.Path.{◌≡◌, ◌∙◌}
+use mathlib.Core.Path.{◌≡◌, refl, ◌∙◌}
 use Rattle.std.specs.Prelude.{Result}
 use native.Mathlib.Omega.{arith}
 use Rattle.std.proofs.lemmas.Grind.{common_steps}
@@ -51,3 +51,8 @@ unfolding credentials_valid
 credentials_read c e h =
     test_read (λ b. b) (Range.valid_of c.range && Label.valid_of c.label) (Range.contains_of c.range c.label) 22 e h
     ∙ and_implied _ _ _ (contains_valid c.range c.label)
+
+-- what `range::valid` and the method `holds` of a range answer, which asks nothing of the label, is whether the credentials are valid
+pub credentials_held : (c : Credentials) {v h : Bool} → v ≡ Range.valid_of c.range → h ≡ Range.contains_of c.range c.label → (v && h) ≡ credentials_valid c
+unfolding credentials_valid
+credentials_held c e f = rw (e, f) refl

@@ -94,7 +94,7 @@ struct Met {
 
 impl Credentials {
     // Whether the label is inside the range, which is valid.
-    #[tactic(auto, unfolding(crate::specs::Monitor::credentials_valid))]
+    #[tactic(auto, using(crate::proofs::ValidLaws::credentials_held))]
     fn valid(&self) -> bool
         ensures { result ≡ credentials_valid self.now }
     {
