@@ -4,7 +4,7 @@ use mathlib.Core.List.{List, [], ◌∷◌, ◌++◌, append_assoc, append-nil}
 use Rattle.std.specs.Prelude.{Option, None, Some}
 use Rattle.std.specs.List.{slice_split}
 use mathlib.Core.Path.{◌≡◌, refl, sym, ap, ◌∙◌}
-use Prim.Native.Nat.{ℕ, suc, ◌+◌, ◌-◌, ◌≤◌, ◌<◌}
+use Prim.Native.Nat.{ℕ, zero, suc, ◌+◌, ◌-◌, ◌≤◌, ◌<◌}
 use native.Mathlib.Numerals.{add-one}
 use native.Mathlib.Omega.{arith}
 use lib.Dec.{eqb, leb}
@@ -47,9 +47,25 @@ others (f ∷ fs) = refl
 abbrev pub command_from : ℕ → List ℕ → List (List ℕ) → Option Command
 command_from w ns fs = of_numbers w (after ns (numbers_of fs))
 
-pub body_start : (body : List ℕ) → body_command_of body ≡ command_from (index_of blank body) [] (fields_of body)
+-- from the first b on a list begins with b, if it has any
+index_there : (b : ℕ) (xs : List ℕ) → index_of b (drop (index_of b xs) xs) ≡ 0
+unfolding index_of
+index_there b [] = refl
+index_there b (x ∷ xs) = pick (eqb x b) refl (index_there b xs)
+  where
+    pick : (t : Bool) → eqb x b ≡ t → index_of b (drop (index_of b xs) xs) ≡ 0 → index_of b (drop (cond t zero (suc (index_of b xs))) (x ∷ xs)) ≡ 0
+    pick true e i = rw e refl
+    pick false e i = i
+
+-- the fields behind the word are those of the bytes from its end on
+rest_fields : (body : List ℕ) → fields_of (drop (index_of blank body) body) ≡ fields_of body
+rest_fields body =
+    let rest = drop (index_of blank body) body in
+    rw (split_is blank rest, split_is blank body, split_first blank rest, split_first blank body, index_there blank body) refl
+
+pub body_start : (body : List ℕ) → body_command_of body ≡ command_from (index_of blank body) [] (fields_of (drop (index_of blank body) body))
 unfolding body_command_of
-body_start body = rw (others (split blank body), ← split_is blank body, after_nil)
+body_start body = rw (rest_fields body, others (split blank body), ← split_is blank body, after_nil)
 
 -- the zeros past the count after one more number
 pub zeros_next : (numbers : List ℕ) (count n : ℕ) → count < most → drop count numbers ≡ replicate (most - count) 0 → drop (count + 1) (set numbers count n) ≡ replicate (most - (count + 1)) 0

@@ -49,7 +49,8 @@ fn parse_body(body: &[u8]) -> Option<Command>
     let word = octets::index_of(BLANK, body);
     let mut count = 0;
     let mut numbers = [0u64; MAX_NUMBERS];
-    for field in body.split(|b| *b == BLANK).skip(1) {
+    // From the word's end on, what `split` gives first is nothing.
+    for field in octets::rest(body, word).split(|b| *b == BLANK).skip(1) {
         if count == MAX_NUMBERS {
             return None;
         }

@@ -1,6 +1,6 @@
 -- What `split` yields behind the word are the fields (`fields_of`): the one at hand is the field that the count says (`YieldsList-turn`), and at the
 -- end all were yielded (`YieldsList-end`).
-use Rattle.std.proofs.Common.{rules, tests, eqb, refl, sym, ap, ◌∙◌, arith, length-set, length-append, ℕ, ◌+◌, [], ◌∷◌, length, ◌<◌}
+use Rattle.std.proofs.Common.{rules, tests, eqb, refl, sym, ap, ◌∙◌, arith, length-set, length-append, drop, ℕ, ◌+◌, [], ◌∷◌, length, ◌<◌}
 use Rattle.std.proofs.lemmas.Iterator.Adapters.{YieldsList-from_skip}
 use Rattle.std.proofs.lemmas.Iterator.Consumers.{YieldsList-end, YieldsList-turn}
 use Rattle.std.proofs.lemmas.Iterator.Splits.{YieldsList-from_slice_split}
@@ -14,7 +14,8 @@ loop-field-init c =
 
 pub returns-then-count-eq-MAX_NUMBERS : goal.returns-then-count-eq-MAX_NUMBERS
 returns-then-count-eq-MAX_NUMBERS c =
-    let body = c.args.body.now in
+    let body = drop c.index_of-word.result c.args.body.now in
+    let r = c.rest.ensures in
     let l = c.loop-field in
     let i = l.invariant in
     let turn =
@@ -25,7 +26,8 @@ returns-then-count-eq-MAX_NUMBERS c =
 
 pub returns-in_err-numbers : goal.returns-in_err-numbers
 returns-in_err-numbers c =
-    let body = c.args.body.now in
+    let body = drop c.index_of-word.result c.args.body.now in
+    let r = c.rest.ensures in
     let l = c.loop-field in
     let i = l.invariant in
     let turn =
@@ -36,7 +38,8 @@ returns-in_err-numbers c =
 
 pub loop-field-preserved : goal.loop-field-preserved
 loop-field-preserved c =
-    let body = c.args.body.now in
+    let body = drop c.index_of-word.result c.args.body.now in
+    let r = c.rest.ensures in
     let l = c.loop-field in
     let i = l.invariant in
     let turn =
@@ -56,7 +59,8 @@ loop-field-preserved c =
 
 pub returns : goal.returns
 returns c =
-    let body = c.args.body.now in
+    let body = drop c.index_of-word.result c.args.body.now in
+    let r = c.rest.ensures in
     let l = c.loop-field in
     let i = l.invariant in
     let end =

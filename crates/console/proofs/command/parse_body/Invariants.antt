@@ -11,5 +11,5 @@ invariant-loop-field l =
       within : l.count ≤ most;
       long : length l.numbers ≡ most;
       zeros : drop l.count l.numbers ≡ replicate (most - l.count) 0;
-      so_far : body_command_of l.body ≡ command_from l.word (take l.count l.numbers) (drop l.count (fields_of l.body));
+      so_far : body_command_of l.body ≡ command_from l.word (take l.count l.numbers) (drop l.count (fields_of (drop l.word l.body)));
     }
