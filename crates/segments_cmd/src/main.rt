@@ -14,7 +14,7 @@ fn main(rt: HostRuntime) {
     let mut line = [0u8; 512];
     let mut session = session::start();
     let failed = input::for_each_line(&mut reader, &mut chunk, &mut line, |line| {
-        session = session::take_line(&rt, session, line);
+        session::take_line(&rt, &mut session, line);
     });
-    session::finish(&rt, session, failed);
+    session::finish(&rt, &mut session, failed);
 }
