@@ -29,7 +29,7 @@ use Rattle.alias_entry.specs.declared.bytes.Layout.{Layout}
 use Rattle.alias_entry.specs.declared.bytes.Span.{Span}
 use Rattle.alias_entry.proofs.EntryLaws.{text_byte_lem}
 use Rattle.hexline.proofs.LineLaws.{by_contents, no_body}
-use Rattle.hexline.specs.Internal.Contents.{entry_form_fits, entry_form_parts}
+use Rattle.hexline.specs.Internal.Contents.{entry_form_fits, entry_form_parts, entry_form_within}
 use Rattle.hexline.proofs.StandingLaws.{text_stands}
 
 pub every_more : (f : ℕ → Bool) (i : ℕ) → every f (i + 1) ≡ (every f i && f i)
@@ -98,6 +98,18 @@ text_judged most bs i n h room =
 abbreviation_at : (w : ℕ) (bs : List ℕ) (i : ℕ) → (layout_of w bs i).abbreviation.at ≡ past (layout_of w bs i).name + 1
 unfolding layout_of
 abbreviation_at w bs i = refl
+
+-- a body of the form of an entry's, of any kind and with sets of any number of words, has room in a buffer for it
+pub form_room : (kind w : ℕ) (bs : List ℕ) → entry_form kind w bs ≡ true → length bs ≤ 1 + entry_size w
+form_room kind w bs e = (entry_form_within kind w bs e).1
+
+-- of no bytes nothing is read
+pub no_entry : (kind w : ℕ) → entry_form kind w [] ≡ false
+no_entry kind w = go (entry_form kind w []) refl
+  where
+    go : (b : Bool) → entry_form kind w [] ≡ b → b ≡ false
+    go true e = let h : 1 ≤ length {A = ℕ} [] = (entry_form_within kind w [] e).0 in absurd (omega arith)
+    go false e = refl
 
 -- the parts of the entry lie in the body
 pub form_parts : (kind w : ℕ) (bs : List ℕ) {p : Layout} → p ≡ layout_of w bs 1 → entry_form kind w bs ≡ true

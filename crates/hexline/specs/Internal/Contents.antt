@@ -93,12 +93,16 @@ value_most w class = go (eqb class 3)
     go true = omega arith
     go false = omega arith
 
-pub entry_form_fits : (bs : List ℕ) → entry_form 4 line_words bs ≡ true → Fits (1 + entry_size line_words) bs
+-- of any kind, and with sets of any number of words
+pub entry_form_within : (kind w : ℕ) (bs : List ℕ) → entry_form kind w bs ≡ true → Fits (1 + entry_size w) bs
 unfolding layout_of
-entry_form_fits bs e =
-    let f = entry_form_parts 4 line_words bs e in
-    let v = value_most line_words (byte_at bs 1) in
+entry_form_within kind w bs e =
+    let f = entry_form_parts kind w bs e in
+    let v = value_most w (byte_at bs 1) in
     let name = f.name in
     let abbreviation = f.abbreviation in
     let size = f.size in
     (omega arith, omega arith)
+
+pub entry_form_fits : (bs : List ℕ) → entry_form 4 line_words bs ≡ true → Fits (1 + entry_size line_words) bs
+entry_form_fits bs e = entry_form_within 4 line_words bs e
