@@ -16,6 +16,10 @@ use Rattle.octets.proofs.ByteLaws.{index_le, split_first, split_is}
 use Rattle.console.specs.Command.{body_command_of, before_lf, command_of, cons_of, ended_of, most, field_number, numbers_of, of_numbers, with_numbers, command_word}
 use Rattle.console.specs.declared.command.Command.{Command}
 
+-- what stands before a first index has as many bytes
+pub before_found : (b : ℕ) (xs : List ℕ) (r : ℕ) → FirstIndex b xs r → r ≡ length (take r xs)
+before_found b xs r f = sym (length-take-le r xs f.within)
+
 -- the numbers ns before others, if there are others
 abbrev pub after : List ℕ → Option (List ℕ) → Option (List ℕ)
 after ns None = None

@@ -23,7 +23,7 @@ use Rattle.frame.proofs.FrameLoops.{sound_short}
 use Rattle.octets.specs.Bytes.{Appended, put_at}
 use Rattle.octets.proofs.ByteLaws.{appended_put}
 use Rattle.label_codec.specs.Body.{byte_at, line_words}
-use Rattle.hexline.specs.Internal.Contents.{Fits}
+use Rattle.hexline.specs.Internal.Contents.{Fits, form_length}
 use Rattle.hexline.specs.Line.{contents_of, body_form, kind_in, kind_numbered, line_kind_of, line_of, longest_body}
 
 -- ---- how a reader of a body ends
@@ -44,6 +44,10 @@ module _ {A : Type 0} (form : List ℕ → Bool) (contents : List ℕ → A) (va
   pub body_tested : {x : A} {r : Answer A} → form bs ≡ true → x ≡ contents bs → r ≡ require (valid x) 22 (granted x) → r ≡ contents_of form contents valid bs
   unfolding contents_of
   body_tested f e h = h ∙ rw (f, e)
+
+-- a form of one byte or more is no form of no bytes
+pub form_empty : (n kind : ℕ) → body_form [] (1 + n) kind ≡ false
+form_empty n kind = not_so (body_form [] (1 + n) kind) (λ e. absurd (omega (arith, form_length [] (1 + n) kind e)))
 
 -- a line is read by its body, decoded in a buffer that has room for all bodies of which something is read
 module _ {A : Type 0} (read : List ℕ → Answer A) (line : List ℕ) (room : ℕ) where

@@ -3,7 +3,7 @@
 use mathlib.Core.Bool.{true}
 use mathlib.Core.List.{List}
 use mathlib.Core.Path.{◌≡◌, sym, ◌∙◌}
-use Prim.Native.Nat.{ℕ, ◌+◌, ◌<◌, min}
+use Prim.Native.Nat.{ℕ, ◌+◌, ◌≤◌, ◌<◌, min}
 use native.Mathlib.Omega.{arith}
 use lib.ListN.{get_or, length, take, length-take}
 use lib.Seq.{ext_get_or, get_or-take}
@@ -75,6 +75,9 @@ unfolding standing_in abbreviation_in entry_from
 abbreviation_stands line = text_stands abbreviation_size (body_of line) (layout_of line_words (body_of line) 1).abbreviation
 
 -- ---- in any line, what stands there has what its type says
+
+pub name_length : (e : Entry) → TypedEntry e → length (name_bytes e) ≤ name_size
+name_length e t = let n = t.name_has_size in let l = length-take e.name.length e.name.bytes in omega arith
 
 pub standing_typed : (line : List ℕ) → TypedEntry (standing_in line)
 unfolding standing_in entry_from text_from

@@ -1,6 +1,6 @@
 -- What a valid request has.
-use mathlib.Core.Bool.{Bool, true, ◌&&◌}
-use mathlib.Core.Path.{◌≡◌, refl, ◌∙◌}
+use mathlib.Core.Bool.{Bool, true, false, ◌&&◌, true≢false}
+use mathlib.Core.Path.{◌≡◌, refl, sym, ◌∙◌}
 use Rattle.std.specs.Prelude.{Result}
 use native.Mathlib.Omega.{arith}
 use Rattle.std.proofs.lemmas.Grind.{common_steps}
@@ -8,12 +8,15 @@ use Rattle.common.specs.Answer.{answer_of, granted, require}
 use Rattle.common.specs.declared.errno.Errno.{Errno}
 use Rattle.label.specs.Caller.{caller_valid}
 use Rattle.label.specs.Label
+use Rattle.label.specs.declared.Label.{Label}
 use Rattle.range.specs.Range
+use Rattle.range.specs.Tuple
 use Rattle.common.proofs.AnswerLaws.{read_by, test_read}
-use Rattle.common.proofs.BoolLaws.{and_implied, first_true, second_true}
+use Rattle.common.proofs.BoolLaws.{and_implied, both, first_true, not_so, second_true, three_true}
 use Rattle.range.proofs.RangeLaws.{contains_valid}
-use Rattle.monitor.specs.Monitor.{attribute_valid, credentials_valid, intents_valid, kind_valid, object_valid, valid_of}
+use Rattle.monitor.specs.Monitor.{attribute_valid, credentials_valid, implies, intents_valid, kind_valid, label_or_tuple, label_valid, object_valid, tuple_valid, valid_of}
 use Rattle.monitor.specs.declared.Credentials.{Credentials}
+use Rattle.monitor.specs.declared.Object.{Object}
 use Rattle.monitor.specs.declared.Request.{Request}
 
 pub record Valid (r : Request) : Type 0 where
@@ -56,3 +59,28 @@ credentials_read c e h =
 pub credentials_held : (c : Credentials) {v h : Bool} → v ≡ Range.valid_of c.range → h ≡ Range.contains_of c.range c.label → (v && h) ≡ credentials_valid c
 unfolding credentials_valid
 credentials_held c e f = rw (e, f) refl
+
+-- ---- the object's tuple, and the subject's label beside it
+
+pub tuple_valid_lem : (o : Object) → object_valid o ≡ true → tuple_valid o ≡ true
+unfolding object_valid
+tuple_valid_lem o e = (three_true (label_or_tuple o) (label_valid o) _ e).2
+
+implies_both : (p q s : Bool) → implies p q ≡ true → s ≡ true → implies p (q && s) ≡ true
+implies_both true q s e f = both e f
+implies_both false q s e f = refl
+
+pub implies_first : (p q s : Bool) → implies p (q && s) ≡ true → implies p q ≡ true
+implies_first true q s e = first_true q s e
+implies_first false q s e = refl
+
+-- what is tested of the two
+abbrev pub tested : Label → Object → Bool
+tested subject o = implies o.present.tuple (Tuple.valid_of o.tuple && Label.valid_of subject)
+
+-- a request whose tuple is there is invalid, if the tuple or the subject's label is
+pub tuple_refused : (r : Request) → tested r.credentials.label r.object ≡ false → valid_of r ≡ false
+tuple_refused r e =
+    not_so (valid_of r) (λ h.
+    let v = valid_parts r h in
+    true≢false (sym (implies_both r.object.present.tuple _ _ (tuple_valid_lem r.object v.object) (subject_valid r.credentials v.credentials)) ∙ e))
