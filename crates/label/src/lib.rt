@@ -1,5 +1,6 @@
 // Labels for mandatory access control: a hierarchy number and a set of categories. Each function tests the labels that it is handed and
-// refuses an invalid one with 22; only `valid` answers a bare yes or no.
+// refuses an invalid one with 22; only `valid` answers a bare yes or no. The methods of a label are for labels that were tested: they test nothing, and
+// answer what their definitions say of any numbers.
 #![tactic(auto)]
 
 pub mod caller;

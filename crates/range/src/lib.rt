@@ -1,5 +1,6 @@
 // Ranges of labels, and in `tuple` a range for each region. Each function tests what it is handed and refuses an invalid label, range or
-// tuple with 22 before its other checks; only the two functions `valid` answer a bare yes or no.
+// tuple with 22 before its other checks; only the two functions `valid` answer a bare yes or no. The methods are for what was tested: but for `is_valid`,
+// which is the test, they test nothing, and answer what their definitions say of any numbers.
 #![tactic(auto)]
 
 pub mod tuple;
@@ -55,7 +56,10 @@ impl Range {
 pub fn zero() -> Range
     ensures { result ≡ zero_range }
 {
-    Range::default()
+    Range {
+        low: label::zero(),
+        high: label::zero(),
+    }
 }
 
 #[tactic(auto, unfolding(crate::specs::Range::valid_of))]

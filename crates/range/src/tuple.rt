@@ -131,7 +131,10 @@ impl Tuple {
 pub fn no_range() -> RegionRange
     ensures { result ≡ absent }
 {
-    RegionRange::default()
+    RegionRange {
+        present: 0,
+        range: crate::zero(),
+    }
 }
 
 // The tuple that has no range.
