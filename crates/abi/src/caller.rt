@@ -3,7 +3,6 @@ ghost use Rattle.std.specs.Prelude.{◌≡◌};
 ghost use Rattle.common.specs.Answer.{answer_of, granted, require};
 ghost use Rattle.abi.specs.Caller.{caller_formed, caller_of};
 
-use crate::flag;
 use common::errno::Errno;
 use label::Label;
 use label::caller::Caller;
@@ -13,6 +12,15 @@ use label::caller::Caller;
 pub struct CCaller {
     pub label: Label,
     pub read_override: u64,
+}
+
+impl CCaller {
+    // Whether the flag is one that there is.
+    pub fn formed(&self) -> bool
+        ensures { result ≡ caller_formed self.now }
+    {
+        self.read_override <= 1
+    }
 }
 
 // The caller of any numbers, where what is no flag counts as 0: for what was tested. The conversion refuses it.
@@ -31,9 +39,9 @@ impl TryFrom<CCaller> for Caller {
     ghost try_from_gives = { λ c r. answer_of r ≡ require (caller_formed c) 22 (granted (caller_of c)) };
 
     fn try_from(c: CCaller) -> Result<Caller, Errno> {
-        Ok(Caller {
-            label: c.label,
-            read_override: flag::decode(c.read_override)?,
-        })
+        if !c.formed() {
+            return Err(Errno::Invalid);
+        }
+        Ok(decode(c))
     }
 }

@@ -3,7 +3,6 @@ ghost use Rattle.std.specs.Prelude.{◌≡◌};
 ghost use Rattle.common.specs.Answer.{answer_of, granted, require};
 ghost use Rattle.abi.specs.Request.{credentials_formed, credentials_of, object_formed, object_of};
 
-use crate::flag;
 use common::errno::Errno;
 use label::Label;
 use monitor::numbers::ObjectType;
@@ -31,6 +30,26 @@ pub struct CObject {
     pub has_tuple: u64,
     pub label: Label,
     pub tuple: Tuple,
+}
+
+impl CCredentials {
+    // Whether the flags are some that there are.
+    pub fn formed(&self) -> bool
+        ensures { result ≡ credentials_formed self.now }
+    {
+        (self.read_override <= 1) & (self.write_override <= 1) & (self.relabel <= 1)
+    }
+}
+
+impl CObject {
+    // Whether the class, the kind of a file, and the flags are some that there are.
+    pub fn formed(&self) -> bool
+        ensures { result ≡ object_formed self.now }
+    {
+        numbers::type_of(self.class, self.kind).is_some()
+            & (self.has_label <= 1)
+            & (self.has_tuple <= 1)
+    }
 }
 
 // The credentials of any numbers, where what is no flag counts as 0: for what was tested. The conversion refuses them.
@@ -75,16 +94,10 @@ impl TryFrom<CCredentials> for Credentials {
     ghost try_from_gives = { λ c r. answer_of r ≡ require (credentials_formed c) 22 (granted (credentials_of c)) };
 
     fn try_from(c: CCredentials) -> Result<Credentials, Errno> {
-        let privileges = Privileges {
-            read: flag::decode(c.read_override)?,
-            write: flag::decode(c.write_override)?,
-            relabel: flag::decode(c.relabel)?,
-        };
-        Ok(Credentials {
-            label: c.label,
-            range: c.range,
-            privileges,
-        })
+        if !c.formed() {
+            return Err(Errno::Invalid);
+        }
+        Ok(decode_credentials(c))
     }
 }
 
@@ -94,17 +107,9 @@ impl TryFrom<CObject> for Object {
     ghost try_from_gives = { λ o r. answer_of r ≡ require (object_formed o) 22 (granted (object_of o)) };
 
     fn try_from(o: CObject) -> Result<Object, Errno> {
-        let kind_of_object = numbers::type_of(o.class, o.kind).ok_or(Errno::Invalid)?;
-        let present = Presence {
-            label: flag::decode(o.has_label)?,
-            tuple: flag::decode(o.has_tuple)?,
-        };
-        Ok(Object {
-            class: kind_of_object.class,
-            kind: kind_of_object.kind,
-            present,
-            label: o.label,
-            tuple: o.tuple,
-        })
+        if !o.formed() {
+            return Err(Errno::Invalid);
+        }
+        Ok(decode_object(o))
     }
 }

@@ -33,7 +33,7 @@ use Rattle.label_codec.proofs.BodyLaws.{Holds, Within, bytes_tabulate, label_bac
 -- ---- a loop over all bytes
 
 -- one that goes on where a test fails
-folded_all : (p : ℕ → Bool) (b : Bool) (xs : List ℕ) → fold (λ (t : Bool) (x : ℕ). t && p x) b xs ≡ (b && list_all p xs)
+pub folded_all : {X : Type 0} (p : X → Bool) (b : Bool) (xs : List X) → fold (λ (t : Bool) (x : X). t && p x) b xs ≡ (b && list_all p xs)
 folded_all p true [] = refl
 folded_all p false [] = refl
 folded_all p true (x ∷ xs) = folded_all p (p x) xs

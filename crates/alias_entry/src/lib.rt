@@ -118,13 +118,14 @@ fn name_byte_ok(n: usize, i: usize, c: u8) -> bool
     if i < n { is_name_byte(c) } else { c == 0 }
 }
 
+// Whether each byte may stand where it does. A fold has no early exit, so that it can take several bytes at a time.
 fn all_name_bytes(bytes: &[u8], n: usize) -> bool
     ensures { result ≡ every (name_byte_at bytes.now n) (length bytes.now) }
 {
     bytes
         .iter()
         .enumerate()
-        .all(|(i, c)| name_byte_ok(n, i, *c))
+        .fold(true, |good, (i, c)| good & name_byte_ok(n, i, *c))
 }
 
 // Whether the first n bytes are a name or nothing, and the rest are zeros, of which there is one at least.
@@ -145,7 +146,7 @@ pub fn valid(e: Entry) -> bool
         & is_name(&e.abbreviation.bytes, e.abbreviation.length)
 }
 
-// Whether all bytes are name bytes. A fold has no early exit, so that it can take several bytes at a time.
+// Whether all bytes are name bytes, by a fold too.
 fn all_of_name(text: &[u8]) -> bool
     ensures { result ≡ every (λ k. is_name_byte (byte_at text.now k)) (length text.now) }
 {

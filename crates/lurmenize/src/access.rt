@@ -6,13 +6,12 @@ ghost use Rattle.abi.specs.Answer.{number_answer};
 ghost use Rattle.abi.specs.Caller.{caller_formed};
 ghost use Rattle.abi.specs.Request.{credentials_formed, object_formed, monitor_request};
 
-use abi::answer;
 use abi::answer::CAnswer;
 use abi::caller::CCaller;
 use abi::request::{CCredentials, CObject};
+use abi::{answer, caller, request};
 use common::errno::Errno;
-use label::caller::Caller;
-use monitor::{Credentials, Grant, Object, Request};
+use monitor::{Grant, Request};
 
 #[unsafe(no_mangle)]
 pub extern "C" fn lurm_check(
@@ -36,14 +35,16 @@ fn check(
 ) -> Result<Grant, Errno>
     ensures { decision_of result ≡ require (caller_formed caller && credentials_formed credentials && object_formed object) 22 (decision_for (monitor_request caller credentials object intents attribute)) }
 {
-    let caller = Caller::try_from(caller)?;
-    let credentials = Credentials::try_from(credentials)?;
-    let object = Object::try_from(object)?;
+    // Not by the conversions and `?`, which copy the object: a check took a quarter longer so. The object is decoded first, since what stands before it is
+    // copied once more.
+    if !(caller.formed() & credentials.formed() & object.formed()) {
+        return Err(Errno::Invalid);
+    }
     monitor::check(Request {
-        credentials,
-        object,
+        object: request::decode_object(object),
+        credentials: request::decode_credentials(credentials),
         intents,
         attribute,
-        caller,
+        caller: caller::decode(caller),
     })
 }
